@@ -1,0 +1,14 @@
+-- The words of a reply that name a value or a list.
+use Rattle.std.specs.Prelude.{ℕ, List, codes}
+use Rattle.nvt_config.specs.declared.fault.Value.{Value}
+use Rattle.nvt_config.specs.declared.fault.Value.TheVariants as value
+use Rattle.nvt_config.specs.declared.fault.Entry.{Entry}
+use Rattle.nvt_config.specs.declared.fault.Entry.TheVariants as entry
+
+abbrev pub word_of_value : Value → List ℕ
+word_of_value value.Port = codes "Port"
+word_of_value value.Address = codes "Address"
+word_of_value value.Service = codes "Service"
+
+abbrev pub word_of_entry : Entry → List ℕ
+word_of_entry entry.Port = codes "Port"

@@ -1,0 +1,4 @@
+pub mod Accept
+pub mod Configuration
+pub mod Fault
+pub mod Port

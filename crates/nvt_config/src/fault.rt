@@ -1,0 +1,68 @@
+//! Why there is no new configuration.
+ghost use Rattle.std.specs.Prelude.{Some};
+ghost use Rattle.nvt_config.specs.Fault.{word_of_entry, word_of_value};
+
+use std::fmt;
+use thiserror::Error;
+
+/// Why disks make no configuration, in the order of the answers.
+#[derive(Clone, Copy, Debug, PartialEq, Eq, Error)]
+pub enum NewFault {
+    #[error("more than 256 disks, or a disk of more than 2^40 units")]
+    Disks,
+    #[error("memory")]
+    Memory,
+}
+
+/// Why an edit is refused, in the order of the answers. Its text is the reply to the edit.
+#[derive(Clone, Copy, Debug, PartialEq, Eq, Error)]
+pub enum EditFault {
+    /// This value of the edit is out of its range.
+    #[error("refused BadValue {0}")]
+    BadValue(Value),
+    /// The list has an entry of that name already.
+    #[error("refused Exists {0}")]
+    Exists(Entry),
+    /// The list has as many entries as it may have.
+    #[error("refused Full {0}")]
+    Full(Entry),
+    /// No memory was there for the change.
+    #[error("memory")]
+    Memory,
+}
+
+/// A value of an edit.
+#[derive(Clone, Copy, Debug, PartialEq, Eq)]
+pub enum Value {
+    Port,
+    Address,
+    Service,
+}
+
+/// A list of the configuration, by what it holds.
+#[derive(Clone, Copy, Debug, PartialEq, Eq)]
+pub enum Entry {
+    Port,
+}
+
+impl fmt::Display for Value {
+    ghost output = { λ value. Some (word_of_value value) };
+
+    fn fmt<W: fmt::Write>(&self, f: &mut fmt::Formatter<W>) -> fmt::Result {
+        f.write_str(match self {
+            Value::Port => "Port",
+            Value::Address => "Address",
+            Value::Service => "Service",
+        })
+    }
+}
+
+impl fmt::Display for Entry {
+    ghost output = { λ entry. Some (word_of_entry entry) };
+
+    fn fmt<W: fmt::Write>(&self, f: &mut fmt::Formatter<W>) -> fmt::Result {
+        f.write_str(match self {
+            Entry::Port => "Port",
+        })
+    }
+}

@@ -1,0 +1,18 @@
+//! The configuration of a storage target: its disks, its lists, and the edits that change them. Each
+//! edit is answered by one rule, which says the new configuration or why there is none. It reads no
+//! text of an edit, opens no port and holds no disk.
+#![tactic(auto)]
+
+pub mod config;
+pub mod edit;
+pub mod fault;
+pub mod port;
+#[cfg(test)]
+mod tests;
+pub mod text;
+
+pub use config::Config;
+pub use edit::Edit;
+pub use fault::{EditFault, Entry, NewFault, Value};
+pub use port::{Family, Port};
+pub use text::Text;

@@ -1,0 +1,5 @@
+pub mod FatalErrorStatus
+pub mod Field
+pub mod Name
+pub mod PduType
+pub mod Status

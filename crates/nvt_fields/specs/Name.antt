@@ -1,0 +1,26 @@
+-- NVMe qualified names (Base 2.0, section 4.5), within this project's limits.
+use Rattle.std.specs.Prelude.{◌≡◌, ℕ, Bool, ◌==◌, ◌&&◌, nat_eq, nat_lt, nat_le, List, length, take, position, unwrap_or, codes, Option, Some, None, if◌then◌else◌}
+use Rattle.std.specs.List.{starts_with, list_all}
+use Rattle.nvt_fields.specs.declared.name.NqnFault.{NqnFault}
+use Rattle.nvt_fields.specs.declared.name.NqnFault.TheVariants.{TooLong, BadNqn}
+
+-- a byte of a name: printable, and no space
+abbrev pub is_name_byte : ℕ → Bool
+is_name_byte b = nat_le 0x21 b && nat_le b 0x7E
+
+-- five bytes or more that begin with `nqn.`, each printable
+abbrev pub is_name : List ℕ → Bool
+is_name text = nat_le 5 (length text) && (starts_with nat_eq text (codes "nqn.") && list_all is_name_byte text)
+
+-- why the text is no name, if it is none
+abbrev pub fault_of : List ℕ → Option NqnFault
+fault_of text =
+    if nat_lt 223 (length text) then Some TooLong else
+    if is_name text then None else Some BadNqn
+
+abbrev pub IsName : List ℕ → Type 0
+IsName text = fault_of text ≡ None
+
+-- a field's text: the bytes before its first zero byte, or all of them
+abbrev pub up_to_zero : List ℕ → List ℕ
+up_to_zero field = take (unwrap_or (position (λ b. b == 0) field) (length field)) field

@@ -1,0 +1,126 @@
+//! NVMe qualified names (Base 2.0, section 4.5).
+ghost use Rattle.std.specs.Prelude.{◌≡◌, IfOk, IsOkAnd, IsOkUnless, IfSome, MatchOption, codes, nat_eq, position, ◌==◌, ◌<◌, length};
+ghost use Rattle.std.specs.List.{list_all, starts_with};
+ghost use Rattle.nvt_fields.specs.Name.{fault_of, is_name, is_name_byte, up_to_zero};
+
+use std::alloc::{AllocError, Global};
+use std::marker::Model;
+use thiserror::Error;
+
+/// The longest name, in bytes.
+pub const NQN_MAX: usize = 223;
+
+/// The shortest name, in bytes: one byte after the prefix.
+pub const NQN_MIN: usize = 5;
+
+const PREFIX: &[u8; 4] = b"nqn.";
+
+/// Why a text is no name.
+#[derive(Clone, Copy, Debug, PartialEq, Eq, Error)]
+pub enum NqnFault {
+    #[error("the name has more than 223 bytes")]
+    TooLong,
+    #[error("the name is not `nqn.` and printable bytes after it")]
+    BadNqn,
+    #[error("memory")]
+    Memory,
+}
+
+/// A name of 5 to 223 bytes that begins with `nqn.`, each byte from 21h to 7Eh.
+#[derive(Debug, Drop)]
+pub struct Nqn {
+    bytes: Vec<u8>,
+}
+
+impl Model for Nqn {
+    ghost use Rattle.std.specs.Prelude.{◌≡◌, List, ℕ, None};
+    ghost use Rattle.nvt_fields.specs.Name.{IsName};
+
+    ghost Value = { List ℕ };
+
+    ghost view = { λ n. n.bytes.items };
+
+    ghost invariant = { λ n. IsName n.bytes.items };
+}
+
+impl Nqn {
+    /// The name that the text is.
+    pub fn read(alloc: Global, text: &[u8]) -> Result<Nqn, NqnFault>
+        ensures refused { MatchOption (fault_of text.now) (IsOkUnless result NqnFault.Memory) (λ fault. result ≡ Err fault) }
+        ensures same { IfOk result (λ name. name ≡ text.now) }
+    {
+        check(text)?;
+        match Vec::from_slice(alloc, text) {
+            Ok(bytes) => Ok(Nqn { bytes }),
+            Err(AllocError) => Err(NqnFault::Memory),
+        }
+    }
+
+    pub fn as_bytes(&self) -> &[u8]
+        ensures { result.now ≡ self.now }
+    {
+        &self.bytes
+    }
+}
+
+/// The name in a field of 256 bytes: those before its first zero byte. What follows the zero is not
+/// looked at.
+pub fn nqn_field(field: &[u8; 256]) -> Result<&[u8], NqnFault>
+    ensures { MatchOption (fault_of (up_to_zero field.now)) (IsOkAnd result (λ name. name.now ≡ up_to_zero field.now)) (λ fault. result ≡ Err fault) }
+{
+    let name = up_to_zero(field);
+    match check(name) {
+        Ok(()) => Ok(name),
+        Err(fault) => Err(fault),
+    }
+}
+
+fn check(text: &[u8]) -> Result<(), NqnFault>
+    ensures { MatchOption (fault_of text.now) (result ≡ Ok tt) (λ fault. result ≡ Err fault) }
+{
+    if text.len() > NQN_MAX {
+        return Err(NqnFault::TooLong);
+    }
+    if is_name(text) {
+        return Ok(());
+    }
+    Err(NqnFault::BadNqn)
+}
+
+fn up_to_zero(field: &[u8]) -> &[u8]
+    ensures { result.now ≡ up_to_zero field.now }
+{
+    let len = first_zero(field).unwrap_or(field.len());
+    &field[..len]
+}
+
+fn first_zero(field: &[u8]) -> Option<usize>
+    ensures value { result ≡ position (λ b. b == 0) field.now }
+    ensures bound { IfSome result (λ at. at < length field.now) }
+{
+    field.iter().position(|b| *b == 0)
+}
+
+fn is_name(text: &[u8]) -> bool
+    ensures { result ≡ is_name text.now }
+{
+    text.len() >= NQN_MIN && has_prefix(text) && are_name_bytes(text)
+}
+
+fn has_prefix(text: &[u8]) -> bool
+    ensures { result ≡ starts_with nat_eq text.now (codes "nqn.") }
+{
+    text.starts_with(PREFIX)
+}
+
+fn are_name_bytes(text: &[u8]) -> bool
+    ensures { result ≡ list_all is_name_byte text.now }
+{
+    text.iter().all(|b| is_name_byte(*b))
+}
+
+fn is_name_byte(b: u8) -> bool
+    ensures { result ≡ is_name_byte b }
+{
+    (0x21..=0x7E).contains(&b)
+}

@@ -1,0 +1,87 @@
+ghost use Rattle.std.specs.Prelude.{◌≡◌};
+
+/// The status of a completion (Base 2.0, section 3.3.3.2.1): a status code type, a status code, and
+/// whether the host should not retry the command.
+#[derive(Clone, Copy, Debug, PartialEq, Eq)]
+pub struct Status {
+    /// The status code type, below 8: 0 generic, 1 command specific, 2 media and data integrity, 3 path.
+    pub sct: u8,
+    pub sc: u8,
+    /// Do not retry.
+    pub dnr: bool,
+}
+
+impl Status {
+    ghost use Rattle.nvt_fields.specs.Status.{word_of};
+
+    pub const SUCCESS: Status = Status {
+        sct: 0,
+        sc: 0x00,
+        dnr: false,
+    };
+
+    pub const INVALID_OPCODE: Status = Status {
+        sct: 0,
+        sc: 0x01,
+        dnr: true,
+    };
+
+    pub const INVALID_FIELD: Status = Status {
+        sct: 0,
+        sc: 0x02,
+        dnr: true,
+    };
+
+    pub const COMMAND_SEQUENCE_ERROR: Status = Status {
+        sct: 0,
+        sc: 0x0C,
+        dnr: true,
+    };
+
+    pub const DATA_SGL_LENGTH_INVALID: Status = Status {
+        sct: 0,
+        sc: 0x0F,
+        dnr: true,
+    };
+
+    pub const SGL_TYPE_INVALID: Status = Status {
+        sct: 0,
+        sc: 0x11,
+        dnr: true,
+    };
+
+    pub const SGL_OFFSET_INVALID: Status = Status {
+        sct: 0,
+        sc: 0x16,
+        dnr: true,
+    };
+
+    pub const INVALID_LOG_PAGE: Status = Status {
+        sct: 1,
+        sc: 0x09,
+        dnr: true,
+    };
+
+    /// Connect: the record format is not one that the controller takes.
+    pub const INCOMPATIBLE_FORMAT: Status = Status {
+        sct: 1,
+        sc: 0x80,
+        dnr: true,
+    };
+
+    /// Connect: a parameter, named by the result, is invalid.
+    pub const CONNECT_INVALID_PARAMETERS: Status = Status {
+        sct: 1,
+        sc: 0x82,
+        dnr: true,
+    };
+
+    /// The last 16 bits of a completion: the code in 8:1, the low three bits of its type in 11:9, and
+    /// DNR in 15. The phase bit and the bits between are 0.
+    pub fn word(self) -> u16
+        ensures { result ≡ word_of self }
+    {
+        let retry = if self.dnr { 0x8000 } else { 0 };
+        u16::from(self.sc) * 2 + u16::from(self.sct % 8) * 0x200 + retry
+    }
+}

@@ -1,0 +1,121 @@
+//! The arguments of the program.
+
+use crate::replay::ReplayFault;
+use clap::error::ErrorKind;
+use clap::{Arg, Command, Error, value_parser};
+use std::alloc::{AllocError, Global};
+use std::env;
+use std::rt::Env;
+
+const DISKS_MAX: i64 = 256;
+
+const UNITS_MAX: i64 = 1_048_576;
+
+const EXAMPLE: &str = "Example:
+  printf 'port add 1 ipv4 127.0.0.1 4420\\n' > EDITS
+  printf 'open 1\\nend 0\\n' > STREAM
+  nvt_target replay EDITS STREAM --disks 1 --units 2048
+prints `0 open`.";
+
+/// What the arguments ask for.
+#[derive(Debug, Drop)]
+pub enum Usage {
+    Replay(Arguments),
+    /// The help, which was printed.
+    Help,
+    Bad,
+}
+
+/// The arguments of `replay`.
+#[derive(Debug, Drop)]
+pub struct Arguments {
+    /// The path of the file of edits.
+    pub edits: String,
+    /// The path of the script of connections.
+    pub stream: String,
+    pub disks: usize,
+    /// The size of each disk, in units of 512 bytes.
+    pub units: u64,
+}
+
+/// Reads the arguments of the process, and prints the help where they ask for it.
+pub fn read<R: Env + Print + AllocGlobal>(rt: &R) -> Result<Usage, ReplayFault> {
+    let alloc = rt.alloc();
+    let Ok(words) = env::args(rt) else {
+        return Ok(Usage::Bad);
+    };
+    let words: Vec<String> = words.collect(alloc)?;
+    let command = command(alloc)?;
+    match command.try_get_matches_from(words.as_slice()) {
+        Ok(matches) => {
+            let Some(replay) = matches.subcommand_matches("replay") else {
+                return Ok(Usage::Bad);
+            };
+            replay_usage(alloc, replay)
+        }
+        Err(error) => refused(rt, &error),
+    }
+}
+
+fn refused<R: Print>(rt: &R, error: &Error) -> Result<Usage, ReplayFault> {
+    match error.kind() {
+        ErrorKind::DisplayHelp => match rt.print(error) {
+            Ok(()) => Ok(Usage::Help),
+            Err(_) => Err(ReplayFault::Io),
+        },
+        ErrorKind::OutOfMemory => Err(ReplayFault::Memory),
+        _ => Ok(Usage::Bad),
+    }
+}
+
+fn replay_usage(alloc: Global, replay: &clap::ArgMatches<'_>) -> Result<Usage, ReplayFault> {
+    match (
+        replay.get_str("EDITS"),
+        replay.get_str("STREAM"),
+        replay.get_one::<u16>("disks"),
+        replay.get_one::<u64>("units"),
+    ) {
+        (Some(edits), Some(stream), Some(disks), Some(units)) => Ok(Usage::Replay(Arguments {
+            edits: String::from_str(alloc, edits)?,
+            stream: String::from_str(alloc, stream)?,
+            disks: usize::from(disks),
+            units,
+        })),
+        _ => Ok(Usage::Bad),
+    }
+}
+
+fn command<'a>(alloc: Global) -> Result<Command<'a>, AllocError> {
+    let replay = Command::new(alloc, "replay")
+        .about("Applies the lines of EDITS, runs those of STREAM, and prints what the target sends")
+        .after_help(EXAMPLE)
+        .arg(
+            Arg::new(alloc, "EDITS")
+                .required(true)
+                .help("A file of one edit a line"),
+        )?
+        .arg(
+            Arg::new(alloc, "STREAM")
+                .required(true)
+                .help("A file of lines `open PORT`, `rx K HEX` and `end K`"),
+        )?
+        .arg(
+            Arg::new(alloc, "disks")
+                .long("disks")
+                .value_parser(value_parser!(u16).range(1..=DISKS_MAX))
+                .default_value("4")
+                .help("How many disks the target has, 1 to 256"),
+        )?
+        .arg(
+            Arg::new(alloc, "units")
+                .long("units")
+                .value_parser(value_parser!(u64).range(1..=UNITS_MAX))
+                .default_value("2048")
+                .help("The size of each disk in units of 512 bytes, 1 to 1048576"),
+        )?;
+    Command::new(alloc, "nvt_target")
+        .about("A target of NVMe over TCP")
+        .after_help(EXAMPLE)
+        .subcommand_required(true)
+        .subcommand(replay)
+}

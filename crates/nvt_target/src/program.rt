@@ -1,0 +1,50 @@
+//! The command `replay`, from its files to the standard output.
+
+use crate::arguments::Arguments;
+use crate::print::written;
+use crate::replay::{ReplayFault, replay};
+use std::alloc::Global;
+use std::fs::File;
+use std::io::{self, BufWriter, ErrorKind, Read, Write};
+use std::rt::Files;
+
+const FILE_MAX: usize = 1 << 26;
+
+const OUTPUT_BUFFER: usize = 1 << 16;
+
+/// Runs `replay` over the files that the arguments name. What was printed before a fault stays.
+pub fn run<R: Files + Print + AllocGlobal>(
+    rt: &R,
+    arguments: &Arguments,
+) -> Result<(), ReplayFault> {
+    let alloc = rt.alloc();
+    let units = vec![in alloc; arguments.units; arguments.disks]?;
+    let edits = read_file(rt, alloc, arguments.edits.as_str())?;
+    let stream = read_file(rt, alloc, arguments.stream.as_str());
+    let mut out = match BufWriter::with_capacity(alloc, OUTPUT_BUFFER, io::writer(rt)) {
+        Ok(out) => out,
+        Err(_) => return Err(ReplayFault::Memory),
+    };
+    let result = match stream {
+        Ok(stream) => replay(alloc, &edits, &stream, &units, &mut out),
+        // A fault of the edits comes before the script's.
+        Err(fault) => match replay(alloc, &edits, &[], &units, &mut out) {
+            Ok(()) => Err(fault),
+            Err(first) => Err(first),
+        },
+    };
+    written(out.flush())?;
+    result
+}
+
+fn read_file<R: Files>(rt: &R, alloc: Global, path: &str) -> Result<Vec<u8>, ReplayFault> {
+    let mut bytes = Vec::new(alloc);
+    let Ok(file) = File::open(rt, path) else {
+        return Err(ReplayFault::Io);
+    };
+    match file.take(FILE_MAX as u64 + 1).read_to_end(&mut bytes) {
+        Ok(_) if bytes.len() <= FILE_MAX => Ok(bytes),
+        Err(error) if error.kind() == ErrorKind::OutOfMemory => Err(ReplayFault::Memory),
+        _ => Err(ReplayFault::Io),
+    }
+}

@@ -1,0 +1,11 @@
+-- What a writer leaves of the buffer that it appends to.
+use Rattle.std.specs.Prelude.{◌≡◌, ℕ, ◌+◌, ◌<◌, ◌≤◌, List, ◌++◌, length, Result, Ok, Err}
+use Rattle.bytes.specs.Filled.{Filled}
+use Rattle.pdu_codec.specs.declared.append.Full.{Full}
+
+-- The bytes stand at the end, in what was spare room. Only where that is too small is the buffer full,
+-- and as it was.
+abbrev pub AppendsOrFull : Filled → Filled → List ℕ → Result (Unit {0}) Full → Type 0
+AppendsOrFull old new bytes (Ok done) =
+    (length bytes ≤ old.spare) × (new.items ≡ old.items ++ bytes) × (new.spare + length bytes ≡ old.spare)
+AppendsOrFull old new bytes (Err full) = (old.spare < length bytes) × (new ≡ old)

@@ -1,0 +1,56 @@
+-- A submission queue entry (Base 2.0, section 3.3.3.1), and what the commands of this project read of it.
+use Rattle.std.specs.Prelude.{ℕ, ◌+◌, ◌*◌, ◌%◌, ◌^◌, nat_le, List, slice_index, slice_range}
+use Rattle.nvt_fields.specs.Field.{field_at}
+use Rattle.pdu_codec.specs.Sgl.{sgl_of}
+use Rattle.pdu_codec.specs.declared.sgl.Sgl.{Sgl}
+use Rattle.pdu_codec.specs.declared.command.Connect.{Connect}
+use Rattle.pdu_codec.specs.declared.command.Property.{Property}
+use Rattle.pdu_codec.specs.declared.command.GetLogPage.{GetLogPage}
+
+abbrev pub opcode_of : List ℕ → ℕ
+opcode_of entry = slice_index entry 0
+
+-- bits 1:0 of the flags: 0 where the command is not fused
+abbrev pub fuse_of : List ℕ → ℕ
+fuse_of entry = slice_index entry 1 % 4
+
+abbrev pub cid_of : List ℕ → ℕ
+cid_of entry = field_at 2 2 entry
+
+abbrev pub nsid_of : List ℕ → ℕ
+nsid_of entry = field_at 4 4 entry
+
+-- the Fabrics command type, where the opcode is 7Fh
+abbrev pub fctype_of : List ℕ → ℕ
+fctype_of entry = slice_index entry 4
+
+abbrev pub sgl1_of : List ℕ → Sgl
+sgl1_of entry = sgl_of (slice_range entry 24 40)
+
+-- Connect (Base 2.0, section 6.3)
+abbrev pub connect_of : List ℕ → Connect
+connect_of entry = record {
+  recfmt = field_at 2 40 entry;
+  qid = field_at 2 42 entry;
+  sqsize = field_at 2 44 entry;
+  cattr = slice_index entry 46;
+  kato = field_at 4 48 entry;
+}
+
+-- Property Get and Property Set (Base 2.0, sections 6.5 and 6.6)
+abbrev pub property_of : List ℕ → Property
+property_of entry = record {
+  attrib = slice_index entry 40;
+  ofst = field_at 4 44 entry;
+  value = field_at 8 48 entry;
+}
+
+-- Get Log Page (Base 2.0, section 5.16): NUMD, 0's based, in two halves
+abbrev pub get_log_page_of : List ℕ → GetLogPage
+get_log_page_of entry = record {
+  lid = slice_index entry 40;
+  lsp = slice_index entry 41 % 128;
+  rae = nat_le 128 (slice_index entry 41);
+  numd = field_at 2 42 entry + 2 ^ 16 * field_at 2 44 entry;
+  offset = field_at 8 48 entry;
+}

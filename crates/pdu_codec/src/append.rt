@@ -1,0 +1,64 @@
+ghost use Rattle.std.specs.Prelude.{◌≡◌, ◌++◌, ◌≤◌, Some, codes, replicate};
+ghost use Rattle.pdu_codec.specs.CommonHeader.{common_header};
+ghost use Rattle.pdu_codec.specs.Output.{AppendsOrFull};
+
+use bytes::BytesMut;
+use nvt_fields::PduType;
+use std::error::Error;
+use std::fmt;
+
+/// The buffer's spare room is too small for the PDU. The buffer is as it was.
+#[derive(Clone, Copy, Debug, PartialEq, Eq)]
+pub struct Full;
+
+impl fmt::Display for Full {
+    ghost output = { λ _. Some (codes "the PDU does not fit the buffer's spare room") };
+
+    fn fmt<W: fmt::Write>(&self, f: &mut fmt::Formatter<W>) -> fmt::Result {
+        f.write_str("the PDU does not fit the buffer's spare room")
+    }
+}
+
+impl Error for Full {}
+
+// The longest run of zeros: the reserved bytes of an ICResp.
+static ZEROS: [u8; 112] = [0; 112];
+
+/// The eight bytes that each PDU begins with.
+pub(crate) fn common_header(pdu_type: PduType, flags: u8, hlen: u8, pdo: u8, plen: u32) -> [u8; 8]
+    ensures { result ≡ common_header pdu_type flags hlen pdo plen }
+{
+    let plen = plen.to_le_bytes();
+    let code = pdu_type.code();
+    [code, flags, hlen, pdo, plen[0], plen[1], plen[2], plen[3]]
+}
+
+/// Appends a PDU in its parts: the common header, the fields after it, zeros, and what is lent.
+pub(crate) fn append(
+    out: &mut BytesMut,
+    header: &[u8; 8],
+    fields: &[u8],
+    zeros: usize,
+    tail: &[u8],
+) -> Result<(), Full>
+    requires { zeros ≤ 112 }
+    ensures { AppendsOrFull out.old out.new (header.now ++ fields.now ++ replicate zeros 0 ++ tail.now) result }
+{
+    let spare = out.capacity() - out.len();
+    let fixed = 8 + fields.len() + zeros;
+    if spare < fixed || spare - fixed < tail.len() {
+        return Err(Full);
+    }
+    out.extend_reserved(header);
+    out.extend_reserved(fields);
+    out.extend_reserved(zero_bytes(zeros));
+    out.extend_reserved(tail);
+    Ok(())
+}
+
+fn zero_bytes(count: usize) -> &'static [u8]
+    requires { count ≤ 112 }
+    ensures { result.now ≡ replicate count 0 }
+{
+    &ZEROS[..count]
+}

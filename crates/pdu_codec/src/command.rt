@@ -1,0 +1,97 @@
+//! What a submission queue entry says in the words of one command.
+ghost use Rattle.std.specs.Prelude.{◌≡◌};
+
+use crate::sqe::Sqe;
+use nvt_fields::{u16_at, u32_at, u64_at};
+
+/// Connect (Base 2.0, section 6.3).
+#[derive(Clone, Copy, Debug, PartialEq, Eq)]
+pub struct Connect {
+    /// Record format.
+    pub recfmt: u16,
+    /// Queue identifier, 0 for the admin queue.
+    pub qid: u16,
+    /// The size of the submission queue, 0's based.
+    pub sqsize: u16,
+    /// Connect attributes.
+    pub cattr: u8,
+    /// Keep alive timeout, in ms.
+    pub kato: u32,
+}
+
+impl Connect {
+    ghost use Rattle.pdu_codec.specs.Sqe.{connect_of};
+
+    pub fn read(sqe: &Sqe<'_>) -> Connect
+        ensures { result ≡ connect_of sqe.now.entry.now }
+    {
+        let entry = sqe.entry;
+        Connect {
+            recfmt: u16_at(entry, 40),
+            qid: u16_at(entry, 42),
+            sqsize: u16_at(entry, 44),
+            cattr: entry[46],
+            kato: u32_at(entry, 48),
+        }
+    }
+}
+
+/// Property Get or Property Set (Base 2.0, sections 6.5 and 6.6).
+#[derive(Clone, Copy, Debug, PartialEq, Eq)]
+pub struct Property {
+    /// Attributes: bits 2:0 are 0 for 4 bytes, 1 for 8.
+    pub attrib: u8,
+    /// The property's offset, in bytes.
+    pub ofst: u32,
+    /// The value to set.
+    pub value: u64,
+}
+
+impl Property {
+    ghost use Rattle.pdu_codec.specs.Sqe.{property_of};
+
+    pub fn read(sqe: &Sqe<'_>) -> Property
+        ensures { result ≡ property_of sqe.now.entry.now }
+    {
+        let entry = sqe.entry;
+        Property {
+            attrib: entry[40],
+            ofst: u32_at(entry, 44),
+            value: u64_at(entry, 48),
+        }
+    }
+}
+
+/// Get Log Page (Base 2.0, section 5.16).
+#[derive(Clone, Copy, Debug, PartialEq, Eq)]
+pub struct GetLogPage {
+    /// Log page identifier.
+    pub lid: u8,
+    /// Log specific field.
+    pub lsp: u8,
+    /// Retain asynchronous event.
+    pub rae: bool,
+    /// The number of dwords to return, 0's based.
+    pub numd: u32,
+    /// Where in the page to begin, in bytes.
+    pub offset: u64,
+}
+
+impl GetLogPage {
+    ghost use Rattle.pdu_codec.specs.Sqe.{get_log_page_of};
+
+    pub fn read(sqe: &Sqe<'_>) -> GetLogPage
+        ensures { result ≡ get_log_page_of sqe.now.entry.now }
+    {
+        let entry = sqe.entry;
+        let low = u32::from(u16_at(entry, 42));
+        let high = u32::from(u16_at(entry, 44));
+        GetLogPage {
+            lid: entry[40],
+            lsp: entry[41] % 0x80,
+            rae: entry[41] >= 0x80,
+            numd: low + 0x1_0000 * high,
+            offset: u64_at(entry, 48),
+        }
+    }
+}

@@ -1,0 +1,26 @@
+//! The PDUs of NVMe over TCP, between their bytes and typed values: readers lend from the slices that
+//! they are given, writers append to a buffer with enough room. It checks no rule of the protocol and
+//! cuts no stream: what a command means is for the crates above.
+#![tactic(auto)]
+
+pub mod append;
+pub mod capsule_resp;
+pub mod command;
+pub mod connect_data;
+pub mod data_pdu;
+pub mod initialize;
+pub mod sgl;
+pub mod sqe;
+pub mod termination;
+#[cfg(test)]
+mod tests;
+
+pub use append::Full;
+pub use capsule_resp::CapsuleResp;
+pub use command::{Connect, GetLogPage, Property};
+pub use connect_data::ConnectData;
+pub use data_pdu::C2hData;
+pub use initialize::{IcReq, IcResp};
+pub use sgl::{Sgl, SglType};
+pub use sqe::Sqe;
+pub use termination::TermReq;

@@ -1,0 +1,7 @@
+pub mod CommonHeader
+pub mod Cut
+pub mod Front
+pub mod Pdu
+pub mod Received
+pub mod Side
+pub mod Stream

@@ -1,0 +1,13 @@
+pub mod AdminQueue
+pub mod Agreement
+pub mod Capsule
+pub mod Connect
+pub mod Connection
+pub mod Decision
+pub mod Event
+pub mod History
+pub mod LogPage
+pub mod Outcome
+pub mod Plain
+pub mod Registers
+pub mod Target

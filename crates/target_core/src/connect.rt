@@ -1,0 +1,122 @@
+//! Connect (Base 2.0, section 6.3), to the discovery controller alone.
+ghost use Rattle.std.specs.Prelude.{◌≡◌, MatchResult};
+ghost use Rattle.target_core.specs.Connect.{admitted, connect, connect_data, holds_name, invalid_parameter, is_known_subsystem};
+
+use crate::capsule::{Outcome, Refusal, done, refused};
+use crate::decision::Change;
+use crate::queue::AdminQueue;
+use nvt_fields::{Status, nqn_field};
+use pdu_codec::{Connect, ConnectData, Sgl, SglType, Sqe};
+
+/// The name of the discovery subsystem (Base 2.0, section 4.5), served on every port to every host.
+const DISCOVERY_NQN: &[u8; 36] = b"nqn.2014-08.org.nvmexpress.discovery";
+
+/// The one controller's identifier: the least free.
+const CNTLID: u16 = 1;
+
+/// What a host writes where the subsystem chooses the controller.
+const ANY_CONTROLLER: u16 = 0xFFFF;
+
+const QID_MAX: u16 = 8;
+
+const SQSIZE_MAX: u16 = 63;
+
+// Results of invalid parameters: the parameter's offset, and bit 16 where it is in the data.
+const QID: u64 = 0x2A;
+
+const SQSIZE: u64 = 0x2C;
+
+const DATA: u64 = 0x1_0000;
+
+const CNTLID_FIELD: u64 = DATA + 0x10;
+
+const SUBNQN: u64 = DATA + 0x100;
+
+const HOSTNQN: u64 = DATA + 0x200;
+
+/// Answers a Connect: with a new controller, or with the first reason against it.
+pub(crate) fn command(sqe: &Sqe<'_>, payload: &[u8]) -> Outcome
+    ensures { result ≡ connect sqe.now.entry.now payload.now }
+{
+    match in_capsule(&sqe.sgl1(), payload) {
+        Ok(bytes) => admit(&Connect::read(sqe), bytes),
+        Err(status) => refused(status),
+    }
+}
+
+fn admit(connect: &Connect, bytes: &[u8; 1024]) -> Outcome
+    ensures { result ≡ admitted connect.now bytes.now }
+{
+    if connect.recfmt != 0 {
+        return refused(Status::INCOMPATIBLE_FORMAT);
+    }
+    match invalid_parameter(connect, bytes) {
+        Some(result) => Err(Refusal {
+            status: Status::CONNECT_INVALID_PARAMETERS,
+            result,
+        }),
+        None => done(
+            u64::from(CNTLID),
+            Change::Connect(AdminQueue::new(connect.sqsize)),
+        ),
+    }
+}
+
+// The command's data, which has to be in the capsule and whole.
+fn in_capsule<'a>(sgl: &Sgl, payload: &'a [u8]) -> Result<&'a [u8; 1024], Status>
+    ensures { MatchResult result (λ bytes. connect_data sgl.now payload.now ≡ Ok bytes.now) (λ status. connect_data sgl.now payload.now ≡ Err status) }
+{
+    if sgl.sgl_type != SglType::CapsuleOffset {
+        return Err(Status::SGL_TYPE_INVALID);
+    }
+    if sgl.len != 1024 {
+        return Err(Status::DATA_SGL_LENGTH_INVALID);
+    }
+    if payload.len() < 1024 || sgl.address > payload.len() as u64 - 1024 {
+        return Err(Status::SGL_OFFSET_INVALID);
+    }
+    let at = sgl.address as usize;
+    Ok(<&[u8; 1024]>::try_from(&payload[at..at + 1024]).unwrap())
+}
+
+// The first parameter that is invalid. Until subsystems are built, no name but the discovery
+// subsystem's is known.
+fn invalid_parameter(connect: &Connect, bytes: &[u8; 1024]) -> Option<u64>
+    ensures { result ≡ invalid_parameter connect.now bytes.now }
+{
+    let data = ConnectData::read(bytes);
+    if connect.qid > QID_MAX {
+        return Some(QID);
+    }
+    if connect.sqsize < 1 || connect.sqsize > SQSIZE_MAX {
+        return Some(SQSIZE);
+    }
+    if !is_known_subsystem(data.subnqn) {
+        return Some(SUBNQN);
+    }
+    if !holds_name(data.hostnqn) {
+        return Some(HOSTNQN);
+    }
+    if connect.qid != 0 {
+        return Some(QID);
+    }
+    if data.cntlid != ANY_CONTROLLER {
+        return Some(CNTLID_FIELD);
+    }
+    None
+}
+
+fn is_known_subsystem(field: &[u8; 256]) -> bool
+    ensures { result ≡ is_known_subsystem field.now }
+{
+    match nqn_field(field) {
+        Ok(name) => name == DISCOVERY_NQN.as_slice(),
+        Err(_) => false,
+    }
+}
+
+fn holds_name(field: &[u8; 256]) -> bool
+    ensures { result ≡ holds_name field.now }
+{
+    nqn_field(field).is_ok()
+}

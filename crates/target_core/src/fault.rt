@@ -1,0 +1,39 @@
+//! What the calls of a target answer.
+use thiserror::Error;
+
+/// What a step did.
+#[derive(Clone, Copy, Debug, PartialEq, Eq)]
+pub enum Stepped {
+    /// Nothing: no whole PDU and no fault is there, or the connection is ended.
+    Idle,
+    /// One PDU was taken.
+    One,
+    /// One PDU, or a fault in its place, was taken, and it ended the connection.
+    Ended,
+}
+
+/// The number is not that of a known connection.
+#[derive(Clone, Copy, Debug, PartialEq, Eq, Error)]
+#[error("no such connection")]
+pub struct NoConn;
+
+/// Why a connection is not opened, in the order of the answers.
+#[derive(Clone, Copy, Debug, PartialEq, Eq, Error)]
+pub enum OpenFault {
+    #[error("NoSuchPort")]
+    NoSuchPort,
+    /// As many connections are known as there may be.
+    #[error("Full")]
+    Full,
+    #[error("Memory")]
+    Memory,
+}
+
+/// Why a step is not made, in the order of the answers. Nothing is consumed.
+#[derive(Clone, Copy, Debug, PartialEq, Eq, Error)]
+pub enum StepFault {
+    #[error("no such connection")]
+    NoConn,
+    #[error("memory")]
+    Memory,
+}
