@@ -1,36 +1,76 @@
 -- What an accepted edit keeps.
-use Rattle.std.proofs.Common.{◌≡◌, ◌≢◌, ◌==◌, Bool, true, false, not, Result, IsTrue, IfOk, nat_le, length, refl, arith}
-use Rattle.std.proofs.lemmas.Grind.{common_steps}
-use Rattle.std.proofs.lemmas.List.Elements.{All-push}
-use Rattle.std.proofs.lemmas.List.Quantifiers.{all_pairs_push}
-use Rattle.std.proofs.lemmas.List.Folds.{list_any_at}
-use Rattle.nvt_config.specs.declared.port.Port.{Port}
+use Rattle.std.proofs.Common.{◌≡◌, ◌&&◌, ℕ, Bool, true, false, not, List, Result, IsTrue, IfOk, nat_le, length, refl}
+use Rattle.std.proofs.lemmas.Bool.{and_from, not-false, not_from_false}
 use Rattle.nvt_config.specs.declared.edit.Edit.{Edit}
-use Rattle.nvt_config.specs.declared.edit.Edit.TheVariants.{PortAdd}
+use Rattle.nvt_config.specs.declared.edit.Edit.TheVariants.{SubsystemAdd, SubsystemSet, SubsystemDel, PortAdd, PortSet, PortDel, LinkAdd, LinkDel, HostAdd, HostDel}
+use Rattle.nvt_config.specs.declared.port.Family.{Family}
+use Rattle.nvt_config.specs.declared.port.Port.{Port}
+use Rattle.nvt_config.specs.declared.subsystem.Subsystem.{Subsystem}
 use Rattle.nvt_config.specs.Port.{is_port, is_port_number, is_address}
-use Rattle.nvt_config.specs.Configuration.{Configuration, IsValid, has_port, with_port}
+use Rattle.nvt_config.specs.Subsystem.{is_discovery, is_serial, is_subsystem}
+use Rattle.nvt_config.specs.Configuration.{Configuration, IsValid, has_subsystem, has_port, has_link, is_port_linked, is_subsystem_linked, has_host, has_live_host}
 use Rattle.nvt_config.specs.Accept.{accept, refuse}
+use Rattle.nvt_config.proofs.Subsystems.{IsValid-with_subsystem, IsValid-with_access, IsValid-without_subsystem}
+use Rattle.nvt_config.proofs.Ports.{IsValid-with_port, IsValid-with_port_set, IsValid-without_port}
+use Rattle.nvt_config.proofs.Links.{IsValid-with_link, IsValid-without_link}
+use Rattle.nvt_config.proofs.Hosts.{IsValid-with_live, IsValid-with_host}
 
 -- what holds where the test fails holds of what is not refused
 IfOk-refuse : {T E : Type 0} (test : Bool) (fault : E) (next : Result T E) (P : T → Type 0) → (test ≡ false → IfOk next P) → IfOk (refuse test fault next) P
 IfOk-refuse true fault next P h = tt
 IfOk-refuse false fault next P h = h refl
 
-IsValid-with_port : (c : Configuration) (port : Port) → IsValid c → IsTrue (is_port port) → has_port c port.id ≡ false → nat_le 16 (length c.ports) ≡ false → IsValid (with_port c port)
-IsValid-with_port c port valid sound absent room = record {
-  disks = valid.disks;
-  port_count = grind (arith, common_steps);
-  each_port = All-push (λ p. IsTrue (is_port p)) c.ports port valid.each_port sound;
-  distinct = all_pairs_push (λ p q. p.id ≢ q.id) c.ports port valid.distinct (λ k d below. grind (arith, list_any_at (λ p. p.id == port.id) c.ports k d));
-}
+sound_port : (id : ℕ) (family : Family) (address : List ℕ) (service : ℕ) → not (is_port_number id) ≡ false → not (is_address address) ≡ false → not (is_port_number service) ≡ false → let port : Port = record { id = id; family = family; address = address; service = service } in IsTrue (is_port port)
+sound_port id family address service number text listens =
+    and_from (is_port_number id) (is_address address && is_port_number service) (not-false (is_port_number id) number) (and_from (is_address address) (is_port_number service) (not-false (is_address address) text) (not-false (is_port_number service) listens))
 
 pub IsValid-accept : (c : Configuration) (edit : Edit) → IsValid c → IfOk (accept c edit) IsValid
+IsValid-accept c (SubsystemAdd nqn serial access) valid =
+    IfOk-refuse (is_discovery nqn) _ _ IsValid (λ ordinary.
+    IfOk-refuse (not (is_serial serial)) _ _ IsValid (λ text.
+    IfOk-refuse (has_subsystem c nqn) _ _ IsValid (λ absent.
+    IfOk-refuse (nat_le 32 (length c.subsystems)) _ _ IsValid (λ room.
+    let subsystem : Subsystem = record { nqn = nqn; serial = serial; access = access } in
+    let sound : IsTrue (is_subsystem subsystem) = and_from (not (is_discovery nqn)) (is_serial serial) (not_from_false (is_discovery nqn) ordinary) (not-false (is_serial serial) text) in
+    IsValid-with_subsystem c subsystem valid sound absent room))))
+IsValid-accept c (SubsystemSet nqn access) valid =
+    IfOk-refuse (not (has_subsystem c nqn)) _ _ IsValid (λ there.
+    IsValid-with_access c nqn access valid)
+IsValid-accept c (SubsystemDel nqn) valid =
+    IfOk-refuse (not (has_subsystem c nqn)) _ _ IsValid (λ there.
+    IfOk-refuse (is_subsystem_linked c nqn) _ _ IsValid (λ free.
+    IsValid-without_subsystem c nqn valid free))
 IsValid-accept c (PortAdd id family address service) valid =
     IfOk-refuse (not (is_port_number id)) _ _ IsValid (λ number.
     IfOk-refuse (not (is_address address)) _ _ IsValid (λ text.
     IfOk-refuse (not (is_port_number service)) _ _ IsValid (λ listens.
     IfOk-refuse (has_port c id) _ _ IsValid (λ absent.
     IfOk-refuse (nat_le 16 (length c.ports)) _ _ IsValid (λ room.
-    let port : Port = record { id = id; family = family; address = address; service = service } in
-    let sound : IsTrue (is_port port) = grind arith in
-    IsValid-with_port c port valid sound absent room)))))
+    IsValid-with_port c (record { id = id; family = family; address = address; service = service }) valid (sound_port id family address service number text listens) absent room)))))
+IsValid-accept c (PortSet id family address service) valid =
+    IfOk-refuse (not (is_port_number id)) _ _ IsValid (λ number.
+    IfOk-refuse (not (is_address address)) _ _ IsValid (λ text.
+    IfOk-refuse (not (is_port_number service)) _ _ IsValid (λ listens.
+    IfOk-refuse (not (has_port c id)) _ _ IsValid (λ there.
+    IsValid-with_port_set c (record { id = id; family = family; address = address; service = service }) valid (sound_port id family address service number text listens)))))
+IsValid-accept c (PortDel id) valid =
+    IfOk-refuse (not (has_port c id)) _ _ IsValid (λ there.
+    IfOk-refuse (is_port_linked c id) _ _ IsValid (λ free.
+    IsValid-without_port c id valid free))
+IsValid-accept c (LinkAdd port subsystem) valid =
+    IfOk-refuse (not (has_port c port)) _ _ IsValid (λ port_there.
+    IfOk-refuse (not (has_subsystem c subsystem)) _ _ IsValid (λ subsystem_there.
+    IfOk-refuse (has_link c port subsystem) _ _ IsValid (λ absent.
+    IsValid-with_link c (record { port = port; subsystem = subsystem }) valid (not-false (has_port c port) port_there) (not-false (has_subsystem c subsystem) subsystem_there) absent)))
+IsValid-accept c (LinkDel port subsystem) valid =
+    IfOk-refuse (not (has_port c port)) _ _ IsValid (λ port_there.
+    IfOk-refuse (not (has_subsystem c subsystem)) _ _ IsValid (λ subsystem_there.
+    IfOk-refuse (not (has_link c port subsystem)) _ _ IsValid (λ there.
+    IsValid-without_link c port subsystem valid)))
+IsValid-accept c (HostAdd nqn) valid =
+    IfOk-refuse (has_live_host c nqn) _ _ IsValid (λ absent.
+    IfOk-refuse (not (has_host c nqn) && nat_le 256 (length c.hosts)) _ _ IsValid (λ fits.
+    IsValid-with_host c nqn valid fits))
+IsValid-accept c (HostDel nqn) valid =
+    IfOk-refuse (not (has_live_host c nqn)) _ _ IsValid (λ there.
+    IsValid-with_live c nqn false valid)

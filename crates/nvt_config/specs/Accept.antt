@@ -1,13 +1,14 @@
 -- Which edits a configuration accepts, and what it is after them.
-use Rattle.std.specs.Prelude.{Bool, not, nat_le, length, Result, Ok, Err, IfOk, if◌then◌else◌}
+use Rattle.std.specs.Prelude.{Bool, not, ◌&&◌, nat_le, length, Result, Ok, Err, IfOk, if◌then◌else◌}
 use Rattle.nvt_config.specs.declared.edit.Edit.{Edit}
-use Rattle.nvt_config.specs.declared.edit.Edit.TheVariants.{PortAdd}
+use Rattle.nvt_config.specs.declared.edit.Edit.TheVariants.{SubsystemAdd, SubsystemSet, SubsystemDel, PortAdd, PortSet, PortDel, LinkAdd, LinkDel, HostAdd, HostDel}
 use Rattle.nvt_config.specs.declared.fault.EditFault.{EditFault}
-use Rattle.nvt_config.specs.declared.fault.EditFault.TheVariants.{BadValue, Exists, Full}
+use Rattle.nvt_config.specs.declared.fault.EditFault.TheVariants.{BadValue, NoSuch, Exists, InUse, Full}
 use Rattle.nvt_config.specs.declared.fault.Value.TheVariants as value
 use Rattle.nvt_config.specs.declared.fault.Entry.TheVariants as entry
 use Rattle.nvt_config.specs.Port.{is_port_number, is_address}
-use Rattle.nvt_config.specs.Configuration.{Configuration, IsValid, has_port, with_port}
+use Rattle.nvt_config.specs.Subsystem.{is_discovery, is_serial}
+use Rattle.nvt_config.specs.Configuration.{Configuration, IsValid, has_subsystem, with_subsystem, with_access, without_subsystem, has_port, with_port, with_port_set, without_port, has_link, is_port_linked, is_subsystem_linked, with_link, without_link, has_host, has_live_host, with_host, without_host}
 
 -- the fault if the test passes, and else what comes next
 abbrev pub refuse : {T E : Type 0} → Bool → E → Result T E → Result T E
@@ -15,6 +16,19 @@ refuse test fault next = if test then Err fault else next
 
 -- the configuration after the edit, or the first reason against it
 abbrev pub accept : Configuration → Edit → Result Configuration EditFault
+accept c (SubsystemAdd nqn serial access) =
+    refuse (is_discovery nqn) (BadValue value.Nqn) (
+    refuse (not (is_serial serial)) (BadValue value.Serial) (
+    refuse (has_subsystem c nqn) (Exists entry.Subsystem) (
+    refuse (nat_le 32 (length c.subsystems)) (Full entry.Subsystem) (
+    Ok (with_subsystem c (record { nqn = nqn; serial = serial; access = access }))))))
+accept c (SubsystemSet nqn access) =
+    refuse (not (has_subsystem c nqn)) (NoSuch entry.Subsystem) (
+    Ok (with_access c nqn access))
+accept c (SubsystemDel nqn) =
+    refuse (not (has_subsystem c nqn)) (NoSuch entry.Subsystem) (
+    refuse (is_subsystem_linked c nqn) (InUse entry.Link) (
+    Ok (without_subsystem c nqn)))
 accept c (PortAdd id family address service) =
     refuse (not (is_port_number id)) (BadValue value.Port) (
     refuse (not (is_address address)) (BadValue value.Address) (
@@ -22,6 +36,38 @@ accept c (PortAdd id family address service) =
     refuse (has_port c id) (Exists entry.Port) (
     refuse (nat_le 16 (length c.ports)) (Full entry.Port) (
     Ok (with_port c (record { id = id; family = family; address = address; service = service })))))))
+accept c (PortSet id family address service) =
+    refuse (not (is_port_number id)) (BadValue value.Port) (
+    refuse (not (is_address address)) (BadValue value.Address) (
+    refuse (not (is_port_number service)) (BadValue value.Service) (
+    refuse (not (has_port c id)) (NoSuch entry.Port) (
+    Ok (with_port_set c (record { id = id; family = family; address = address; service = service }))))))
+accept c (PortDel id) =
+    refuse (not (has_port c id)) (NoSuch entry.Port) (
+    refuse (is_port_linked c id) (InUse entry.Link) (
+    Ok (without_port c id)))
+accept c (LinkAdd port subsystem) =
+    refuse (not (has_port c port)) (NoSuch entry.Port) (
+    refuse (not (has_subsystem c subsystem)) (NoSuch entry.Subsystem) (
+    refuse (has_link c port subsystem) (Exists entry.Link) (
+    Ok (with_link c (record { port = port; subsystem = subsystem })))))
+accept c (LinkDel port subsystem) =
+    refuse (not (has_port c port)) (NoSuch entry.Port) (
+    refuse (not (has_subsystem c subsystem)) (NoSuch entry.Subsystem) (
+    refuse (not (has_link c port subsystem)) (NoSuch entry.Link) (
+    Ok (without_link c port subsystem))))
+accept c (HostAdd nqn) =
+    refuse (has_live_host c nqn) (Exists entry.Host) (
+    refuse (not (has_host c nqn) && nat_le 256 (length c.hosts)) (Full entry.Host) (
+    Ok (with_host c nqn)))
+accept c (HostDel nqn) =
+    refuse (not (has_live_host c nqn)) (NoSuch entry.Host) (
+    Ok (without_host c nqn))
+
+-- the reason against the edit, if there is one
+abbrev pub verdict : Result Configuration EditFault → Result (Unit {0}) EditFault
+verdict (Ok c) = Ok tt
+verdict (Err fault) = Err fault
 
 -- an accepted edit keeps what is true of each configuration
 abbrev pub AcceptedStaysValid : Type 0

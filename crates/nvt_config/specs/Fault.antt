@@ -6,9 +6,14 @@ use Rattle.nvt_config.specs.declared.fault.Entry.{Entry}
 use Rattle.nvt_config.specs.declared.fault.Entry.TheVariants as entry
 
 abbrev pub word_of_value : Value → List ℕ
+word_of_value value.Nqn = codes "Nqn"
+word_of_value value.Serial = codes "Serial"
 word_of_value value.Port = codes "Port"
 word_of_value value.Address = codes "Address"
 word_of_value value.Service = codes "Service"
 
 abbrev pub word_of_entry : Entry → List ℕ
+word_of_entry entry.Subsystem = codes "Subsystem"
 word_of_entry entry.Port = codes "Port"
+word_of_entry entry.Link = codes "Link"
+word_of_entry entry.Host = codes "Host"

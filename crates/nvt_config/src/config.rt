@@ -1,15 +1,21 @@
 //! The configuration, and the edits applied to it.
-ghost use Rattle.std.specs.Prelude.{◌≡◌, ◌==◌, ◌<◌, ◌^◌, IfErr, IfOk, IsOk, IsOkUnless, OnErr, OnOk, IsTrue, find, length, nat_le};
+ghost use Rattle.std.specs.Prelude.{◌≡◌, ◌==◌, ◌^◌, IfErr, IfOk, IsOkUnless, OnErr, OnOk, find, nat_le};
 ghost use Rattle.std.specs.Bool.{OnFalse, OnTrue};
 ghost use Rattle.std.specs.List.{list_all};
 ghost use Rattle.std.specs.Option.{option_copied};
-ghost use Rattle.nvt_config.specs.Accept.{AcceptedStaysValid, accept, refuse};
-ghost use Rattle.nvt_config.specs.Configuration.{IsValid, are_disks, disks_alone, has_port, with_port};
-ghost use Rattle.nvt_config.specs.Port.{is_port};
+ghost use Rattle.std.specs.Str.{bytes_eq};
+ghost use Rattle.nvt_config.specs.Accept.{AcceptedStaysValid, accept, verdict};
+ghost use Rattle.nvt_config.specs.Configuration.{IsValid, are_disks, disks_alone};
+
+mod changes;
+mod checks;
 
 use crate::edit::Edit;
-use crate::fault::{EditFault, Entry, NewFault, Value};
-use crate::port::{Port, is_address, is_port_number};
+use crate::fault::{EditFault, NewFault};
+use crate::host::{Host, clone_hosts};
+use crate::link::{Link, clone_links};
+use crate::port::{Port, clone_ports};
+use crate::subsystem::{Subsystem, clone_subsystems};
 use std::alloc::{AllocError, Global};
 use std::marker::Model;
 
@@ -17,14 +23,17 @@ const DISKS_MAX: usize = 256;
 
 const DISK_UNITS_MAX: u64 = 1 << 40;
 
-const PORTS_MAX: usize = 16;
-
-/// The disks' sizes in units of 512 bytes, and the ports in the order in which they were added. There
-/// are at most 256 disks of at most 2^40 units, and 16 ports; no two ports have the same number.
+/// The disks' sizes in units of 512 bytes, and the lists, each in the order in which its entries were
+/// added. There are at most 256 disks of at most 2^40 units, 32 subsystems, 16 ports and 256 hosts,
+/// those that are not live counted. No two entries of a list have the same name, and a link's port and
+/// subsystem are there.
 #[derive(Debug, Drop)]
 pub struct Config {
     units: Vec<u64>,
+    subsystems: Vec<Subsystem>,
     ports: Vec<Port>,
+    links: Vec<Link>,
+    hosts: Vec<Host>,
 }
 
 impl Model for Config {
@@ -32,9 +41,9 @@ impl Model for Config {
 
     ghost Value = { Configuration };
 
-    ghost view = { λ c. record { units = c.units.items; ports = c.ports.items } };
+    ghost view = { λ c. record { units = c.units.items; subsystems = c.subsystems.items; ports = c.ports.items; links = c.links.items; hosts = c.hosts.items } };
 
-    ghost invariant = { λ c. IsValid (record { units = c.units.items; ports = c.ports.items }) };
+    ghost invariant = { λ c. IsValid (record { units = c.units.items; subsystems = c.subsystems.items; ports = c.ports.items; links = c.links.items; hosts = c.hosts.items }) };
 }
 
 impl Config {
@@ -51,7 +60,10 @@ impl Config {
         match Vec::from_slice(alloc, units) {
             Ok(units) => Ok(Config {
                 units,
+                subsystems: Vec::new(alloc),
                 ports: Vec::new(alloc),
+                links: Vec::new(alloc),
+                hosts: Vec::new(alloc),
             }),
             Err(AllocError) => Err(NewFault::Memory),
         }
@@ -65,12 +77,45 @@ impl Config {
         self.units.as_slice()
     }
 
+    /// The subsystems, in the order in which they were added.
+    pub fn subsystems(&self) -> &[Subsystem]
+        ensures lent { result.now ≡ self.now.subsystems }
+        ensures valid { IsValid self.now }
+    {
+        self.subsystems.as_slice()
+    }
+
     /// The ports, in the order in which they were added.
     pub fn ports(&self) -> &[Port]
         ensures lent { result.now ≡ self.now.ports }
         ensures valid { IsValid self.now }
     {
         self.ports.as_slice()
+    }
+
+    /// The links, in the order in which they were added.
+    pub fn links(&self) -> &[Link]
+        ensures lent { result.now ≡ self.now.links }
+        ensures valid { IsValid self.now }
+    {
+        self.links.as_slice()
+    }
+
+    /// The hosts that were ever added, live or not, in the order in which they were first added.
+    pub fn hosts(&self) -> &[Host]
+        ensures lent { result.now ≡ self.now.hosts }
+        ensures valid { IsValid self.now }
+    {
+        self.hosts.as_slice()
+    }
+
+    /// The subsystem of that name, if there is one.
+    pub fn subsystem(&self, nqn: &[u8]) -> Option<&Subsystem>
+        ensures { option_copied result ≡ find (λ subsystem. bytes_eq subsystem.nqn nqn.now) self.now.subsystems }
+    {
+        self.subsystems
+            .iter()
+            .find(|subsystem| subsystem.nqn.as_bytes() == nqn)
     }
 
     /// The port of that number, if there is one.
@@ -82,25 +127,33 @@ impl Config {
 
     /// Why `apply` refuses the edit, want of memory aside. Takes no memory.
     pub fn check(&self, edit: &Edit) -> Result<(), EditFault>
-        ensures accepted { OnOk (accept self.now edit.now) (result ≡ Ok tt) }
-        ensures refused { IfErr (accept self.now edit.now) (λ fault. result ≡ Err fault) }
+        ensures { result ≡ verdict (accept self.now edit.now) }
     {
         match edit {
+            Edit::SubsystemAdd {
+                nqn,
+                serial,
+                access: _,
+            } => self.check_subsystem_add(nqn, serial),
+            Edit::SubsystemSet { nqn, access: _ } => self.check_subsystem_set(nqn),
+            Edit::SubsystemDel { nqn } => self.check_subsystem_del(nqn),
             Edit::PortAdd {
                 id,
                 family: _,
                 address,
                 service,
-            } => {
-                refuse(!is_port_number(*id), EditFault::BadValue(Value::Port))?;
-                refuse(!is_address(address), EditFault::BadValue(Value::Address))?;
-                refuse(
-                    !is_port_number(*service),
-                    EditFault::BadValue(Value::Service),
-                )?;
-                refuse(self.has_port(*id), EditFault::Exists(Entry::Port))?;
-                refuse(self.ports.len() >= PORTS_MAX, EditFault::Full(Entry::Port))
-            }
+            } => self.check_port_add(*id, address, *service),
+            Edit::PortSet {
+                id,
+                family: _,
+                address,
+                service,
+            } => self.check_port_set(*id, address, *service),
+            Edit::PortDel { id } => self.check_port_del(*id),
+            Edit::LinkAdd { port, subsystem } => self.check_link_add(*port, subsystem),
+            Edit::LinkDel { port, subsystem } => self.check_link_del(*port, subsystem),
+            Edit::HostAdd { nqn } => self.check_host_add(nqn),
+            Edit::HostDel { nqn } => self.check_host_del(nqn),
         }
     }
 
@@ -118,72 +171,27 @@ impl Config {
         }
     }
 
-    /// An equal configuration, with an allocation for each list and each text.
+    /// An equal configuration, with an allocation for each list, each name and each text.
     pub fn try_clone(&self) -> Result<Config, AllocError>
         ensures { IfOk result (λ copy. copy ≡ self.now) }
     {
-        let mut ports = Vec::with_capacity(*self.ports.allocator(), self.ports.len())?;
-        for port in &self.ports {
-            ports.push(port.try_clone()?)?;
-        }
+        let alloc = *self.units.allocator();
         Ok(Config {
             units: self.units.clone()?,
-            ports,
+            subsystems: clone_subsystems(alloc, &self.subsystems)?,
+            ports: clone_ports(alloc, &self.ports)?,
+            links: clone_links(alloc, &self.links)?,
+            hosts: clone_hosts(alloc, &self.hosts)?,
         })
-    }
-
-    fn change(&mut self, edit: &Edit) -> Result<(), AllocError>
-        requires { IsOk (accept self.old edit.now) }
-        ensures ok { OnOk result (accept self.old edit.now ≡ Ok self.new) }
-        ensures err { OnErr result (self.new ≡ self.old) }
-    {
-        match edit {
-            Edit::PortAdd {
-                id,
-                family,
-                address,
-                service,
-            } => {
-                let port = Port {
-                    id: *id as u16,
-                    family: *family,
-                    address: address.try_clone()?,
-                    service: *service as u16,
-                };
-                self.add_port(port)
-            }
-        }
-    }
-
-    fn add_port(&mut self, port: Port) -> Result<(), AllocError>
-        requires sound { IsTrue (is_port port) }
-        requires absent { ¬ IsTrue (has_port self.old port.id) }
-        requires room { length self.old.ports < 16 }
-        ensures ok { OnOk result (self.new ≡ with_port self.old port) }
-        ensures err { OnErr result (self.new ≡ self.old) }
-    {
-        self.ports.push(port)?;
-        Ok(())
-    }
-
-    fn has_port(&self, id: u64) -> bool
-        ensures { result ≡ has_port self.now id }
-    {
-        self.ports.iter().any(|port| u64::from(port.id) == id)
     }
 }
 
-/// Whatever edit a configuration accepts, it stays within its limits, each port keeps sound values
-/// and no two ports have the same number. This is a fact of the rule for edits; a call does nothing.
+/// Whatever edit a configuration accepts, it stays within its limits, its values stay sound, no two
+/// entries of a list have the same name and links lead somewhere. This is a fact of the rule for edits;
+/// a call does nothing.
 pub fn accepted_stays_valid()
     ensures { AcceptedStaysValid }
 {}
-
-fn refuse(test: bool, fault: EditFault) -> Result<(), EditFault>
-    ensures { result ≡ refuse test fault (Ok tt) }
-{
-    if test { Err(fault) } else { Ok(()) }
-}
 
 fn are_disks(units: &[u64]) -> bool
     ensures { result ≡ are_disks units.now }

@@ -20,9 +20,15 @@ pub enum EditFault {
     /// This value of the edit is out of its range.
     #[error("refused BadValue {0}")]
     BadValue(Value),
+    /// The list has no entry of that name.
+    #[error("refused NoSuch {0}")]
+    NoSuch(Entry),
     /// The list has an entry of that name already.
     #[error("refused Exists {0}")]
     Exists(Entry),
+    /// An entry of this list names the entry.
+    #[error("refused InUse {0}")]
+    InUse(Entry),
     /// The list has as many entries as it may have.
     #[error("refused Full {0}")]
     Full(Entry),
@@ -34,6 +40,8 @@ pub enum EditFault {
 /// A value of an edit.
 #[derive(Clone, Copy, Debug, PartialEq, Eq)]
 pub enum Value {
+    Nqn,
+    Serial,
     Port,
     Address,
     Service,
@@ -42,7 +50,10 @@ pub enum Value {
 /// A list of the configuration, by what it holds.
 #[derive(Clone, Copy, Debug, PartialEq, Eq)]
 pub enum Entry {
+    Subsystem,
     Port,
+    Link,
+    Host,
 }
 
 impl fmt::Display for Value {
@@ -50,6 +61,8 @@ impl fmt::Display for Value {
 
     fn fmt<W: fmt::Write>(&self, f: &mut fmt::Formatter<W>) -> fmt::Result {
         f.write_str(match self {
+            Value::Nqn => "Nqn",
+            Value::Serial => "Serial",
             Value::Port => "Port",
             Value::Address => "Address",
             Value::Service => "Service",
@@ -62,7 +75,10 @@ impl fmt::Display for Entry {
 
     fn fmt<W: fmt::Write>(&self, f: &mut fmt::Formatter<W>) -> fmt::Result {
         f.write_str(match self {
+            Entry::Subsystem => "Subsystem",
             Entry::Port => "Port",
+            Entry::Link => "Link",
+            Entry::Host => "Host",
         })
     }
 }

@@ -6,7 +6,11 @@
 pub mod config;
 pub mod edit;
 pub mod fault;
+pub mod host;
+pub mod link;
+pub mod permission;
 pub mod port;
+pub mod subsystem;
 #[cfg(test)]
 mod tests;
 pub mod text;
@@ -14,5 +18,8 @@ pub mod text;
 pub use config::Config;
 pub use edit::Edit;
 pub use fault::{EditFault, Entry, NewFault, Value};
+pub use host::Host;
+pub use link::Link;
 pub use port::{Family, Port};
+pub use subsystem::{Access, Subsystem};
 pub use text::Text;

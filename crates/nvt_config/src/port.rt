@@ -1,10 +1,11 @@
 //! A port: where the target listens.
-ghost use Rattle.std.specs.Prelude.{◌≡◌, IfOk};
-ghost use Rattle.std.specs.List.{list_all};
-ghost use Rattle.nvt_config.specs.Port.{is_address, is_address_byte, is_port_number};
+ghost use Rattle.std.specs.Prelude.{◌≡◌, ◌≢◌, ◌==◌, AllPairs, IfOk, position};
+ghost use Rattle.std.specs.List.{list_any};
+ghost use Rattle.nvt_config.specs.Lists.{changed_where, without};
+ghost use Rattle.nvt_config.specs.Port.{is_address, is_port_number};
 
 use crate::text::Text;
-use std::alloc::AllocError;
+use std::alloc::{AllocError, Global};
 
 const ADDRESS_MAX: usize = 256;
 
@@ -50,18 +51,42 @@ pub(crate) fn is_port_number(n: u64) -> bool
 pub(crate) fn is_address(text: &Text) -> bool
     ensures { result ≡ is_address text.now }
 {
-    let bytes = text.as_bytes();
-    (1..=ADDRESS_MAX).contains(&bytes.len()) && are_address_bytes(bytes)
+    text.is_word(ADDRESS_MAX)
 }
 
-fn are_address_bytes(bytes: &[u8]) -> bool
-    ensures { result ≡ list_all is_address_byte bytes.now }
+pub(crate) fn has_port(ports: &[Port], id: u64) -> bool
+    ensures { result ≡ list_any (λ port. port.id == id) ports.now }
 {
-    bytes.iter().all(|b| is_address_byte(*b))
+    ports.iter().any(|port| u64::from(port.id) == id)
 }
 
-fn is_address_byte(b: u8) -> bool
-    ensures { result ≡ is_address_byte b }
+pub(crate) fn replace_port(ports: &mut [Port], port: Port)
+    requires { AllPairs (λ p q. p.id ≢ q.id) ports.old }
+    ensures { ports.new ≡ changed_where (λ old. old.id == port.id) (λ _. port) ports.old }
 {
-    (0x21..=0x7E).contains(&b)
+    if let Some(at) = place_of(ports, port.id) {
+        ports[at] = port;
+    }
+}
+
+fn place_of(ports: &[Port], id: u16) -> Option<usize>
+    ensures { result ≡ position (λ port. port.id == id) ports.now }
+{
+    ports.iter().position(|port| port.id == id)
+}
+
+pub(crate) fn remove_port(ports: &mut Vec<Port>, id: u64)
+    ensures { ports.new.items ≡ without (λ port. port.id == id) ports.old.items }
+{
+    ports.retain(|port| u64::from(port.id) != id);
+}
+
+pub(crate) fn clone_ports(alloc: Global, ports: &[Port]) -> Result<Vec<Port>, AllocError>
+    ensures { IfOk result (λ copies. copies.items ≡ ports.now) }
+{
+    let mut copies = Vec::with_capacity(alloc, ports.len())?;
+    for port in ports {
+        copies.push(port.try_clone()?)?;
+    }
+    Ok(copies)
 }

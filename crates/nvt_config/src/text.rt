@@ -1,5 +1,7 @@
 //! A text of bytes.
 ghost use Rattle.std.specs.Prelude.{◌≡◌, IfOk};
+ghost use Rattle.std.specs.List.{list_all};
+ghost use Rattle.nvt_config.specs.Text.{is_word, is_word_byte};
 
 use std::alloc::AllocError;
 use std::marker::Model;
@@ -40,6 +42,14 @@ impl Text {
             bytes: self.bytes.clone()?,
         })
     }
+
+    // Whether it is 1 byte to as many as `most`, each from 21h to 7Eh.
+    pub(crate) fn is_word(&self, most: usize) -> bool
+        ensures { result ≡ is_word most self.now }
+    {
+        let bytes = self.as_bytes();
+        (1..=most).contains(&bytes.len()) && are_word_bytes(bytes)
+    }
 }
 
 impl From<Vec<u8>> for Text {
@@ -49,4 +59,16 @@ impl From<Vec<u8>> for Text {
     fn from(bytes: Vec<u8>) -> Text {
         Text { bytes }
     }
+}
+
+fn are_word_bytes(bytes: &[u8]) -> bool
+    ensures { result ≡ list_all is_word_byte bytes.now }
+{
+    bytes.iter().all(|b| is_word_byte(*b))
+}
+
+fn is_word_byte(b: u8) -> bool
+    ensures { result ≡ is_word_byte b }
+{
+    (0x21..=0x7E).contains(&b)
 }

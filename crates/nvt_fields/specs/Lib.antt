@@ -3,3 +3,4 @@ pub mod Field
 pub mod Name
 pub mod PduType
 pub mod Status
+pub mod Window

@@ -18,6 +18,10 @@ fault_of text =
     if nat_lt 223 (length text) then Some TooLong else
     if is_name text then None else Some BadNqn
 
+-- the discovery subsystem's name
+abbrev pub discovery_nqn : List ℕ
+discovery_nqn = codes "nqn.2014-08.org.nvmexpress.discovery"
+
 abbrev pub IsName : List ℕ → Type 0
 IsName text = fault_of text ≡ None
 

@@ -40,5 +40,8 @@ invalid_log_page = command_specific 0x09
 abbrev pub incompatible_format : Status
 incompatible_format = command_specific 0x80
 
+abbrev pub connect_controller_busy : Status
+connect_controller_busy = command_specific 0x81
+
 abbrev pub connect_invalid_parameters : Status
 connect_invalid_parameters = command_specific 0x82

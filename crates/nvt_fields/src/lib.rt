@@ -9,9 +9,11 @@ pub mod status;
 pub mod termination;
 #[cfg(test)]
 mod tests;
+pub mod window;
 
 pub use field::{u16_at, u32_at, u64_at, write_spaced, write_zeroed};
-pub use name::{Nqn, NqnFault, nqn_field};
+pub use name::{DISCOVERY_NQN, Nqn, NqnFault, nqn_field, up_to_zero};
 pub use pdu_type::PduType;
 pub use status::Status;
 pub use termination::FatalErrorStatus;
+pub use window::write_part;

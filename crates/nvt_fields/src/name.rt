@@ -1,8 +1,13 @@
 //! NVMe qualified names (Base 2.0, section 4.5).
-ghost use Rattle.std.specs.Prelude.{◌≡◌, IfOk, IsOkAnd, IsOkUnless, IfSome, MatchOption, codes, nat_eq, position, ◌==◌, ◌<◌, length};
+ghost use Rattle.std.specs.Prelude.{◌≡◌, IfOk, IsOkAnd, IsOkUnless, IfSome, MatchOption, codes, nat_eq, position, ◌==◌, ◌<◌, ◌≤◌, length};
 ghost use Rattle.std.specs.List.{list_all, starts_with};
+ghost use Rattle.std.specs.Str.{bytes_eq};
+ghost use Rattle.std.specs.Cmp.{partial_equiv_from_equiv};
+ghost use Rattle.std.specs.Cmp.Lexicographic.{nat_list_eq_equiv};
+ghost use Rattle.nvt_fields.specs.Field.{padded};
 ghost use Rattle.nvt_fields.specs.Name.{fault_of, is_name, is_name_byte, up_to_zero};
 
+use crate::field::write_zeroed;
 use std::alloc::{AllocError, Global};
 use std::marker::Model;
 use thiserror::Error;
@@ -12,6 +17,9 @@ pub const NQN_MAX: usize = 223;
 
 /// The shortest name, in bytes: one byte after the prefix.
 pub const NQN_MIN: usize = 5;
+
+/// The name of the discovery subsystem.
+pub const DISCOVERY_NQN: &[u8; 36] = b"nqn.2014-08.org.nvmexpress.discovery";
 
 const PREFIX: &[u8; 4] = b"nqn.";
 
@@ -61,6 +69,46 @@ impl Nqn {
     {
         &self.bytes
     }
+
+    /// The name's length in bytes.
+    pub fn len(&self) -> usize
+        ensures value { result ≡ length self.now }
+        ensures bound { result ≤ 223 }
+    {
+        self.bytes.len()
+    }
+
+    /// Writes the name into its field of 256 bytes, and zeros after it.
+    pub fn write_to(&self, field: &mut [u8])
+        requires { length field.old ≡ 256 }
+        ensures { field.new ≡ padded 256 0 self.now }
+    {
+        write_zeroed(field, self.bytes.as_slice());
+    }
+
+    /// An equal name.
+    pub fn try_clone(&self) -> Result<Nqn, AllocError>
+        ensures { IfOk result (λ copy. copy ≡ self.now) }
+    {
+        Ok(Nqn {
+            bytes: self.bytes.clone()?,
+        })
+    }
+}
+
+/// Names are equal where their bytes are.
+impl PartialEq for Nqn {
+    ghost eq = { bytes_eq };
+
+    ghost laws = { partial_equiv_from_equiv nat_list_eq_equiv };
+
+    fn eq(&self, other: &Nqn) -> bool {
+        self.as_bytes() == other.as_bytes()
+    }
+}
+
+impl Eq for Nqn {
+    ghost laws = { nat_list_eq_equiv };
 }
 
 /// The name in a field of 256 bytes: those before its first zero byte. What follows the zero is not
@@ -87,7 +135,8 @@ fn check(text: &[u8]) -> Result<(), NqnFault>
     Err(NqnFault::BadNqn)
 }
 
-fn up_to_zero(field: &[u8]) -> &[u8]
+/// The bytes of a field before its first zero byte, or all of them.
+pub fn up_to_zero(field: &[u8]) -> &[u8]
     ensures { result.now ≡ up_to_zero field.now }
 {
     let len = first_zero(field).unwrap_or(field.len());

@@ -69,6 +69,13 @@ impl Status {
         dnr: true,
     };
 
+    /// Connect: there are as many controllers as there may be.
+    pub const CONNECT_CONTROLLER_BUSY: Status = Status {
+        sct: 1,
+        sc: 0x81,
+        dnr: true,
+    };
+
     /// Connect: a parameter, named by the result, is invalid.
     pub const CONNECT_INVALID_PARAMETERS: Status = Status {
         sct: 1,

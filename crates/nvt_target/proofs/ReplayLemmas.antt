@@ -6,7 +6,7 @@ use Rattle.std.proofs.lemmas.List.Elements.{All-push}
 use Rattle.nvt_config.specs.declared.edit.Edit.{Edit}
 use Rattle.nvt_config.specs.Accept.{accept}
 use Rattle.nvt_config.specs.Configuration.{Configuration, are_disks, disks_alone}
-use Rattle.nvt_target.specs.EditLine.{line_of}
+use Rattle.nvt_target.specs.EditLine.{IsLineOf}
 use Rattle.nvt_target.specs.Lines.{lines_of}
 use Rattle.nvt_target.specs.Replay.{Configures, Explains, IsFirstMalformed, RefusesEdits, RefusesLine, Refuses}
 use Rattle.nvt_target.specs.StreamLine.{IsStreamLine, Says}
@@ -41,13 +41,13 @@ all_taken all n e =
     let len : length all - n ≡ 0 = sym (length-drop n all) ∙ ap length e in
     take_all n all (omega arith)
 
-pub Configures-push : (lines : List (List ℕ)) (old mid new : Configuration) (line : List ℕ) (edit : Edit) → Configures lines old mid → line ≡ line_of edit → accept mid edit ≡ Ok new → Configures (lines ++ line ∷ []) old new
+pub Configures-push : (lines : List (List ℕ)) (old mid new : Configuration) (line : List ℕ) (edit : Edit) → Configures lines old mid → IsLineOf line edit → accept mid edit ≡ Ok new → Configures (lines ++ line ∷ []) old new
 Configures-push [] old mid new line edit before e accepted = (edit, e, new, ap (λ c. accept c edit) (sym before) ∙ accepted, refl)
 Configures-push (first ∷ lines) old mid new line edit before e accepted =
     (before.0, before.1, before.2, before.3, Configures-push lines before.2 mid new line edit before.4 e accepted)
 
 pub before_more : (all : List (List ℕ)) (n : ℕ) (line : List ℕ) (rest : List (List ℕ)) (old mid new : Configuration) → drop n all ≡ line ∷ rest → Configures (take n all) old mid
-    → (edit : Edit) × (line ≡ line_of edit) × (accept mid edit ≡ Ok new) → Configures (take (n + 1) all) old new
+    → (edit : Edit) × IsLineOf line edit × (accept mid edit ≡ Ok new) → Configures (take (n + 1) all) old new
 before_more all n line rest old mid new e before taken =
     subst (λ lines. Configures lines old new) (sym (next_line all n line rest e).more)
     (Configures-push (take n all) old mid new line taken.0 before taken.1 taken.2)

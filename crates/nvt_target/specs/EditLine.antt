@@ -4,7 +4,7 @@ use Rattle.std.specs.Fmt.{decimal}
 use Rattle.std.specs.List.{before_first, list_all}
 use Rattle.std.specs.Option.{option_or}
 use Rattle.std.specs.Str.{bytes_eq}
-use Rattle.nvt_config.specs.Port.{is_address_byte}
+use Rattle.nvt_config.specs.Text.{is_word_byte}
 use Rattle.nvt_config.specs.declared.edit.Edit.{Edit}
 use Rattle.nvt_config.specs.declared.edit.Edit.TheVariants.{PortAdd}
 use Rattle.nvt_config.specs.declared.port.Family.{Family}
@@ -26,9 +26,10 @@ port_add_line id family address service =
     codes "port" ++ 32 ∷ (codes "add" ++ 32 ∷ (decimal id ++ 32 ∷ (family_word family ++ 32 ∷
     (address ++ 32 ∷ decimal service))))
 
--- the one line of an edit
-abbrev pub line_of : Edit → List ℕ
-line_of (PortAdd id family address service) = port_add_line id family address service
+-- Whether this is the edit's one line. Until the edit language is built, `port add` alone has a line.
+abbrev pub IsLineOf : List ℕ → Edit → Type 0
+IsLineOf line (PortAdd id family address service) = line ≡ port_add_line id family address service
+IsLineOf line _ = ⊥
 
 -- what a word of a line has to be
 pub data Form : Type 0 where
@@ -46,7 +47,7 @@ abbrev pub allows : Form → List ℕ → Bool
 allows (keyword_form text) word = bytes_eq word text
 allows number_form word = is_number word
 allows family_form word = bytes_eq word (codes "ipv4") || bytes_eq word (codes "ipv6")
-allows address_form word = list_all is_address_byte word
+allows address_form word = list_all is_word_byte word
 
 abbrev pub kind_of : Form → LineFaultKind
 kind_of (keyword_form text) = UnknownWord

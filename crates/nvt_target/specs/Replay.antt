@@ -3,7 +3,7 @@ use Rattle.std.specs.Prelude.{◌≡◌, ℕ, ◌-◌, ◌≤◌, true, false, L
 use Rattle.nvt_config.specs.declared.edit.Edit.{Edit}
 use Rattle.nvt_config.specs.Accept.{accept}
 use Rattle.nvt_config.specs.Configuration.{Configuration, are_disks, disks_alone}
-use Rattle.nvt_target.specs.EditLine.{line_fault, line_of}
+use Rattle.nvt_target.specs.EditLine.{IsLineOf, line_fault}
 use Rattle.nvt_target.specs.Lines.{lines_of}
 use Rattle.nvt_target.specs.StreamLine.{IsStreamLine}
 use Rattle.nvt_target.specs.declared.replay.Reply.{Reply}
@@ -15,13 +15,13 @@ use Rattle.nvt_target.specs.declared.replay.ReplayFault.TheVariants.{EditLine, S
 abbrev pub Configures : List (List ℕ) → Configuration → Configuration → Type 0
 Configures [] old new = new ≡ old
 Configures (line ∷ lines) old new =
-    (edit : Edit) × (line ≡ line_of edit)
+    (edit : Edit) × IsLineOf line edit
     × (next : Configuration) × (accept old edit ≡ Ok next) × Configures lines next new
 
 -- the reply to a line: its fault, or why the configuration refuses its edit
 abbrev pub Refuses : Configuration → List ℕ → Reply → Type 0
 Refuses c line (reply.Line fault) = line_fault line ≡ Some fault
-Refuses c line (reply.Edit fault) = (edit : Edit) × (line ≡ line_of edit) × (accept c edit ≡ Err fault)
+Refuses c line (reply.Edit fault) = (edit : Edit) × IsLineOf line edit × (accept c edit ≡ Err fault)
 
 -- the line of this number, counted from 1
 abbrev pub line_at : List (List ℕ) → ℕ → List ℕ
@@ -71,7 +71,7 @@ RefusesLine Io c line n = ⊥
 RefusesLine Disks c line n = ⊥
 
 abbrev pub TakesLine : Configuration → List ℕ → ℕ → Result (Unit {0}) ReplayFault → Configuration → Type 0
-TakesLine old line n (Ok done) new = (edit : Edit) × (line ≡ line_of edit) × (accept old edit ≡ Ok new)
+TakesLine old line n (Ok done) new = (edit : Edit) × IsLineOf line edit × (accept old edit ≡ Ok new)
 TakesLine old line n (Err fault) new = RefusesLine fault old line n
 
 -- a fault of the edits or the disks: no line of the script has run

@@ -5,8 +5,8 @@ ghost use Rattle.std.specs.Prelude.{◌≡◌, ◌==◌, ◌+◌, ◌<◌, ◌�
 ghost use Rattle.std.specs.Fmt.{decimal};
 ghost use Rattle.std.specs.List.{before_first, list_all};
 ghost use Rattle.std.specs.Result.{result_err};
-ghost use Rattle.nvt_config.specs.Port.{is_address_byte};
-ghost use Rattle.nvt_target.specs.EditLine.{IsMoved, IsReadFault, absence, address_form, family_form, family_word, fault, fault_from, keyword_form, line_fault, line_of, number_form, port_add_line, word_at, word_fault};
+ghost use Rattle.nvt_config.specs.Text.{is_word_byte};
+ghost use Rattle.nvt_target.specs.EditLine.{IsLineOf, IsMoved, IsReadFault, absence, address_form, family_form, family_word, fault, fault_from, keyword_form, line_fault, number_form, port_add_line, word_at, word_fault};
 
 use crate::lines::find_byte;
 use crate::number::read_number;
@@ -79,7 +79,7 @@ impl From<LineFault> for ReadEditFault {
 
 /// The edit that a line says, or its first fault. Want of memory comes last.
 pub fn read_edit_line(alloc: Global, line: &[u8]) -> Result<Edit, ReadEditFault>
-    ensures ok { IfOk result (λ edit. line.now ≡ line_of edit) }
+    ensures ok { IfOk result (λ edit. IsLineOf line.now edit) }
     ensures sound { OnOk result (line_fault line.now ≡ None) }
     ensures fault { IfErr result (IsReadFault line.now) }
 {
@@ -254,7 +254,7 @@ fn first_word(text: &[u8]) -> &[u8]
 }
 
 fn is_printable(word: &[u8]) -> bool
-    ensures { result ≡ list_all is_address_byte word.now }
+    ensures { result ≡ list_all is_word_byte word.now }
 {
     word.iter().all(|b| (0x21..=0x7E).contains(b))
 }

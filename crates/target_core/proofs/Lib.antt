@@ -1,7 +1,7 @@
 pub mod Agreements
+pub mod Around
 pub mod Calls
 pub mod Heads
-pub mod Pages
 pub mod Plains
 pub mod Sessions
 pub mod Stepping

@@ -1,6 +1,7 @@
 -- What it means that a target agrees with a history, and with the bytes that each connection received
 -- and that were taken from it.
-use Rattle.std.specs.Prelude.{◌≡◌, ℕ, Bool, false, ◌==◌, List, [], ◌∷◌, ◌++◌, Option, Some, None, Result, MatchOption, MatchResult, if◌then◌else◌, take}
+use Rattle.std.specs.Prelude.{◌≡◌, ℕ, ◌%◌, ◌^◌, Bool, false, ◌==◌, List, [], ◌∷◌, ◌++◌, length, Option, Some, None, Result, MatchOption, MatchResult, if◌then◌else◌, take}
+use Rattle.discovery_view.specs.View.{count_in}
 use Rattle.pdu_cut.specs.declared.side.Side.TheVariants.{Target}
 use Rattle.pdu_cut.specs.Front.{Front, incomplete, whole, faulty, front}
 use Rattle.pdu_cut.specs.Pdu.{Pdu}
@@ -14,22 +15,28 @@ use Rattle.target_core.specs.declared.fault.Stepped.{Stepped}
 use Rattle.target_core.specs.declared.fault.Stepped.TheVariants.{Idle, One, Ended}
 use Rattle.target_core.specs.Connection.{ConnectionState}
 use Rattle.target_core.specs.Event.{Event, edited, opened, took, given_up}
-use Rattle.target_core.specs.History.{Conversation, config_of, conversation_of, has_ended, sent, session_of}
+use Rattle.target_core.specs.History.{Conversation, Taken, config_of, conversation_of, generation_of, is_over, sent, session_in}
 use Rattle.target_core.specs.Target.{TargetState, connection_at, front_at}
 
 -- the whole PDUs that were taken, the oldest first
-abbrev pub pdus_in : List Front → List Pdu
+abbrev pub with_pdu : Front → List Pdu → List Pdu
+with_pdu (whole pdu) pdus = pdus ++ pdu ∷ []
+with_pdu (faulty fault head) pdus = pdus
+with_pdu incomplete pdus = pdus
+
+abbrev pub pdus_in : List Taken → List Pdu
 pdus_in [] = []
-pdus_in (whole pdu ∷ before) = pdus_in before ++ pdu ∷ []
-pdus_in (faulty fault head ∷ before) = pdus_in before
-pdus_in (incomplete ∷ before) = pdus_in before
+pdus_in (taken ∷ before) = with_pdu taken.front (pdus_in before)
 
 -- what was taken last, where it is a fault, stands at the front of the bytes that are held
-abbrev pub FaultStands : List Front → List ℕ → Type 0
+abbrev pub StandsAt : Front → List ℕ → Type 0
+StandsAt (whole pdu) held = Unit {0}
+StandsAt incomplete held = Unit {0}
+StandsAt (faulty fault head) held = front Target held ≡ faulty fault head
+
+abbrev pub FaultStands : List Taken → List ℕ → Type 0
 FaultStands [] held = Unit {0}
-FaultStands (whole pdu ∷ before) held = Unit {0}
-FaultStands (incomplete ∷ before) held = Unit {0}
-FaultStands (faulty fault head ∷ before) held = front Target held ≡ faulty fault head
+FaultStands (taken ∷ before) held = StandsAt taken.front held
 
 -- A connection agrees with its conversation, with the bytes it was sent, with those it received and with
 -- those that were taken from it: its port and its session are those of the conversation; what it received
@@ -37,7 +44,7 @@ FaultStands (faulty fault head ∷ before) held = front Target held ≡ faulty f
 -- its output.
 pub record ConnectionAgrees (c : ConnectionState) (v : Conversation) (was_sent received taken : List ℕ) : Type 0 where
   pub port : c.port ≡ v.port
-  pub session : c.session ≡ session_of v.taken
+  pub session : c.session ≡ session_in v
   pub stream : BeginsWith Target received (pdus_in v.taken) c.held
   pub fault : FaultStands v.taken c.held
   pub output : was_sent ≡ taken ++ c.output
@@ -51,10 +58,14 @@ AgreesAt (Some c) None was_sent received taken = ⊥
 AgreesAt None (Some v) was_sent received taken = ⊥
 
 -- A target agrees with the disks and events of a history, with what each connection received since it was
--- opened, and with what was taken from it since.
+-- opened, and with what was taken from it since. Its discovery view shows each host the records of that
+-- configuration, and counts the edits that changed them; it has places for 64 connections.
 pub record Agrees (t : TargetState) (units : List ℕ) (events : List Event) (received taken : ℕ → List ℕ) : Type 0 where
   pub config : t.config ≡ config_of units events
-  pub each : (k : ℕ) → AgreesAt (connection_at t k) (conversation_of events k) (sent units events k) (received k) (taken k)
+  pub shown : t.shown.now ≡ config_of units events
+  pub counts : (host : List ℕ) → count_in t.shown host ≡ generation_of units events host % 2 ^ 64
+  pub places : length t.connections ≡ 64
+  pub each : (k : ℕ) → AgreesAt (connection_at t k) (conversation_of units events k) (sent units events k) (received k) (taken k)
 
 -- what connection k had, and more
 abbrev pub extended : (ℕ → List ℕ) → ℕ → List ℕ → ℕ → List ℕ
@@ -121,9 +132,9 @@ EndAgrees k old new = MatchOption (connection_at old k) (AgreesStill old new) (�
 
 abbrev pub has_ended_by : Option Conversation → Bool
 has_ended_by None = false
-has_ended_by (Some v) = has_ended v.taken
+has_ended_by (Some v) = is_over v
 
 -- whatever history the target agrees with, the answer says whether that history has ended the connection
 pub record EndedAgrees (k : ℕ) (t : TargetState) (ended : Bool) : Type 0 where
   pub tells : (units : List ℕ) (events : List Event) (received taken : ℕ → List ℕ)
-      → Agrees t units events received taken → ended ≡ has_ended_by (conversation_of events k)
+      → Agrees t units events received taken → ended ≡ has_ended_by (conversation_of units events k)

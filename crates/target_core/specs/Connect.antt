@@ -1,10 +1,10 @@
--- Connect (Base 2.0, section 6.3), to the discovery controller.
-use Rattle.std.specs.Prelude.{ℕ, ◌+◌, Bool, true, false, not, ◌==◌, ◌||◌, ◌&&◌, nat_eq, nat_lt, List, length, slice_range, codes, Option, Some, None, is_none, Result, Ok, Err, if◌then◌else◌}
+-- Connect (Base 2.0, section 6.3), to a discovery controller.
+use Rattle.std.specs.Prelude.{ℕ, ◌+◌, Bool, true, false, not, ◌==◌, ◌||◌, ◌&&◌, nat_eq, nat_lt, List, [], length, slice_range, Option, Some, None, is_none, Result, Ok, Err, if◌then◌else◌}
 use lib.Pointwise.{pointwise}
 use Rattle.nvt_fields.specs.declared.status.Status.{Status}
-use Rattle.nvt_fields.specs.Status.{incompatible_format, connect_invalid_parameters, sgl_type_invalid, data_sgl_length_invalid, sgl_offset_invalid}
+use Rattle.nvt_fields.specs.Status.{incompatible_format, connect_controller_busy, connect_invalid_parameters, sgl_type_invalid, data_sgl_length_invalid, sgl_offset_invalid}
 use Rattle.nvt_fields.specs.Field.{field_at}
-use Rattle.nvt_fields.specs.Name.{fault_of, up_to_zero}
+use Rattle.nvt_fields.specs.Name.{discovery_nqn, fault_of, up_to_zero}
 use Rattle.pdu_codec.specs.declared.command.Connect.{Connect}
 use Rattle.pdu_codec.specs.declared.sgl.Sgl.{Sgl}
 use Rattle.pdu_codec.specs.declared.sgl.SglType.{SglType}
@@ -13,7 +13,6 @@ use Rattle.pdu_codec.specs.Sqe.{connect_of, sgl1_of}
 use Rattle.target_core.specs.declared.capsule.Success.{Success}
 use Rattle.target_core.specs.declared.capsule.Refusal.{Refusal}
 use Rattle.target_core.specs.declared.decision.Change.TheVariants as change
-use Rattle.target_core.specs.AdminQueue.{new_queue}
 use Rattle.target_core.specs.Outcome.{done, refuse, refused}
 
 abbrev pub is_capsule_offset : SglType → Bool
@@ -29,15 +28,11 @@ connect_data sgl bytes =
     if nat_lt (length bytes) (sgl.address + 1024) then Err sgl_offset_invalid else
     Ok (slice_range bytes sgl.address (sgl.address + 1024))
 
--- the subsystem of discovery controllers (Base 2.0, section 4.5)
-abbrev pub discovery_nqn : List ℕ
-discovery_nqn = codes "nqn.2014-08.org.nvmexpress.discovery"
-
 -- whether a field holds a well-formed name
 abbrev pub holds_name : List ℕ → Bool
 holds_name field = is_none (fault_of (up_to_zero field))
 
--- Until subsystems are built, no other subsystem is known.
+-- Until other controllers are built, the discovery subsystem alone is known.
 abbrev pub is_known_subsystem : List ℕ → Bool
 is_known_subsystem field = holds_name field && pointwise nat_eq (up_to_zero field) discovery_nqn
 
@@ -52,19 +47,29 @@ invalid_parameter connect bytes =
     if not (connect.qid == 0) then Some 0x2A else
     if not (field_at 2 16 bytes == 0xFFFF) then Some 0x10010 else None
 
--- the controller's identifier is 1, the least that is free
-abbrev pub admitted_by : Option ℕ → Connect → Result Success Refusal
-admitted_by None connect = done 1 (change.Connect (new_queue connect.sqsize))
-admitted_by (Some result) connect = Err (record { status = connect_invalid_parameters; result = result })
+-- a new controller gets the identifier that is free, if there is one
+abbrev pub admitted_by : Option ℕ → Option ℕ → Connect → Result Success Refusal
+admitted_by (Some result) free connect = Err (record { status = connect_invalid_parameters; result = result })
+admitted_by None None connect = refused connect_controller_busy
+admitted_by None (Some cntlid) connect =
+    done cntlid (change.Connect (record { cntlid = cntlid; sqsize = connect.sqsize }))
 
-abbrev pub admitted : Connect → List ℕ → Result Success Refusal
-admitted connect bytes =
-    refuse (not (connect.recfmt == 0)) incompatible_format (admitted_by (invalid_parameter connect bytes) connect)
+abbrev pub admitted : Option ℕ → Connect → List ℕ → Result Success Refusal
+admitted free connect bytes =
+    refuse (not (connect.recfmt == 0)) incompatible_format (admitted_by (invalid_parameter connect bytes) free connect)
 
-abbrev pub connected_by : Result (List ℕ) Status → Connect → Result Success Refusal
-connected_by (Err status) connect = refused status
-connected_by (Ok bytes) connect = admitted connect bytes
+abbrev pub connected_by : Result (List ℕ) Status → Option ℕ → Connect → Result Success Refusal
+connected_by (Err status) free connect = refused status
+connected_by (Ok bytes) free connect = admitted free connect bytes
 
--- what a Connect comes to, by its entry and the data in its capsule
-abbrev pub connect : List ℕ → List ℕ → Result Success Refusal
-connect entry bytes = connected_by (connect_data (sgl1_of entry) bytes) (connect_of entry)
+-- what a Connect comes to, by its entry and the data in its capsule, where this identifier is free
+abbrev pub connect : Option ℕ → List ℕ → List ℕ → Result Success Refusal
+connect free entry bytes = connected_by (connect_data (sgl1_of entry) bytes) free (connect_of entry)
+
+abbrev pub host_in_data : Result (List ℕ) Status → List ℕ
+host_in_data (Err status) = []
+host_in_data (Ok bytes) = up_to_zero (slice_range bytes 512 768)
+
+-- the host that a Connect names
+abbrev pub host_named : List ℕ → List ℕ → List ℕ
+host_named entry bytes = host_in_data (connect_data (sgl1_of entry) bytes)

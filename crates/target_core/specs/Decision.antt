@@ -1,5 +1,5 @@
 -- What is owed to a PDU, what a decision sends and where it leaves the session.
-use Rattle.std.specs.Prelude.{ℕ, ◌*◌, nat_lt, not, ◌==◌, List, slice_range, [], ◌++◌, length, Option, Some, None, true, if◌then◌else◌}
+use Rattle.std.specs.Prelude.{ℕ, ◌*◌, nat_lt, not, ◌==◌, List, slice_range, [], ◌++◌, length, Option, Some, None, Bool, true, false, if◌then◌else◌}
 use Rattle.nvt_fields.specs.FatalErrorStatus.{fatal_code_of}
 use Rattle.nvt_fields.specs.declared.pdu_type.PduType.{PduType}
 use Rattle.nvt_fields.specs.declared.pdu_type.PduType.TheVariants.{IcReq, H2cTermReq, CapsuleCmd, H2cData}
@@ -8,7 +8,7 @@ use Rattle.nvt_fields.specs.declared.termination.FatalErrorStatus.TheVariants.{I
 use Rattle.pdu_codec.specs.declared.initialize.IcReq as ic_req
 use Rattle.pdu_codec.specs.Sqe.{cid_of}
 use Rattle.pdu_cut.specs.Front.{Front, incomplete, whole, faulty}
-use Rattle.target_core.specs.LogPage.{window}
+use Rattle.nvt_fields.specs.Window.{window}
 use Rattle.pdu_cut.specs.Pdu.{Pdu, header_part, data_part}
 use Rattle.target_core.specs.Capsule.{command, reply_of}
 use Rattle.target_core.specs.declared.queue.AdminQueue.{AdminQueue}
@@ -22,7 +22,9 @@ use Rattle.target_core.specs.declared.decision.Decision.{Decision}
 use Rattle.target_core.specs.declared.decision.Decision.TheVariants as decision
 use Rattle.target_core.specs.declared.decision.Reply.{Reply}
 use Rattle.target_core.specs.declared.decision.PageRange.{PageRange}
-use Rattle.target_core.specs.AdminQueue.{responded}
+use Rattle.target_core.specs.AdminQueue.{new_queue, responded}
+use Rattle.target_core.specs.Connect.{host_named}
+use Rattle.target_core.specs.Surroundings.{Surroundings}
 use Rattle.target_core.specs.declared.session.Session.{Session}
 use Rattle.target_core.specs.declared.session.Session.TheVariants.{Opened, Initialized, Connected, Ended}
 
@@ -42,31 +44,31 @@ first_by H2cTermReq pdu = decision.Close
 first_by _ pdu = terminate SequenceError 0
 
 -- a capsule, with at most 8,192 bytes of data
-abbrev pub capsule : Option AdminQueue → Pdu → Decision
-capsule queue pdu =
+abbrev pub capsule : Option AdminQueue → Surroundings → Pdu → Decision
+capsule queue around pdu =
     let entry = slice_range (header_part pdu) 8 72 in
     if nat_lt 8192 (length (data_part pdu)) then terminate LimitExceeded 0 else
-    decision.Reply (reply_of queue (cid_of entry) (command queue entry (data_part pdu)))
+    decision.Reply (reply_of queue (cid_of entry) (command queue around entry (data_part pdu)))
 
 -- a PDU after the first; no command that is built asks for data, so no H2CData has a known TTAG
-abbrev pub next_by : PduType → Option AdminQueue → Pdu → Decision
-next_by H2cTermReq queue pdu = decision.Close
-next_by CapsuleCmd queue pdu = capsule queue pdu
-next_by H2cData queue pdu = terminate InvalidHeaderField 10
-next_by _ queue pdu = terminate SequenceError 0
+abbrev pub next_by : PduType → Option AdminQueue → Surroundings → Pdu → Decision
+next_by H2cTermReq queue around pdu = decision.Close
+next_by CapsuleCmd queue around pdu = capsule queue around pdu
+next_by H2cData queue around pdu = terminate InvalidHeaderField 10
+next_by _ queue around pdu = terminate SequenceError 0
 
 -- what is owed to a whole PDU
-abbrev pub decision_of : Session → Pdu → Decision
-decision_of Opened pdu = first_by pdu.kind pdu
-decision_of Initialized pdu = next_by pdu.kind None pdu
-decision_of (Connected q) pdu = next_by pdu.kind (Some q) pdu
-decision_of Ended pdu = decision.Close
+abbrev pub decision_of : Session → Surroundings → Pdu → Decision
+decision_of Opened around pdu = first_by pdu.kind pdu
+decision_of Initialized around pdu = next_by pdu.kind None around pdu
+decision_of (Connected q) around pdu = next_by pdu.kind (Some q) around pdu
+decision_of Ended around pdu = decision.Close
 
 -- what is owed to what stands at the front of a stream
-abbrev pub decision_at : Session → Front → Decision
-decision_at session incomplete = decision.Close
-decision_at session (whole pdu) = decision_of session pdu
-decision_at session (faulty fault head) = terminate fault.fes fault.fei
+abbrev pub decision_at : Session → Surroundings → Front → Decision
+decision_at session around incomplete = decision.Close
+decision_at session around (whole pdu) = decision_of session around pdu
+decision_at session around (faulty fault head) = terminate fault.fes fault.fei
 
 -- the data of a reply, whole in one PDU, where it has data
 abbrev pub data_pdu : ℕ → Option PageRange → List ℕ → List ℕ
@@ -84,18 +86,41 @@ wire_of (decision.Reply r) head window = data_pdu r.cid r.«data» window ++ res
 wire_of (decision.Terminate t) head window = c2h_term_req (fatal_code_of t.fes) t.fei head
 wire_of decision.Close head window = []
 
--- the session after a reply
-abbrev pub replied : Session → Change → Session
-replied session (Connect q) = Connected (responded q)
-replied (Connected q) Stay = Connected (responded q)
-replied (Connected q) (Set registers) = Connected (record (responded q) { registers = registers })
-replied session change = session
+abbrev pub is_command : PduType → Bool
+is_command CapsuleCmd = true
+is_command _ = false
 
-abbrev pub session_after : Session → Decision → Session
-session_after session decision.Initialize = Initialized
-session_after session (decision.Reply r) = replied session r.change
-session_after session (decision.Terminate t) = Ended
-session_after session decision.Close = Ended
+-- the host that a capsule names, where it is a Connect
+abbrev pub host_in : Front → List ℕ
+host_in (whole pdu) =
+    if is_command pdu.kind then host_named (slice_range (header_part pdu) 8 72) (data_part pdu) else []
+host_in incomplete = []
+host_in (faulty fault head) = []
+
+-- the queue that a change makes, for this host
+abbrev pub queue_by : Change → List ℕ → Option AdminQueue
+queue_by (Connect a) host = Some (new_queue a host)
+queue_by Stay host = None
+queue_by (Set registers) host = None
+
+abbrev pub queue_made : Decision → List ℕ → Option AdminQueue
+queue_made (decision.Reply r) host = queue_by r.change host
+queue_made decision.Initialize host = None
+queue_made (decision.Terminate t) host = None
+queue_made decision.Close host = None
+
+-- the session after a reply to a PDU that names this host
+abbrev pub replied : Session → Change → List ℕ → Session
+replied session (Connect a) host = Connected (responded (new_queue a host))
+replied (Connected q) Stay host = Connected (responded q)
+replied (Connected q) (Set registers) host = Connected (record (responded q) { registers = registers })
+replied session change host = session
+
+abbrev pub session_after : Session → Decision → List ℕ → Session
+session_after session decision.Initialize host = Initialized
+session_after session (decision.Reply r) host = replied session r.change host
+session_after session (decision.Terminate t) host = Ended
+session_after session decision.Close host = Ended
 
 -- what a termination returns of the PDU in error: its header, or the 8 bytes that are faulty
 abbrev pub head_of : Front → List ℕ

@@ -3,6 +3,7 @@ pub mod Agreement
 pub mod Capsule
 pub mod Connect
 pub mod Connection
+pub mod Controllers
 pub mod Decision
 pub mod Event
 pub mod History
@@ -10,4 +11,5 @@ pub mod LogPage
 pub mod Outcome
 pub mod Plain
 pub mod Registers
+pub mod Surroundings
 pub mod Target

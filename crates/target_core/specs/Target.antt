@@ -1,6 +1,10 @@
 -- A target, as its calls see it.
-use Rattle.std.specs.Prelude.{◌≡◌, ℕ, ◌==◌, Bool, false, List, [], Option, Some, None, is_none, find, Result, Ok, Err, IsErr, MatchResult, ◌++◌, min, length, take, drop, if◌then◌else◌}
-use Rattle.nvt_config.specs.Configuration.{Configuration}
+use Rattle.std.specs.Prelude.{◌≡◌, ℕ, ◌==◌, Bool, false, List, [], Option, Some, None, is_none, find, position, replicate, Result, Ok, Err, IsErr, IsTrue, MatchResult, ◌++◌, map, min, length, take, drop, if◌then◌else◌}
+use Rattle.std.specs.Option.{option_map}
+use Rattle.discovery_view.specs.View.{Shown, first_shown, shown_next}
+use Rattle.number_table.specs.Table.{place, with_value, without}
+use Rattle.nvt_config.specs.Configuration.{Configuration, disks_alone}
+use Rattle.nvt_config.specs.declared.edit.Edit.{Edit}
 use Rattle.nvt_config.specs.declared.port.Port.{Port}
 use Rattle.pdu_cut.specs.declared.side.Side.TheVariants.{Target as target_side}
 use Rattle.pdu_cut.specs.Front.{Front, incomplete, front}
@@ -10,30 +14,59 @@ use Rattle.target_core.specs.declared.fault.OpenFault.TheVariants.{NoSuchPort, F
 use Rattle.target_core.specs.declared.fault.StepFault.{StepFault}
 use Rattle.target_core.specs.declared.fault.StepFault.TheVariants as step
 use Rattle.target_core.specs.declared.fault.Stepped.{Stepped}
-use Rattle.target_core.specs.LogPage.{discovery_page}
-use Rattle.target_core.specs.Connection.{ConnectionState, Steps, ends, room_of}
+use Rattle.target_core.specs.declared.session.Session.{Session}
+use Rattle.target_core.specs.Connection.{ConnectionState, Steps, awaits_connect, edited_by, ends, room_of, seen}
+use Rattle.target_core.specs.Controllers.{free_cntlid}
+use Rattle.target_core.specs.Surroundings.{Surroundings}
 
--- the configuration, and the connection of number 0 where it is known
+-- the configuration, what its discovery view shows, and the connection of each number that is known
 pub record TargetState : Type 0 where
   pub config : Configuration
-  pub connection : Option ConnectionState
+  pub shown : Shown
+  pub connections : List (Option ConnectionState)
+
+-- the disks alone, and no connection of the 64 that there may be
+abbrev pub new_target : List ℕ → TargetState
+new_target units = record {
+  config = disks_alone units;
+  shown = first_shown (disks_alone units);
+  connections = replicate 64 None;
+}
 
 -- the known connection of this number
 abbrev pub connection_at : TargetState → ℕ → Option ConnectionState
-connection_at t k = if k == 0 then t.connection else None
+connection_at t k = place t.connections k
 
-abbrev pub with_connection : TargetState → ConnectionState → TargetState
-with_connection t c = record t { connection = Some c }
+abbrev pub session_at : TargetState → ℕ → Option Session
+session_at t k = option_map (λ c. c.session) (connection_at t k)
+
+abbrev pub with_connection : TargetState → ℕ → ConnectionState → TargetState
+with_connection t k c = record t { connections = with_value t.connections k c }
+
+abbrev pub without_connection : TargetState → ℕ → TargetState
+without_connection t k = record t { connections = without t.connections k }
+
+-- after an edit, with the configuration that it makes: the connections of a port that it deletes are ended
+abbrev pub edited_target : TargetState → Edit → Configuration → TargetState
+edited_target t edit c = record {
+  config = c;
+  shown = shown_next c t.shown;
+  connections = map (option_map (edited_by edit)) t.connections;
+}
 
 -- the configuration's port of this number
 abbrev pub port_of : Configuration → ℕ → Option Port
 port_of c id = find (λ port. port.id == id) c.ports
 
+-- the least number that no known connection has
+abbrev pub free_number : TargetState → Option ℕ
+free_number t = position is_none t.connections
+
 -- why a connection on this port is not opened, memory aside
 abbrev pub open_fault : TargetState → ℕ → Option OpenFault
 open_fault t port =
     if is_none (port_of t.config port) then Some NoSuchPort else
-    if is_none t.connection then None else Some Full
+    if is_none (free_number t) then Some Full else None
 
 abbrev pub room_at : Option ConnectionState → ℕ
 room_at None = 0
@@ -52,25 +85,31 @@ abbrev pub is_ended_at : Option ConnectionState → Bool
 is_ended_at None = false
 is_ended_at (Some c) = ends c.session
 
--- A step of a connection, where no edit that is built has changed the log page's records: NoConn where none is known, and else its own, which memory alone refuses
-abbrev pub StepsAt : Option ConnectionState → TargetState → Result Stepped StepFault → TargetState → Type 0
-StepsAt None old result new = (result ≡ Err step.NoConn) × (new ≡ old)
-StepsAt (Some c) old result new =
+-- what a connection has around it
+abbrev pub around_at : TargetState → ConnectionState → Surroundings
+around_at t c = seen (free_cntlid (session_at t)) t.shown c.session
+
+-- an identifier that is free, where it is looked for
+abbrev pub FreeFor : Option ConnectionState → Option ℕ → Option ℕ → Type 0
+FreeFor None free found = Unit {0}
+FreeFor (Some c) free found = IsTrue (awaits_connect c.session) → found ≡ free
+
+-- a step of connection k: NoConn where none is known, and else its own, which memory alone refuses
+abbrev pub StepsAt : ℕ → Option ConnectionState → TargetState → Result Stepped StepFault → TargetState → Type 0
+StepsAt k None old result new = (result ≡ Err step.NoConn) × (new ≡ old)
+StepsAt k (Some c) old result new =
     MatchResult result
-    (λ stepped. (after : ConnectionState) × Steps (discovery_page 0 []) c stepped after × (new ≡ with_connection old after))
+    (λ stepped. (after : ConnectionState) × Steps (around_at old c) c stepped after × (new ≡ with_connection old k after))
     (λ fault. (fault ≡ step.Memory) × (new ≡ old))
 
-abbrev pub without_connection : TargetState → ℕ → TargetState
-without_connection t k = if k == 0 then record t { connection = None } else t
-
 -- a connection receives as much of a piece as it has room for
-abbrev pub ReceivesAt : Option ConnectionState → TargetState → List ℕ → Result ℕ NoConn → TargetState → Type 0
-ReceivesAt None old piece result new = IsErr result × (new ≡ old)
-ReceivesAt (Some c) old piece result new =
+abbrev pub ReceivesAt : ℕ → Option ConnectionState → TargetState → List ℕ → Result ℕ NoConn → TargetState → Type 0
+ReceivesAt k None old piece result new = IsErr result × (new ≡ old)
+ReceivesAt k (Some c) old piece result new =
     let taken = min (room_of c) (length piece) in
-    (result ≡ Ok taken) × (new ≡ with_connection old (record c { held = c.held ++ take taken piece }))
+    (result ≡ Ok taken) × (new ≡ with_connection old k (record c { held = c.held ++ take taken piece }))
 
 -- the first bytes of a connection's output are taken away
-abbrev pub TakenAt : Option ConnectionState → TargetState → ℕ → TargetState → Type 0
-TakenAt None old len new = new ≡ old
-TakenAt (Some c) old len new = new ≡ with_connection old (record c { output = drop len c.output })
+abbrev pub TakenAt : ℕ → Option ConnectionState → TargetState → ℕ → TargetState → Type 0
+TakenAt k None old len new = new ≡ old
+TakenAt k (Some c) old len new = new ≡ with_connection old k (record c { output = drop len c.output })

@@ -2,12 +2,16 @@
 ghost use Rattle.std.specs.Prelude.{◌≡◌};
 ghost use Rattle.std.specs.Option.{option_copied};
 ghost use Rattle.target_core.specs.Capsule.{command, first_command, head_after, queue_command, reply_of};
-ghost use Rattle.target_core.specs.Decision.{capsule};
+ghost use Rattle.discovery_view.specs.View.{page_in};
+ghost use Rattle.pdu_cut.specs.Front.{whole};
+ghost use Rattle.target_core.specs.AdminQueue.{host_of};
+ghost use Rattle.target_core.specs.Decision.{capsule, host_in};
 ghost use Rattle.target_core.specs.Outcome.{done, refused};
 
 use crate::decision::{Change, Decision, PageRange, Reply, terminate};
-use crate::queue::AdminQueue;
+use crate::queue::{AdminQueue, next_head};
 use crate::{admin, connect, fabrics};
+use discovery_view::DiscoveryView;
 use nvt_fields::{FatalErrorStatus, PduType, Status};
 use pdu_codec::Sqe;
 use pdu_cut::PduView;
@@ -36,10 +40,17 @@ pub(crate) struct Refusal {
     pub result: u64,
 }
 
-/// What is owed to a capsule on this queue, or on a connection that has none.
-pub(crate) fn decide(queue: Option<&AdminQueue>, pdu: &PduView<'_>) -> Decision
+/// What is owed to a capsule on this queue, or on a connection that has none, where this controller
+/// identifier is free.
+pub(crate) fn decide(
+    queue: Option<&AdminQueue>,
+    view: &DiscoveryView,
+    free: Option<u16>,
+    pdu: &PduView<'_>,
+) -> Decision
     requires { pdu.now.kind ≡ PduType.CapsuleCmd }
-    ensures { result ≡ capsule (option_copied queue.entry) pdu.now }
+    ensures { let queue = option_copied queue.entry in
+        result ≡ capsule queue (record { free = free; page = page_in view.now.shown (host_of queue) }) pdu.now }
 {
     let payload = pdu.data();
     if payload.len() > IN_CAPSULE_MAX {
@@ -47,39 +58,57 @@ pub(crate) fn decide(queue: Option<&AdminQueue>, pdu: &PduView<'_>) -> Decision
     }
     let header = <&[u8; 72]>::try_from(pdu.header()).unwrap();
     let sqe = Sqe::read(header);
-    let outcome = command(queue, &sqe, payload);
+    let outcome = command(queue, view, free, &sqe, payload);
     Decision::Reply(reply(queue, sqe.cid(), outcome))
 }
 
-fn command(queue: Option<&AdminQueue>, sqe: &Sqe<'_>, payload: &[u8]) -> Outcome
-    ensures { result ≡ command (option_copied queue.entry) sqe.now.entry.now payload.now }
+/// The host that a capsule names, where it is a Connect; of another PDU no byte.
+pub(crate) fn host_name<'a>(pdu: &PduView<'a>) -> &'a [u8]
+    ensures { result.now ≡ host_in (whole pdu.now) }
+{
+    if pdu.kind() != PduType::CapsuleCmd {
+        return &[];
+    }
+    let header = <&[u8; 72]>::try_from(pdu.header()).unwrap();
+    connect::host_name(&Sqe::read(header), pdu.data())
+}
+
+fn command(
+    queue: Option<&AdminQueue>,
+    view: &DiscoveryView,
+    free: Option<u16>,
+    sqe: &Sqe<'_>,
+    payload: &[u8],
+) -> Outcome
+    ensures { let queue = option_copied queue.entry in
+        result ≡ command queue (record { free = free; page = page_in view.now.shown (host_of queue) }) sqe.now.entry.now payload.now }
 {
     if sqe.fuse() != 0 {
         return refused(Status::INVALID_FIELD);
     }
     match queue {
-        None => before_connect(sqe, payload),
-        Some(queue) => on_admin_queue(queue, sqe),
+        None => before_connect(free, sqe, payload),
+        Some(queue) => on_admin_queue(queue, view, sqe),
     }
 }
 
-fn before_connect(sqe: &Sqe<'_>, payload: &[u8]) -> Outcome
-    ensures { result ≡ first_command sqe.now.entry.now payload.now }
+fn before_connect(free: Option<u16>, sqe: &Sqe<'_>, payload: &[u8]) -> Outcome
+    ensures { result ≡ first_command free sqe.now.entry.now payload.now }
 {
     if sqe.opcode() == FABRICS && sqe.fctype() == fabrics::CONNECT {
-        connect::command(sqe, payload)
+        connect::command(free, sqe, payload)
     } else {
         refused(Status::COMMAND_SEQUENCE_ERROR)
     }
 }
 
-fn on_admin_queue(queue: &AdminQueue, sqe: &Sqe<'_>) -> Outcome
-    ensures { result ≡ queue_command queue.now sqe.now.entry.now }
+fn on_admin_queue(queue: &AdminQueue, view: &DiscoveryView, sqe: &Sqe<'_>) -> Outcome
+    ensures { result ≡ queue_command queue.now (page_in view.now.shown queue.now.host) sqe.now.entry.now }
 {
     if sqe.opcode() == FABRICS {
         fabrics::command(queue, sqe)
     } else if queue.registers.is_ready() {
-        admin::command(sqe)
+        admin::command(view, &queue.host, sqe)
     } else {
         refused(Status::COMMAND_SEQUENCE_ERROR)
     }
@@ -113,7 +142,7 @@ fn head_after(queue: Option<&AdminQueue>, change: &Change) -> u16
     ensures { result ≡ head_after (option_copied queue.entry) change.now }
 {
     match (queue, change) {
-        (_, Change::Connect(queue)) => queue.next_head(),
+        (_, Change::Connect(admission)) => next_head(admission.sqsize, 0),
         (Some(queue), _) => queue.next_head(),
         (None, _) => 0,
     }

@@ -1,18 +1,11 @@
-//! Connect (Base 2.0, section 6.3), to the discovery controller alone.
+//! Connect (Base 2.0, section 6.3), to a discovery controller alone.
 ghost use Rattle.std.specs.Prelude.{◌≡◌, MatchResult};
-ghost use Rattle.target_core.specs.Connect.{admitted, connect, connect_data, holds_name, invalid_parameter, is_known_subsystem};
+ghost use Rattle.target_core.specs.Connect.{admitted, connect, connect_data, holds_name, host_named, invalid_parameter, is_known_subsystem};
 
 use crate::capsule::{Outcome, Refusal, done, refused};
-use crate::decision::Change;
-use crate::queue::AdminQueue;
-use nvt_fields::{Status, nqn_field};
+use crate::decision::{Admission, Change};
+use nvt_fields::{DISCOVERY_NQN, Status, nqn_field, up_to_zero};
 use pdu_codec::{Connect, ConnectData, Sgl, SglType, Sqe};
-
-/// The name of the discovery subsystem (Base 2.0, section 4.5), served on every port to every host.
-const DISCOVERY_NQN: &[u8; 36] = b"nqn.2014-08.org.nvmexpress.discovery";
-
-/// The one controller's identifier: the least free.
-const CNTLID: u16 = 1;
 
 /// What a host writes where the subsystem chooses the controller.
 const ANY_CONTROLLER: u16 = 0xFFFF;
@@ -35,31 +28,49 @@ const SUBNQN: u64 = DATA + 0x100;
 const HOSTNQN: u64 = DATA + 0x200;
 
 /// Answers a Connect: with a new controller, or with the first reason against it.
-pub(crate) fn command(sqe: &Sqe<'_>, payload: &[u8]) -> Outcome
-    ensures { result ≡ connect sqe.now.entry.now payload.now }
+pub(crate) fn command(free: Option<u16>, sqe: &Sqe<'_>, payload: &[u8]) -> Outcome
+    ensures { result ≡ connect free sqe.now.entry.now payload.now }
 {
     match in_capsule(&sqe.sgl1(), payload) {
-        Ok(bytes) => admit(&Connect::read(sqe), bytes),
+        Ok(bytes) => admit(free, &Connect::read(sqe), bytes),
         Err(status) => refused(status),
     }
 }
 
-fn admit(connect: &Connect, bytes: &[u8; 1024]) -> Outcome
-    ensures { result ≡ admitted connect.now bytes.now }
+/// The host that a Connect names; no byte where its data is not there.
+pub(crate) fn host_name<'a>(sqe: &Sqe<'_>, payload: &'a [u8]) -> &'a [u8]
+    ensures { result.now ≡ host_named sqe.now.entry.now payload.now }
+{
+    match in_capsule(&sqe.sgl1(), payload) {
+        Ok(bytes) => {
+            let field = ConnectData::read(bytes).hostnqn;
+            up_to_zero(field)
+        }
+        Err(_) => &[],
+    }
+}
+
+// A new controller gets the identifier that is free, if there is one.
+fn admit(free: Option<u16>, connect: &Connect, bytes: &[u8; 1024]) -> Outcome
+    ensures { result ≡ admitted free connect.now bytes.now }
 {
     if connect.recfmt != 0 {
         return refused(Status::INCOMPATIBLE_FORMAT);
     }
-    match invalid_parameter(connect, bytes) {
-        Some(result) => Err(Refusal {
+    if let Some(result) = invalid_parameter(connect, bytes) {
+        return Err(Refusal {
             status: Status::CONNECT_INVALID_PARAMETERS,
             result,
-        }),
-        None => done(
-            u64::from(CNTLID),
-            Change::Connect(AdminQueue::new(connect.sqsize)),
-        ),
+        });
     }
+    let Some(cntlid) = free else {
+        return refused(Status::CONNECT_CONTROLLER_BUSY);
+    };
+    let sqsize = connect.sqsize;
+    done(
+        u64::from(cntlid),
+        Change::Connect(Admission { cntlid, sqsize }),
+    )
 }
 
 // The command's data, which has to be in the capsule and whole.
@@ -79,7 +90,7 @@ fn in_capsule<'a>(sgl: &Sgl, payload: &'a [u8]) -> Result<&'a [u8; 1024], Status
     Ok(<&[u8; 1024]>::try_from(&payload[at..at + 1024]).unwrap())
 }
 
-// The first parameter that is invalid. Until subsystems are built, no name but the discovery
+// The first parameter that is invalid. Until other controllers are built, no name but the discovery
 // subsystem's is known.
 fn invalid_parameter(connect: &Connect, bytes: &[u8; 1024]) -> Option<u64>
     ensures { result ≡ invalid_parameter connect.now bytes.now }

@@ -1,15 +1,22 @@
 //! One connection: its stream, its session, and what it has to send.
 ghost use Rattle.std.specs.Prelude.{◌≡◌, ◌+◌, ◌≤◌, [], ◌++◌, IfOk, OnOk, OnErr, length, take, drop, min};
-ghost use Rattle.target_core.specs.Connection.{Steps, ends, opened_on, room_of};
-ghost use Rattle.target_core.specs.Decision.{data_of, replied, session_after, wire_of};
-ghost use Rattle.target_core.specs.LogPage.{discovery_page};
+ghost use Rattle.target_core.specs.Connection.{Steps, deletes_port, edited_by, ends, opened_on, queue_in, room_of, seen};
+ghost use Rattle.discovery_view.specs.View.{page_in};
+ghost use Rattle.target_core.specs.AdminQueue.{host_of};
+ghost use Rattle.target_core.specs.Decision.{data_of, queue_by, queue_made, replied, session_after, wire_of};
 
-use crate::decision::{Change, Decision, Termination, decide};
+use crate::capsule::host_name;
+use crate::controllers::InSession;
+use crate::decision::{Change, Decision, Reply, Termination, decide};
 use crate::fault::Stepped;
 use crate::log_page;
+use crate::queue::AdminQueue;
 use crate::session::Session;
 use crate::wire::{self, WIRE_MAX};
 use bytes::BytesMut;
+use discovery_view::DiscoveryView;
+use nvt_config::Edit;
+use nvt_fields::Nqn;
 use pdu_cut::{Cut, RxBuf, Side};
 use std::alloc::{AllocError, Global};
 use std::marker::Model;
@@ -33,6 +40,14 @@ impl Model for Connection {
     ghost view = { λ c. record { port = c.port; held = c.buffer.held; output = c.output.items; session = c.session } };
 
     ghost invariant = { λ c. c.buffer.side ≡ Target };
+}
+
+impl InSession for Connection {
+    ghost session_of = { λ c. c.session };
+
+    fn session(&self) -> &Session {
+        &self.session
+    }
 }
 
 impl Connection {
@@ -91,11 +106,25 @@ impl Connection {
         self.output.advance(len);
     }
 
+    /// Ends the connection where the edit deletes its port.
+    pub(crate) fn edited(&mut self, edit: &Edit)
+        ensures { self.new ≡ edited_by edit.now self.old }
+    {
+        if deletes_port(edit, self.port) {
+            self.session = Session::Ended;
+        }
+    }
+
     /// Takes one whole PDU, or the fault in its place: decides, makes room for all that the decision
-    /// sends, acts, and then consumes the PDU. The log page has the given GENCTR. Want of memory
-    /// changes nothing.
-    pub(crate) fn step(&mut self, alloc: Global, generation: u64) -> Result<Stepped, AllocError>
-        ensures stepped { IfOk result (λ stepped. Steps (discovery_page generation []) self.old stepped self.new) }
+    /// sends, acts, and then consumes the PDU. A new controller gets the identifier that is free, and
+    /// log pages are those of the view. Want of memory changes nothing.
+    pub(crate) fn step(
+        &mut self,
+        alloc: Global,
+        view: &DiscoveryView,
+        free: Option<u16>,
+    ) -> Result<Stepped, AllocError>
+        ensures stepped { IfOk result (λ stepped. Steps (seen free view.now.shown self.old.session) self.old stepped self.new) }
         ensures err { OnErr result (self.new ≡ self.old) }
     {
         if self.is_ended() {
@@ -107,23 +136,25 @@ impl Connection {
                 let decision = Decision::Terminate(Termination { fes, fei });
                 perform(
                     alloc,
-                    generation,
+                    view,
                     &mut self.session,
                     &mut self.output,
                     &decision,
                     head,
+                    &[],
                 )?;
                 return Ok(Stepped::Ended);
             }
             Cut::Pdu(pdu) => {
-                let decision = decide(&self.session, &pdu);
+                let decision = decide(&self.session, view, free, &pdu);
                 perform(
                     alloc,
-                    generation,
+                    view,
                     &mut self.session,
                     &mut self.output,
                     &decision,
                     pdu.header(),
+                    host_name(&pdu),
                 )?;
                 pdu.plen() as usize
             }
@@ -137,60 +168,99 @@ impl Connection {
     }
 }
 
-// Sends what the decision owes and moves the session. All growth comes first.
+// Sends what the decision owes, in these surroundings, and moves the session; `head` is the header of
+// the PDU that was decided on, or its first bytes, and `host` the host that it names. All growth comes
+// first.
 pub(crate) fn perform(
     alloc: Global,
-    generation: u64,
+    view: &DiscoveryView,
     session: &mut Session,
     output: &mut BytesMut,
     decision: &Decision,
     head: &[u8],
+    host: &[u8],
 ) -> Result<(), AllocError>
     requires { length head.now ≤ 128 }
-    ensures session { OnOk result (session.new ≡ session_after session.old decision.now) }
-    ensures output { OnOk result (output.new.items
-        ≡ output.old.items ++ wire_of decision.now head.now (data_of (discovery_page generation []) decision.now)) }
+    ensures session { OnOk result (session.new ≡ session_after session.old decision.now host.now) }
+    ensures output { let page = page_in view.now.shown (host_of (queue_in session.old)) in OnOk result (output.new.items
+        ≡ output.old.items ++ wire_of decision.now head.now (data_of page decision.now)) }
     ensures err { OnErr result ((session.new ≡ session.old) × (output.new.items ≡ output.old.items)) }
 {
     let window = match decision {
-        Decision::Reply(reply) => log_page::data(alloc, generation, &reply.data)?,
+        Decision::Reply(reply) => log_page::data(alloc, view, session.host(), &reply.data)?,
         _ => BytesMut::new(alloc),
     };
+    let made = queue_made(alloc, decision, host)?;
     output.reserve(WIRE_MAX + head.len() + window.len())?;
     wire::write(output, decision, head, window.as_slice());
-    advance(session, decision);
+    advance(session, decision, made, host);
     Ok(())
 }
 
-fn advance(session: &mut Session, decision: &Decision)
-    ensures { session.new ≡ session_after session.old decision.now }
+// The queue that a decision makes, where it admits a controller.
+fn queue_made(
+    alloc: Global,
+    decision: &Decision,
+    host: &[u8],
+) -> Result<Option<AdminQueue>, AllocError>
+    ensures { IfOk result (λ queue. queue ≡ queue_made decision.now host.now) }
+{
+    match decision {
+        Decision::Reply(
+            Reply {
+                change: Change::Connect(admission),
+                ..
+            },
+        ) => match Nqn::read(alloc, host) {
+            Ok(host) => Ok(Some(AdminQueue::new(admission, host))),
+            // A Connect is admitted with a well-formed name alone, so that memory was wanted.
+            Err(_) => Err(AllocError),
+        },
+        _ => Ok(None),
+    }
+}
+
+fn advance(session: &mut Session, decision: &Decision, made: Option<AdminQueue>, host: &[u8])
+    requires { made ≡ queue_made decision.now host.now }
+    ensures { session.new ≡ session_after session.old decision.now host.now }
 {
     match decision {
         Decision::Initialize => *session = Session::Initialized,
-        Decision::Reply(reply) => change(session, &reply.change),
+        Decision::Reply(reply) => change(session, &reply.change, made, host),
         Decision::Terminate(_) | Decision::Close => *session = Session::Ended,
     }
 }
 
-fn change(session: &mut Session, change: &Change)
-    ensures { session.new ≡ replied session.old change.now }
+fn change(session: &mut Session, change: &Change, made: Option<AdminQueue>, host: &[u8])
+    requires { made ≡ queue_by change.now host.now }
+    ensures { session.new ≡ replied session.old change.now host.now }
 {
-    match change {
-        Change::Connect(queue) => {
-            let mut queue = *queue;
+    let _ = host;
+    match (change, made) {
+        (Change::Connect(_), Some(mut queue)) => {
             queue.responded();
             *session = Session::Connected(queue);
         }
-        Change::Stay => {
-            if let Session::Connected(queue) = session {
-                queue.responded();
-            }
-        }
-        Change::Set(registers) => {
+        (Change::Set(registers), _) => {
             if let Session::Connected(queue) = session {
                 queue.responded();
                 queue.registers = *registers;
             }
         }
+        _ => {
+            if let Session::Connected(queue) = session {
+                queue.responded();
+            }
+        }
+    }
+}
+
+/// Whether the edit deletes the port of this number.
+pub(crate) fn deletes_port(edit: &Edit, port: u16) -> bool
+    ensures { result ≡ deletes_port edit.now port }
+{
+    match edit {
+        Edit::PortDel { id } => *id == u64::from(port),
+        _ => false,
     }
 }

@@ -1,12 +1,16 @@
 //! What a PDU leads to, as a value: decided by looking alone, before anything changes.
 ghost use Rattle.std.specs.Prelude.{◌≡◌};
-ghost use Rattle.target_core.specs.Decision.{decision_of, first_by, initialize, next_by, terminate};
 ghost use Rattle.std.specs.Option.{option_copied};
+ghost use Rattle.discovery_view.specs.View.{page_in};
+ghost use Rattle.target_core.specs.AdminQueue.{host_of};
+ghost use Rattle.target_core.specs.Connection.{seen};
+ghost use Rattle.target_core.specs.Decision.{decision_of, first_by, initialize, next_by, terminate};
 
 use crate::capsule;
 use crate::queue::AdminQueue;
 use crate::registers::Registers;
 use crate::session::Session;
+use discovery_view::DiscoveryView;
 use nvt_fields::{FatalErrorStatus, PduType, Status};
 use pdu_codec::IcReq;
 use pdu_cut::PduView;
@@ -56,18 +60,31 @@ pub(crate) struct PageRange {
 #[derive(Clone, Copy, Debug, PartialEq, Eq)]
 pub(crate) enum Change {
     Stay,
-    Connect(AdminQueue),
+    Connect(Admission),
     Set(Registers),
 }
 
-/// What is owed to a whole PDU.
-pub(crate) fn decide(session: &Session, pdu: &PduView<'_>) -> Decision
-    ensures { result ≡ decision_of session.now pdu.now }
+/// The controller and the queue that a Connect gets.
+#[derive(Clone, Copy, Debug, PartialEq, Eq)]
+pub(crate) struct Admission {
+    pub cntlid: u16,
+    /// The size of the submission queue, 0's based: 1 to 63.
+    pub sqsize: u16,
+}
+
+/// What is owed to a whole PDU, where this controller identifier is free.
+pub(crate) fn decide(
+    session: &Session,
+    view: &DiscoveryView,
+    free: Option<u16>,
+    pdu: &PduView<'_>,
+) -> Decision
+    ensures { result ≡ decision_of session.now (seen free view.now.shown session.now) pdu.now }
 {
     match session {
         Session::Opened => first(pdu),
-        Session::Initialized => next(None, pdu),
-        Session::Connected(queue) => next(Some(queue), pdu),
+        Session::Initialized => next(None, view, free, pdu),
+        Session::Connected(queue) => next(Some(queue), view, free, pdu),
         Session::Ended => Decision::Close,
     }
 }
@@ -83,12 +100,18 @@ fn first(pdu: &PduView<'_>) -> Decision
     }
 }
 
-fn next(queue: Option<&AdminQueue>, pdu: &PduView<'_>) -> Decision
-    ensures { result ≡ next_by pdu.now.kind (option_copied queue.entry) pdu.now }
+fn next(
+    queue: Option<&AdminQueue>,
+    view: &DiscoveryView,
+    free: Option<u16>,
+    pdu: &PduView<'_>,
+) -> Decision
+    ensures { let queue = option_copied queue.entry in
+        result ≡ next_by pdu.now.kind queue (record { free = free; page = page_in view.now.shown (host_of queue) }) pdu.now }
 {
     match pdu.kind() {
         PduType::H2cTermReq => Decision::Close,
-        PduType::CapsuleCmd => capsule::decide(queue, pdu),
+        PduType::CapsuleCmd => capsule::decide(queue, view, free, pdu),
         // No command of an admin queue asks for data by R2T, so no TTAG is known.
         PduType::H2cData => terminate(FatalErrorStatus::InvalidHeaderField, 10),
         _ => terminate(FatalErrorStatus::SequenceError, 0),

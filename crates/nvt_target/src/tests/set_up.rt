@@ -89,11 +89,11 @@ fn connections_are_opened_and_given_up(rt: HostRuntime) -> Result<(), Fail> {
     script.line("open 1")?;
     script.prints("0 open")?;
     script.line("open 1")?;
-    script.prints("open refused Full")?;
+    script.prints("1 open")?;
     script.line("open 2")?;
     script.prints("open refused NoSuchPort")?;
-    script.line("end 1")?;
-    script.prints("1 none")?;
+    script.line("end 2")?;
+    script.prints("2 none")?;
     script.line("rx 18446744073709551615 aB")?;
     script.prints("18446744073709551615 none")?;
     script.line("end 0")?;
@@ -104,6 +104,30 @@ fn connections_are_opened_and_given_up(rt: HostRuntime) -> Result<(), Fail> {
     script.rx(&icreq(alloc)?)?;
     script.pdu(ICRESP, 112)?;
     script.passes(&rt, "open, end and open again")
+}
+
+#[test]
+fn sixty_four_connections_are_open_at_a_time(rt: HostRuntime) -> Result<(), Fail> {
+    let alloc = rt.alloc();
+    let mut script = Script::new(alloc);
+    for number in 0..64u32 {
+        script.line("open 1")?;
+        script.prints(format!(in alloc; "{number} open")?.as_str())?;
+    }
+    script.line("open 1")?;
+    script.prints("open refused Full")?;
+    script.line("open 9")?;
+    script.prints("open refused NoSuchPort")?;
+    script.line("end 41")?;
+    script.line("end 7")?;
+    script.line("open 1")?;
+    script.prints("7 open")?;
+    script.line("rx 41 00")?;
+    script.prints("41 none")?;
+    script.line("rx 63 0000000000000000")?;
+    script.prints("63 pdu 0300180020000000010002000000000000000000000000000000000000000000")?;
+    script.prints("63 closed")?;
+    script.passes(&rt, "64 connections")
 }
 
 #[test]

@@ -1,4 +1,5 @@
-use Rattle.std.proofs.Common.{refl, ◌∙◌, sym}
+use Rattle.std.proofs.Common.{refl, ap, ◌∙◌, sym}
+use Rattle.target_core.specs.Decision.{session_after}
 use Rattle.target_core.proofs.Stepping.{front_taken}
 use Rattle.target_core.proofs.connection.Connection.step.Goals as goal
 
@@ -18,7 +19,8 @@ returns-then-is_ended-2-clause-stepped c =
     let decided = c.decide-decision.ensures in
     rw (← c.self.view_is) (
       front_taken _ _ _ _ _ c.self.invariant c.in-Pdu.ensures.front refl lasts refl (rw (c.consume.ensures, c.plen.ensures.len) refl)
-          (rw (← decided) done.session) (rw (← decided, ← c.header.ensures.value) done.output),
+          (rw (← decided) (done.session ∙ ap (session_after c.self.inside.session c.decide-decision.result) c.host_name.ensures))
+          (rw (← decided, ← c.header.ensures.value) done.output),
       sym c.if-is_ended-2.ensures,
     )
 
@@ -29,6 +31,7 @@ returns-else-is_ended-2-clause-stepped c =
     let decided = c.decide-decision.ensures in
     rw (← c.self.view_is) (
       front_taken _ _ _ _ _ c.self.invariant c.in-Pdu.ensures.front refl lasts refl (rw (c.consume.ensures, c.plen.ensures.len) refl)
-          (rw (← decided) done.session) (rw (← decided, ← c.header.ensures.value) done.output),
+          (rw (← decided) (done.session ∙ ap (session_after c.self.inside.session c.decide-decision.result) c.host_name.ensures))
+          (rw (← decided, ← c.header.ensures.value) done.output),
       sym c.if-is_ended-2.ensures,
     )

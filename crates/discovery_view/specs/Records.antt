@@ -1,0 +1,33 @@
+-- The records that a configuration shows to a host: one for each subsystem and port that the host may
+-- use, by the port's number and then by the subsystem's name (Base 2.0, section 5.16.1.23).
+use Rattle.std.specs.Prelude.{ℕ, nat_lt, List, map, filter}
+use Rattle.std.specs.List.{flat_map}
+use Rattle.nvt_config.specs.declared.port.Port.{Port}
+use Rattle.nvt_config.specs.declared.subsystem.Subsystem.{Subsystem}
+use Rattle.nvt_config.specs.Configuration.{Configuration}
+use Rattle.nvt_config.specs.Permission.{may_use}
+use Rattle.discovery_view.specs.Order.{in_order, name_below}
+use Rattle.discovery_view.specs.Record.{Parts}
+
+abbrev pub ports_in_order : Configuration → List Port
+ports_in_order c = in_order (λ p q. nat_lt p.id q.id) c.ports
+
+abbrev pub subsystems_in_order : Configuration → List Subsystem
+subsystems_in_order c = in_order (λ s t. name_below s.nqn t.nqn) c.subsystems
+
+abbrev pub parts_of : Port → Subsystem → Parts
+parts_of port subsystem = record {
+  family = port.family;
+  port = port.id;
+  service = port.service;
+  nqn = subsystem.nqn;
+  address = port.address;
+}
+
+-- those of one port
+abbrev pub records_on : Configuration → List ℕ → Port → List Parts
+records_on c host port =
+    map (parts_of port) (filter (λ s. may_use c host s.nqn port.id) (subsystems_in_order c))
+
+abbrev pub records_of : Configuration → List ℕ → List Parts
+records_of c host = flat_map (records_on c host) (ports_in_order c)

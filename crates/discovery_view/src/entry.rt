@@ -1,0 +1,85 @@
+//! A subsystem on a port, as a host is shown it.
+ghost use Rattle.std.specs.Prelude.{◌≡◌, IsTrue, length};
+ghost use Rattle.nvt_config.specs.Port.{is_port};
+ghost use Rattle.discovery_view.specs.Record.{record_of, same_parts};
+ghost use Rattle.discovery_view.specs.Same.{same_parts_laws};
+ghost use Rattle.discovery_view.specs.Records.{parts_of};
+
+use crate::record::{RECORD_LEN, record_head};
+use itoa::Buffer;
+use nvt_config::{Port, Subsystem};
+use nvt_fields::write_spaced;
+use std::marker::Model;
+
+/// A subsystem on a port, as a host is shown it. A contract sees what its record tells.
+#[derive(Drop)]
+pub(crate) struct Entry<'a> {
+    port: &'a Port,
+    subsystem: &'a Subsystem,
+}
+
+impl<'a> Model for Entry<'a> {
+    ghost use Rattle.std.specs.Prelude.{IsTrue};
+    ghost use Rattle.nvt_config.specs.Port.{is_port};
+    ghost use Rattle.discovery_view.specs.Record.{Parts};
+    ghost use Rattle.discovery_view.specs.Records.{parts_of};
+
+    ghost Value = { Parts };
+
+    ghost view = { λ e. parts_of e.port.now e.subsystem.now };
+
+    ghost invariant = { λ e. IsTrue (is_port e.port.now) };
+}
+
+impl<'a> Entry<'a> {
+    pub(crate) fn new(port: &'a Port, subsystem: &'a Subsystem) -> Entry<'a>
+        requires { IsTrue (is_port port.now) }
+        ensures { result ≡ parts_of port.now subsystem.now }
+    {
+        Entry { port, subsystem }
+    }
+
+    /// The record's length in bytes.
+    pub(crate) fn record_len(&self) -> u64
+        ensures value { result ≡ length (record_of self.now) }
+        ensures fixed { result ≡ 1024 }
+    {
+        let (_port, _name_len) = (self.port, self.subsystem.nqn.len());
+        RECORD_LEN as u64
+    }
+
+    /// Writes the record, of 1,024 bytes.
+    pub(crate) fn write(&self, bytes: &mut [u8])
+        requires { length bytes.old ≡ 1024 }
+        ensures { bytes.new ≡ record_of self.now }
+    {
+        let port = self.port;
+        let (head, rest) = bytes.split_at_mut(32);
+        let (service, rest) = rest.split_at_mut(32);
+        let (gap, rest) = rest.split_at_mut(192);
+        let (name, rest) = rest.split_at_mut(256);
+        let (address, specific) = rest.split_at_mut(256);
+        head.copy_from_slice(&record_head(port));
+        write_spaced(service, Buffer::new().format(port.service).as_bytes());
+        gap.fill(0);
+        self.subsystem.nqn.write_to(name);
+        write_spaced(address, port.address.as_bytes());
+        specific.fill(0);
+    }
+}
+
+/// Entries are equal where their records tell the same.
+impl PartialEq for Entry<'_> {
+    ghost eq = { same_parts };
+
+    ghost laws = { same_parts_laws };
+
+    fn eq(&self, other: &Entry<'_>) -> bool {
+        let (port, that) = (self.port, other.port);
+        port.family == that.family
+            && port.id == that.id
+            && port.service == that.service
+            && self.subsystem.nqn == other.subsystem.nqn
+            && port.address.as_bytes() == that.address.as_bytes()
+    }
+}

@@ -1,0 +1,15 @@
+//! The discovery log page of each host: which records a configuration shows to a host, how often edits
+//! changed them, and the page's bytes from any offset. It knows no connection and no command.
+#![tactic(auto)]
+
+mod entries;
+mod entry;
+mod order;
+mod page;
+pub mod plain;
+mod record;
+#[cfg(test)]
+mod tests;
+pub mod view;
+
+pub use view::{DiscoveryView, Plan};

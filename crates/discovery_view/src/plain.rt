@@ -1,0 +1,142 @@
+//! The generation counter by its definition, slowly: the configuration is built anew after each edit,
+//! and the records that it shows to a host are written out and compared.
+
+use nvt_config::{Access, Config, Edit, EditFault, Family, Link, NewFault, Port};
+use std::alloc::{AllocError, Global};
+use thiserror::Error;
+
+/// Why there is no count.
+#[derive(Clone, Copy, Debug, PartialEq, Eq, Error)]
+pub enum PlainFault {
+    #[error("more than 256 disks, or a disk of more than 2^40 units")]
+    Disks,
+    #[error("memory")]
+    Memory,
+}
+
+impl From<NewFault> for PlainFault {
+    fn from(fault: NewFault) -> PlainFault {
+        match fault {
+            NewFault::Disks => PlainFault::Disks,
+            NewFault::Memory => PlainFault::Memory,
+        }
+    }
+}
+
+impl From<AllocError> for PlainFault {
+    fn from(_: AllocError) -> PlainFault {
+        PlainFault::Memory
+    }
+}
+
+/// How many of the edits changed the host's records, from a configuration that holds disks of these
+/// sizes alone. An edit that the configuration refuses changes nothing.
+pub fn generation(
+    alloc: Global,
+    units: &[u64],
+    edits: &[Edit],
+    host: &[u8],
+) -> Result<u64, PlainFault> {
+    let mut generation: u64 = 0;
+    let mut before = records(alloc, &config_after(alloc, units, &[])?, host)?;
+    for len in 1..=edits.len() {
+        let after = records(alloc, &config_after(alloc, units, &edits[..len])?, host)?;
+        if after.as_slice() != before.as_slice() {
+            generation = generation.wrapping_add(1);
+        }
+        before = after;
+    }
+    Ok(generation)
+}
+
+/// The configuration that these edits make of one that holds disks of these sizes alone.
+pub fn config_after(alloc: Global, units: &[u64], edits: &[Edit]) -> Result<Config, PlainFault> {
+    let mut config = Config::new(alloc, units)?;
+    for edit in edits {
+        if config.apply(edit) == Err(EditFault::Memory) {
+            return Err(PlainFault::Memory);
+        }
+    }
+    Ok(config)
+}
+
+/// The bytes of the records that a configuration shows to a host: one for each link of an open
+/// subsystem, of which the least that is left comes next.
+pub fn records(alloc: Global, config: &Config, _host: &[u8]) -> Result<Vec<u8>, PlainFault> {
+    let mut bytes = Vec::new(alloc);
+    let mut last = None;
+    for _ in config.links() {
+        if let Some(link) = least_above(config, last) {
+            if let Some(port) = config.port(link.port) {
+                push_record(alloc, &mut bytes, port, link.subsystem.as_bytes())?;
+            }
+            last = Some(link);
+        }
+    }
+    Ok(bytes)
+}
+
+// The least of the links that have a record and are above the last one.
+fn least_above<'a>(config: &'a Config, last: Option<&Link>) -> Option<&'a Link> {
+    let mut least: Option<&Link> = None;
+    for link in config.links() {
+        let is_next = is_shown(config, link)
+            && last.is_none_or(|last| is_below(last, link))
+            && least.is_none_or(|least| is_below(link, least));
+        if is_next {
+            least = Some(link);
+        }
+    }
+    least
+}
+
+fn is_shown(config: &Config, link: &Link) -> bool {
+    match config.subsystem(link.subsystem.as_bytes()) {
+        Some(subsystem) => subsystem.access == Access::Open,
+        None => false,
+    }
+}
+
+// By the port's number, and then by the subsystem's name.
+fn is_below(link: &Link, other: &Link) -> bool {
+    if link.port == other.port {
+        link.subsystem.as_bytes() < other.subsystem.as_bytes()
+    } else {
+        link.port < other.port
+    }
+}
+
+fn push_record(
+    alloc: Global,
+    bytes: &mut Vec<u8>,
+    port: &Port,
+    subsystem: &[u8],
+) -> Result<(), AllocError> {
+    let family = match port.family {
+        Family::Ipv4 => 1,
+        Family::Ipv6 => 2,
+    };
+    let id = port.id.to_le_bytes();
+    let head = [3, family, 2, 0, id[0], id[1], 0xFF, 0xFF, 32, 0];
+    push_padded(bytes, &head, 32, 0)?;
+    let service = format!(in alloc; "{}", port.service)?;
+    push_padded(bytes, service.as_bytes(), 32, b' ')?;
+    push_padded(bytes, &[], 192, 0)?;
+    push_padded(bytes, subsystem, 256, 0)?;
+    push_padded(bytes, port.address.as_bytes(), 256, b' ')?;
+    push_padded(bytes, &[], 256, 0)
+}
+
+// Pushes a text and as many bytes behind it as make `len`.
+fn push_padded(
+    bytes: &mut Vec<u8>,
+    text: &[u8],
+    len: usize,
+    padding: u8,
+) -> Result<(), AllocError> {
+    bytes.extend_from_slice(text)?;
+    for _ in text.len()..len {
+        bytes.push(padding)?;
+    }
+    Ok(())
+}

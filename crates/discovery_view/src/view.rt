@@ -1,0 +1,127 @@
+//! A discovery view: it follows the edits of a configuration and lends each host its page.
+ghost use Rattle.std.specs.Prelude.{◌≡◌, ◌≤◌, ◌<◌, IsOk, IfOk, OnOk, Ok, length};
+ghost use Rattle.nvt_config.specs.Accept.{accept};
+ghost use Rattle.nvt_fields.specs.Window.{window};
+ghost use Rattle.discovery_view.specs.Listing.{RecordsAreListed};
+ghost use Rattle.discovery_view.specs.View.{count_in, first_shown, page_in, shown_next};
+
+use crate::entries::{are_same, entries};
+use crate::page::{page_len, write_page};
+use nvt_config::{Config, Edit};
+use std::alloc::{AllocError, Global};
+use std::marker::Model;
+use std::mem;
+
+/// The records of each host, and how often edits changed them.
+#[derive(Drop)]
+pub struct DiscoveryView {
+    // The configuration of now.
+    latest: Config,
+    // Those before it, the oldest first.
+    past: Vec<Config>,
+}
+
+impl Model for DiscoveryView {
+    ghost use Rattle.std.specs.Prelude.{◌-◌, reverse, vec_capacity, vec_len};
+    ghost use Rattle.discovery_view.specs.View.{ViewState};
+
+    ghost Value = { ViewState };
+
+    ghost view = { λ v. record {
+      shown = record { now = v.latest; past = reverse v.past.items };
+      room = vec_capacity v.past - vec_len v.past;
+    } };
+}
+
+/// What an edit will make of a view: the configuration after it.
+#[derive(Drop)]
+pub struct Plan {
+    next: Config,
+}
+
+impl Model for Plan {
+    ghost use Rattle.nvt_config.specs.Configuration.{Configuration};
+
+    ghost Value = { Configuration };
+
+    ghost view = { λ plan. plan.next };
+}
+
+impl DiscoveryView {
+    /// The view of a configuration that no edit has changed yet.
+    pub fn new(alloc: Global, config: &Config) -> Result<DiscoveryView, AllocError>
+        ensures { IfOk result (λ view. view.shown ≡ first_shown config.now) }
+    {
+        Ok(DiscoveryView {
+            latest: config.try_clone()?,
+            past: Vec::new(alloc),
+        })
+    }
+
+    /// Makes all growths that an edit of the view's configuration asks for. Every answer is as before,
+    /// also after want of memory.
+    pub fn prepare(&mut self, config: &Config, edit: &Edit) -> Result<Plan, AllocError>
+        requires current { self.old.shown.now ≡ config.now }
+        requires accepted { IsOk (accept config.now edit.now) }
+        ensures plan { IfOk result (λ plan. accept config.now edit.now ≡ Ok plan) }
+        ensures room { OnOk result (1 ≤ self.new.room) }
+        ensures kept { self.new.shown ≡ self.old.shown }
+    {
+        let mut next = config.try_clone()?;
+        self.past.reserve(1)?;
+        match next.apply(edit) {
+            Ok(()) => Ok(Plan { next }),
+            Err(_) => Err(AllocError),
+        }
+    }
+
+    /// Goes over to what was prepared last. Takes no memory.
+    pub fn commit(&mut self, plan: Plan)
+        requires { 1 ≤ self.old.room }
+        ensures { self.new.shown ≡ shown_next plan self.old.shown }
+    {
+        let Plan { next } = plan;
+        let before = mem::replace(&mut self.latest, next);
+        self.past.push_reserved(before);
+    }
+
+    /// Fills `out` with the host's page from an offset on, and with zeros past the page's end.
+    pub fn window(&self, host: &[u8], offset: u64, out: &mut [u8])
+        ensures { out.new ≡ window (page_in self.now.shown host.now) offset (length out.old) }
+    {
+        let shown = entries(&self.latest, host);
+        write_page(out, offset, self.count(host), &shown);
+    }
+
+    /// The length of the host's page in bytes.
+    pub fn len(&self, host: &[u8]) -> u64
+        ensures { result ≡ length (page_in self.now.shown host.now) }
+    {
+        page_len(&entries(&self.latest, host))
+    }
+
+    /// The host's generation counter (GENCTR): how many edits have changed its records.
+    pub fn count(&self, host: &[u8]) -> u64
+        ensures { result ≡ count_in self.now.shown host.now }
+    {
+        let mut count: u64 = 0;
+        let mut shown = entries(&self.latest, host);
+        let mut past = self.past.as_slice();
+        while let Some((before, rest)) = past.split_last() {
+            let earlier = entries(before, host);
+            if !are_same(&earlier, &shown) {
+                count = count.wrapping_add(1);
+            }
+            shown = earlier;
+            past = rest;
+        }
+        count
+    }
+}
+
+/// Whatever a configuration holds, the records that it shows to a host are those of the subsystems and
+/// ports that the host may use, one each, by rising port number and then by rising name. This is a fact
+/// of the definitions; a call does nothing.
+pub fn records_are_listed()
+    ensures { RecordsAreListed }
+{}

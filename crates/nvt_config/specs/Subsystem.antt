@@ -1,0 +1,22 @@
+-- What a subsystem may hold.
+use Rattle.std.specs.Prelude.{ℕ, Bool, true, false, not, ◌&&◌, List}
+use Rattle.std.specs.Str.{bytes_eq}
+use Rattle.nvt_fields.specs.Name.{discovery_nqn}
+use Rattle.nvt_config.specs.declared.subsystem.Access.{Access}
+use Rattle.nvt_config.specs.declared.subsystem.Access.TheVariants.{Open, Closed}
+use Rattle.nvt_config.specs.declared.subsystem.Subsystem.{Subsystem}
+use Rattle.nvt_config.specs.Text.{is_word}
+
+abbrev pub is_open : Access → Bool
+is_open Open = true
+is_open Closed = false
+
+abbrev pub is_serial : List ℕ → Bool
+is_serial = is_word 20
+
+-- the discovery subsystem is served without an entry
+abbrev pub is_discovery : List ℕ → Bool
+is_discovery nqn = bytes_eq nqn discovery_nqn
+
+abbrev pub is_subsystem : Subsystem → Bool
+is_subsystem subsystem = not (is_discovery subsystem.nqn) && is_serial subsystem.serial

@@ -1,0 +1,62 @@
+//! A host: who uses subsystems.
+ghost use Rattle.std.specs.Prelude.{◌≡◌, ◌&&◌, IfOk};
+ghost use Rattle.std.specs.List.{list_any};
+ghost use Rattle.std.specs.Str.{bytes_eq};
+ghost use Rattle.nvt_config.specs.declared.host.Host.{Host};
+ghost use Rattle.nvt_config.specs.Lists.{changed_where};
+
+use nvt_fields::Nqn;
+use std::alloc::{AllocError, Global};
+
+/// A host that was added. One that was deleted stays in its place, not live.
+#[derive(Debug, Drop)]
+pub struct Host {
+    /// No two hosts of a configuration have the same.
+    pub nqn: Nqn,
+    pub live: bool,
+}
+
+impl Host {
+    /// An equal host.
+    pub fn try_clone(&self) -> Result<Host, AllocError>
+        ensures { IfOk result (λ copy. copy ≡ self.now) }
+    {
+        Ok(Host {
+            nqn: self.nqn.try_clone()?,
+            live: self.live,
+        })
+    }
+}
+
+pub(crate) fn has_host(hosts: &[Host], nqn: &Nqn) -> bool
+    ensures { result ≡ list_any (λ host. bytes_eq host.nqn nqn.now) hosts.now }
+{
+    hosts.iter().any(|host| host.nqn == *nqn)
+}
+
+pub(crate) fn has_live_host(hosts: &[Host], nqn: &Nqn) -> bool
+    ensures { result ≡ list_any (λ host. bytes_eq host.nqn nqn.now && host.live) hosts.now }
+{
+    hosts.iter().any(|host| host.nqn == *nqn && host.live)
+}
+
+pub(crate) fn set_live(hosts: &mut [Host], nqn: &Nqn, live: bool)
+    ensures { let set : Host → Host = λ host. record host { live = live } in
+        hosts.new ≡ changed_where (λ host. bytes_eq host.nqn nqn.now) set hosts.old }
+{
+    for host in hosts.iter_mut() {
+        if host.nqn == *nqn {
+            host.live = live;
+        }
+    }
+}
+
+pub(crate) fn clone_hosts(alloc: Global, hosts: &[Host]) -> Result<Vec<Host>, AllocError>
+    ensures { IfOk result (λ copies. copies.items ≡ hosts.now) }
+{
+    let mut copies = Vec::with_capacity(alloc, hosts.len())?;
+    for host in hosts {
+        copies.push(host.try_clone()?)?;
+    }
+    Ok(copies)
+}

@@ -1,0 +1,63 @@
+//! A link: a subsystem that is served on a port.
+ghost use Rattle.std.specs.Prelude.{◌≡◌, ◌==◌, ◌&&◌, IfOk};
+ghost use Rattle.std.specs.List.{list_any};
+ghost use Rattle.std.specs.Str.{bytes_eq};
+ghost use Rattle.nvt_config.specs.Lists.{without};
+
+use nvt_fields::Nqn;
+use std::alloc::{AllocError, Global};
+
+/// A subsystem is served on a port. No two links of a configuration have the same port and subsystem.
+#[derive(Debug, Drop)]
+pub struct Link {
+    /// The number of a port that is there.
+    pub port: u16,
+    /// The name of a subsystem that is there.
+    pub subsystem: Nqn,
+}
+
+impl Link {
+    /// An equal link.
+    pub fn try_clone(&self) -> Result<Link, AllocError>
+        ensures { IfOk result (λ copy. copy ≡ self.now) }
+    {
+        Ok(Link {
+            port: self.port,
+            subsystem: self.subsystem.try_clone()?,
+        })
+    }
+}
+
+pub(crate) fn has_link(links: &[Link], port: u64, subsystem: &Nqn) -> bool
+    ensures { result ≡ list_any (λ link. link.port == port && bytes_eq link.subsystem subsystem.now) links.now }
+{
+    links.iter().any(|link| u64::from(link.port) == port && link.subsystem == *subsystem)
+}
+
+pub(crate) fn is_port_linked(links: &[Link], port: u64) -> bool
+    ensures { result ≡ list_any (λ link. link.port == port) links.now }
+{
+    links.iter().any(|link| u64::from(link.port) == port)
+}
+
+pub(crate) fn is_subsystem_linked(links: &[Link], subsystem: &Nqn) -> bool
+    ensures { result ≡ list_any (λ link. bytes_eq link.subsystem subsystem.now) links.now }
+{
+    links.iter().any(|link| link.subsystem == *subsystem)
+}
+
+pub(crate) fn remove_link(links: &mut Vec<Link>, port: u64, subsystem: &Nqn)
+    ensures { links.new.items ≡ without (λ link. link.port == port && bytes_eq link.subsystem subsystem.now) links.old.items }
+{
+    links.retain(|link| u64::from(link.port) != port || link.subsystem != *subsystem);
+}
+
+pub(crate) fn clone_links(alloc: Global, links: &[Link]) -> Result<Vec<Link>, AllocError>
+    ensures { IfOk result (λ copies. copies.items ≡ links.now) }
+{
+    let mut copies = Vec::with_capacity(alloc, links.len())?;
+    for link in links {
+        copies.push(link.try_clone()?)?;
+    }
+    Ok(copies)
+}

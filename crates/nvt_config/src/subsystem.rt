@@ -1,0 +1,93 @@
+//! A subsystem: what hosts connect to.
+ghost use Rattle.std.specs.Prelude.{◌≡◌, IfOk};
+ghost use Rattle.std.specs.List.{list_any};
+ghost use Rattle.std.specs.Str.{bytes_eq};
+ghost use Rattle.nvt_config.specs.declared.subsystem.Subsystem.{Subsystem};
+ghost use Rattle.nvt_config.specs.Lists.{changed_where, without};
+ghost use Rattle.nvt_config.specs.Subsystem.{is_discovery, is_serial};
+
+use crate::text::Text;
+use nvt_fields::{DISCOVERY_NQN, Nqn};
+use std::alloc::{AllocError, Global};
+
+const SERIAL_MAX: usize = 20;
+
+/// Who may use a subsystem.
+#[derive(Clone, Copy, Debug, PartialEq, Eq)]
+pub enum Access {
+    /// Each host.
+    Open,
+    /// The hosts that it allows.
+    Closed,
+}
+
+/// What hosts connect to.
+#[derive(Debug, Drop)]
+pub struct Subsystem {
+    /// Not the discovery subsystem's name; no two subsystems of a configuration have the same.
+    pub nqn: Nqn,
+    /// 1 to 20 bytes, each from 21h to 7Eh.
+    pub serial: Text,
+    pub access: Access,
+}
+
+impl Subsystem {
+    /// An equal subsystem.
+    pub fn try_clone(&self) -> Result<Subsystem, AllocError>
+        ensures { IfOk result (λ copy. copy ≡ self.now) }
+    {
+        Ok(Subsystem {
+            nqn: self.nqn.try_clone()?,
+            serial: self.serial.try_clone()?,
+            access: self.access,
+        })
+    }
+}
+
+pub(crate) fn is_discovery(nqn: &Nqn) -> bool
+    ensures { result ≡ is_discovery nqn.now }
+{
+    nqn.as_bytes() == DISCOVERY_NQN.as_slice()
+}
+
+pub(crate) fn is_serial(text: &Text) -> bool
+    ensures { result ≡ is_serial text.now }
+{
+    text.is_word(SERIAL_MAX)
+}
+
+pub(crate) fn has_subsystem(subsystems: &[Subsystem], nqn: &Nqn) -> bool
+    ensures { result ≡ list_any (λ subsystem. bytes_eq subsystem.nqn nqn.now) subsystems.now }
+{
+    subsystems.iter().any(|subsystem| subsystem.nqn == *nqn)
+}
+
+pub(crate) fn set_access(subsystems: &mut [Subsystem], nqn: &Nqn, access: Access)
+    ensures { let set : Subsystem → Subsystem = λ subsystem. record subsystem { access = access } in
+        subsystems.new ≡ changed_where (λ subsystem. bytes_eq subsystem.nqn nqn.now) set subsystems.old }
+{
+    for subsystem in subsystems.iter_mut() {
+        if subsystem.nqn == *nqn {
+            subsystem.access = access;
+        }
+    }
+}
+
+pub(crate) fn remove_subsystem(subsystems: &mut Vec<Subsystem>, nqn: &Nqn)
+    ensures { subsystems.new.items ≡ without (λ subsystem. bytes_eq subsystem.nqn nqn.now) subsystems.old.items }
+{
+    subsystems.retain(|subsystem| subsystem.nqn != *nqn);
+}
+
+pub(crate) fn clone_subsystems(
+    alloc: Global,
+    subsystems: &[Subsystem],
+) -> Result<Vec<Subsystem>, AllocError>
+    ensures { IfOk result (λ copies. copies.items ≡ subsystems.now) }
+{
+    let mut copies = Vec::with_capacity(alloc, subsystems.len())?;
+    for subsystem in subsystems {
+        copies.push(subsystem.try_clone()?)?;
+    }
+    Ok(copies)
+}
