@@ -1,5 +1,5 @@
 -- Each call keeps the agreement of a target with its history.
-use Rattle.std.proofs.Common.{◌≡◌, ℕ, ◌+◌, ◌%◌, ◌^◌, Bool, true, false, List, [], ◌∷◌, ◌++◌, length, take, drop, Option, Some, None, Ok, refl, sym, ap, ◌∙◌, append_assoc, take-append-drop}
+use Rattle.std.proofs.Common.{◌≡◌, ℕ, ◌+◌, ◌%◌, ◌^◌, ◌<◌, Bool, true, false, List, [], ◌∷◌, ◌++◌, length, take, drop, Option, Some, None, Ok, refl, sym, ap, ◌∙◌, append_assoc, take-append-drop}
 use Rattle.std.proofs.lemmas.Bool.{eqb-true}
 use Rattle.std.proofs.lemmas.List.{length-map}
 use Rattle.std.proofs.Math.Nat.{add-mod-mod}
@@ -17,7 +17,7 @@ use Rattle.pdu_cut.proofs.Fronts.{front_faulty-append}
 use Rattle.pdu_cut.proofs.Streams.{begins_with_none, begins_with-append, begins_with_taken}
 use Rattle.target_core.specs.declared.session.Session.{Session}
 use Rattle.target_core.specs.declared.session.Session.TheVariants.{Ended}
-use Rattle.target_core.specs.Agreement.{Agrees, AgreesAfter, AgreesAfterEnd, AgreesAt, AgreesStill, AgreesWithReceived, AgreesWithTaken, ConnectionAgrees, FaultStands, StandsAt, nothing, pdus_in}
+use Rattle.target_core.specs.Agreement.{Agrees, AgreesAfter, AgreesAfterEnd, AgreesAt, AgreesStill, AgreesWithReceived, AgreesWithTaken, ConnectionAgrees, FaultStands, StandsAt, extended, nothing, pdus_in}
 use Rattle.target_core.specs.Connection.{ConnectionState, Takes, deletes_port, edited_by, ends, is_incomplete, opened_on, taken_of}
 use Rattle.target_core.specs.Decision.{decision_at, host_in, sent_by, session_after}
 use Rattle.target_core.specs.Event.{Event, edited, opened, took}
@@ -96,6 +96,20 @@ edit_agrees old new edit accepted rest =
 here : (t : TargetState) (j k : ℕ) (o : Option ConnectionState) → connection_at t k ≡ o → (j == k) ≡ true → connection_at t j ≡ o
 here t j k o known same = ap (connection_at t) (eqb-true j k same) ∙ known
 
+-- where one connection changes and the rest of the target stays, the agreement is a matter of that one
+changes_one : (old : TargetState) (k : ℕ) (c : ConnectionState) (units : List ℕ) (events longer : List Event)
+    (received taken more_received more_taken : ℕ → List ℕ) → k < length old.connections → Agrees old units events received taken
+    → config_of units longer ≡ config_of units events → ((host : List ℕ) → generation_of units longer host ≡ generation_of units events host)
+    → ((j : ℕ) → AgreesAt (if j == k then Some c else connection_at old j) (conversation_of units longer j) (sent units longer j)
+    (more_received j) (more_taken j)) → Agrees (with_connection old k c) units longer more_received more_taken
+changes_one old k c units events longer received taken more_received more_taken within agrees config counts each = record {
+  config = agrees.config ∙ sym config;
+  shown = agrees.shown ∙ sym config;
+  counts = λ host. agrees.counts host ∙ ap (λ (n : ℕ). n % 2 ^ 64) (sym (counts host));
+  places = length-with_value old.connections k c ∙ agrees.places;
+  each = λ j. rw (place-with_value old.connections k c j within) (each j);
+}
+
 -- ---- an open
 
 open_at : (same : Bool) (port : ℕ) (o : Option ConnectionState) (v : Option Conversation) (s r t : List ℕ) → (same ≡ true → o ≡ None)
@@ -118,15 +132,10 @@ pub open_agrees : (old new : TargetState) (port k : ℕ) → free_number old ≡
 open_agrees old new port k free opens =
     let empty = least_free-Some old.connections k free in
     record {
-      keeps = λ units events received taken agrees. rw opens (record {
-        config = agrees.config;
-        shown = agrees.shown;
-        counts = agrees.counts;
-        places = length-with_value old.connections k (opened_on port) ∙ agrees.places;
-        each = λ j. rw (place-with_value old.connections k (opened_on port) j empty.1)
-            (open_at (j == k) port (connection_at old j) (conversation_of units events j) (sent units events j) (received j) (taken j)
-            (here old j k None empty.0) (agrees.each j));
-      });
+      keeps = λ units events received taken agrees. rw opens (
+          changes_one old k (opened_on port) units events (opened port k ∷ events) received taken received taken empty.1 agrees refl (λ host. refl)
+          (λ j. open_at (j == k) port (connection_at old j) (conversation_of units events j) (sent units events j) (received j) (taken j)
+          (here old j k None empty.0) (agrees.each j)));
     }
 
 -- ---- received bytes
@@ -163,15 +172,10 @@ pub receive_agrees : (old new : TargetState) (k : ℕ) (c : ConnectionState) (by
 receive_agrees old new k c bytes known receives =
     let within = place_within old.connections k c known in
     record {
-      keeps = λ units events received taken agrees. rw receives (record {
-        config = agrees.config;
-        shown = agrees.shown;
-        counts = agrees.counts;
-        places = length-with_value old.connections k _ ∙ agrees.places;
-        each = λ j. rw (place-with_value old.connections k _ j within)
-            (receive_at (j == k) c bytes (connection_at old j) (conversation_of units events j) (sent units events j) (received j) (taken j)
-            (here old j k (Some c) known) (agrees.each j));
-      });
+      keeps = λ units events received taken agrees. rw receives (
+          changes_one old k _ units events events received taken (extended received k bytes) taken within agrees refl (λ host. refl)
+          (λ j. receive_at (j == k) c bytes (connection_at old j) (conversation_of units events j) (sent units events j) (received j) (taken j)
+          (here old j k (Some c) known) (agrees.each j)));
     }
 
 -- ---- output that is taken
@@ -200,15 +204,10 @@ pub taken_agrees : (old new : TargetState) (k : ℕ) (c : ConnectionState) (n : 
 taken_agrees old new k c n known takes =
     let within = place_within old.connections k c known in
     record {
-      keeps = λ units events received taken agrees. rw takes (record {
-        config = agrees.config;
-        shown = agrees.shown;
-        counts = agrees.counts;
-        places = length-with_value old.connections k _ ∙ agrees.places;
-        each = λ j. rw (place-with_value old.connections k _ j within)
-            (taken_at (j == k) c n (connection_at old j) (conversation_of units events j) (sent units events j) (received j) (taken j)
-            (here old j k (Some c) known) (agrees.each j));
-      });
+      keeps = λ units events received taken agrees. rw takes (
+          changes_one old k _ units events events received taken received (extended taken k (take n c.output)) within agrees refl (λ host. refl)
+          (λ j. taken_at (j == k) c n (connection_at old j) (conversation_of units events j) (sent units events j) (received j) (taken j)
+          (here old j k (Some c) known) (agrees.each j)));
     }
 
 -- ---- the end of a connection
@@ -298,19 +297,15 @@ pub step_agrees : (old new : TargetState) (k : ℕ) (c after : ConnectionState) 
     → new ≡ with_connection old k after → AgreesAfter (took k (front Target c.held)) old new
 step_agrees old new k c after known takes steps =
     let within = place_within old.connections k c known in
+    let found = front Target c.held in
     record {
       keeps = λ units events received taken agrees.
           let around = around_agrees old units events received taken k c known agrees in
           let done : Takes (around_of units events k) c after = rw around at takes in
-          rw steps (record {
-            config = agrees.config;
-            shown = agrees.shown;
-            counts = agrees.counts;
-            places = length-with_value old.connections k after ∙ agrees.places;
-            each = λ j. rw (place-with_value old.connections k after j within)
-                (step_at (j == k) c after (around_of units events k) (connection_at old j) (conversation_of units events j)
-                (sent units events j) (received j) (taken j) (front Target c.held) refl done (here old j k (Some c) known) (agrees.each j));
-          });
+          rw steps (
+          changes_one old k after units events (took k found ∷ events) received taken received taken within agrees refl (λ host. refl)
+          (λ j. step_at (j == k) c after (around_of units events k) (connection_at old j) (conversation_of units events j)
+          (sent units events j) (received j) (taken j) found refl done (here old j k (Some c) known) (agrees.each j)));
     }
 
 -- a call that changes nothing
