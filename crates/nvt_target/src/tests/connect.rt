@@ -1,8 +1,8 @@
 //! Connect: each reason against it, in the order of the checks.
 
 use super::bytes::{
-    DISCOVERY_NQN, HOST_NQN, IN_CAPSULE, TRANSPORT, connect, connect_to, enable, put_data, put_sgl,
-    put_sqe,
+    DISCOVERY_NQN, HOST_NQN, IN_CAPSULE, TRANSPORT, connect, connect_to, enable, front, put,
+    put_data, put_sgl, put_sqe,
 };
 use super::script::Script;
 use std::test::Fail;
@@ -61,14 +61,14 @@ fn a_bad_field_of_the_command_is_answered(rt: HostRuntime) -> Result<(), Fail> {
         ),
     ];
     for (at, value, answer, rule) in cases {
-        let mut pdu = connect(alloc)?;
+        let mut pdu = connect();
         let len = if at == 39 { 1 } else { 2 };
         put_sqe(&mut pdu, at, &value[..len]);
-        let mut script = Script::initialized(alloc)?;
-        script.rx(&pdu)?;
-        script.pdu(format!(in alloc; "0500180018000000 {answer}")?.as_str(), 0)?;
-        script.rx(&connect(alloc)?)?;
-        script.pdu(SERVED, 0)?;
+        let mut script = Script::initialized(alloc);
+        script.rx(&pdu);
+        script.pdu(format_args!("0500180018000000 {answer}"), 0);
+        script.rx(&connect());
+        script.pdu(SERVED, 0);
         script.passes(&rt, rule)?;
     }
     Ok(())
@@ -130,12 +130,14 @@ fn a_bad_field_of_the_data_is_answered(rt: HostRuntime) -> Result<(), Fail> {
         ),
     ];
     for (subnqn, hostnqn, offset, rule) in cases {
-        let mut script = Script::initialized(alloc)?;
-        script.rx(&connect_to(alloc, subnqn, hostnqn)?)?;
-        let fields = format!(in alloc; "0500180018000000 {offset} 0000 0000 0100 0483")?;
-        script.pdu(fields.as_str(), 0)?;
-        script.rx(&connect(alloc)?)?;
-        script.pdu(SERVED, 0)?;
+        let mut script = Script::initialized(alloc);
+        script.rx(&connect_to(subnqn, hostnqn));
+        script.pdu(
+            format_args!("0500180018000000 {offset} 0000 0000 0100 0483"),
+            0,
+        );
+        script.rx(&connect());
+        script.pdu(SERVED, 0);
         script.passes(&rt, rule)?;
     }
     Ok(())
@@ -144,13 +146,13 @@ fn a_bad_field_of_the_data_is_answered(rt: HostRuntime) -> Result<(), Fail> {
 #[test]
 fn a_wish_for_a_controller_is_answered(rt: HostRuntime) -> Result<(), Fail> {
     let alloc = rt.alloc();
-    let mut pdu = connect(alloc)?;
+    let mut pdu = connect();
     put_data(&mut pdu, 16, &[0x01, 0x00]);
-    let mut script = Script::initialized(alloc)?;
-    script.rx(&pdu)?;
-    script.pdu("0500180018000000 1000010000000000 0000 0000 0100 0483", 0)?;
-    script.rx(&connect(alloc)?)?;
-    script.pdu(SERVED, 0)?;
+    let mut script = Script::initialized(alloc);
+    script.rx(&pdu);
+    script.pdu("0500180018000000 1000010000000000 0000 0000 0100 0483", 0);
+    script.rx(&connect());
+    script.pdu(SERVED, 0);
     script.passes(&rt, "CNTLID 1")
 }
 
@@ -158,59 +160,58 @@ fn a_wish_for_a_controller_is_answered(rt: HostRuntime) -> Result<(), Fail> {
 fn the_first_reason_is_answered(rt: HostRuntime) -> Result<(), Fail> {
     let alloc = rt.alloc();
     // Everything is wrong; each step mends what the answer before named.
-    let mut pdu = connect_to(alloc, "nqn.2026-01.test:b", "nqn.")?;
+    let mut pdu = connect_to("nqn.2026-01.test:b", "nqn.");
     put_data(&mut pdu, 16, &[0x01, 0x00]);
     put_sgl(&mut pdu, 1023, TRANSPORT);
     put_sqe(&mut pdu, 24, &[1]);
     put_sqe(&mut pdu, 40, &[1]);
     put_sqe(&mut pdu, 42, &[9]);
     put_sqe(&mut pdu, 44, &[0]);
-    let mut script = Script::initialized(alloc)?;
-    script.rx(&pdu)?;
-    script.pdu("0500180018000000 0000000000000000 0000 0000 0100 2280", 0)?;
+    let mut script = Script::initialized(alloc);
+    script.rx(&pdu);
+    script.pdu("0500180018000000 0000000000000000 0000 0000 0100 2280", 0);
     put_sgl(&mut pdu, 1023, IN_CAPSULE);
-    script.rx(&pdu)?;
-    script.pdu("0500180018000000 0000000000000000 0000 0000 0100 1e80", 0)?;
+    script.rx(&pdu);
+    script.pdu("0500180018000000 0000000000000000 0000 0000 0100 1e80", 0);
     put_sgl(&mut pdu, 1024, IN_CAPSULE);
-    script.rx(&pdu)?;
-    script.pdu("0500180018000000 0000000000000000 0000 0000 0100 2c80", 0)?;
+    script.rx(&pdu);
+    script.pdu("0500180018000000 0000000000000000 0000 0000 0100 2c80", 0);
     put_sqe(&mut pdu, 24, &[0]);
-    script.rx(&pdu)?;
-    script.pdu("0500180018000000 0000000000000000 0000 0000 0100 0083", 0)?;
+    script.rx(&pdu);
+    script.pdu("0500180018000000 0000000000000000 0000 0000 0100 0083", 0);
     put_sqe(&mut pdu, 40, &[0]);
-    script.rx(&pdu)?;
-    script.pdu("0500180018000000 2a00000000000000 0000 0000 0100 0483", 0)?;
+    script.rx(&pdu);
+    script.pdu("0500180018000000 2a00000000000000 0000 0000 0100 0483", 0);
     put_sqe(&mut pdu, 42, &[1]);
-    script.rx(&pdu)?;
-    script.pdu("0500180018000000 2c00000000000000 0000 0000 0100 0483", 0)?;
+    script.rx(&pdu);
+    script.pdu("0500180018000000 2c00000000000000 0000 0000 0100 0483", 0);
     put_sqe(&mut pdu, 44, &[31]);
-    script.rx(&pdu)?;
-    script.pdu("0500180018000000 0001010000000000 0000 0000 0100 0483", 0)?;
+    script.rx(&pdu);
+    script.pdu("0500180018000000 0001010000000000 0000 0000 0100 0483", 0);
     put_data(&mut pdu, 256, DISCOVERY_NQN.as_bytes());
-    script.rx(&pdu)?;
-    script.pdu("0500180018000000 0002010000000000 0000 0000 0100 0483", 0)?;
+    script.rx(&pdu);
+    script.pdu("0500180018000000 0002010000000000 0000 0000 0100 0483", 0);
     put_data(&mut pdu, 512, HOST_NQN.as_bytes());
-    script.rx(&pdu)?;
-    script.pdu("0500180018000000 2a00000000000000 0000 0000 0100 0483", 0)?;
+    script.rx(&pdu);
+    script.pdu("0500180018000000 2a00000000000000 0000 0000 0100 0483", 0);
     put_sqe(&mut pdu, 42, &[0]);
-    script.rx(&pdu)?;
-    script.pdu("0500180018000000 1000010000000000 0000 0000 0100 0483", 0)?;
+    script.rx(&pdu);
+    script.pdu("0500180018000000 1000010000000000 0000 0000 0100 0483", 0);
     put_data(&mut pdu, 16, &[0xFF, 0xFF]);
-    script.rx(&pdu)?;
-    script.pdu(SERVED, 0)?;
-    script.rx(&enable(alloc, 2)?)?;
-    script.pdu("0500180018000000 0000000000000000 0200 0000 0200 0000", 0)?;
+    script.rx(&pdu);
+    script.pdu(SERVED, 0);
+    script.rx(&enable(2));
+    script.pdu("0500180018000000 0000000000000000 0200 0000 0200 0000", 0);
     script.passes(&rt, "every reason")
 }
 
 #[test]
 fn a_connect_without_its_data_is_answered(rt: HostRuntime) -> Result<(), Fail> {
     let alloc = rt.alloc();
-    let mut pdu = connect(alloc)?;
-    pdu.truncate(72);
-    super::bytes::put(&mut pdu, 3, &[0, 0x48, 0]);
-    let mut script = Script::initialized(alloc)?;
-    script.rx(&pdu)?;
-    script.pdu("0500180018000000 0000000000000000 0000 0000 0100 2c80", 0)?;
+    let mut pdu = connect();
+    put(&mut pdu, 3, &[0, 0x48, 0]);
+    let mut script = Script::initialized(alloc);
+    script.rx(front(&pdu, 72));
+    script.pdu("0500180018000000 0000000000000000 0000 0000 0100 2c80", 0);
     script.passes(&rt, "no data in the capsule")
 }

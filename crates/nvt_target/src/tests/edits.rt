@@ -9,7 +9,7 @@ use std::test::Fail;
 // Runs a script that opens a connection, over these edits, and compares the fault's text.
 fn refuses(rt: &impl Abort, alloc: Global, edits: &str, text: &str) -> Result<(), Fail> {
     let mut script = Script::new(alloc);
-    script.line("open 1")?;
+    script.line("open 1");
     let (outcome, out) = script.replayed(edits)?;
     assert!(rt; out.is_empty(), "{edits}");
     match outcome {
@@ -141,8 +141,8 @@ fn edits_are_applied_before_the_script(rt: HostRuntime) -> Result<(), Fail> {
     let alloc = rt.alloc();
     let mut script = Script::new(alloc);
     for id in ["1", "2", "65535"] {
-        script.line(format!(in alloc; "open {id}")?.as_str())?;
-        script.line("end 0")?;
+        script.line(format_args!("open {id}"));
+        script.line("end 0");
     }
     let edits = "port add 65535 ipv6 ::1 1\nport add 2 ipv4 127.0.0.1 65535";
     let (outcome, out) = script.replayed(edits)?;

@@ -1,6 +1,6 @@
 //! PDUs that end their connection.
 
-use super::bytes::{capsule, connect, icreq, put, zeros};
+use super::bytes::{capsule, connect, front, icreq, put};
 use super::script::{PORT, Script, UNITS};
 use crate::replay::{ReplayFault, replay};
 use std::io;
@@ -71,11 +71,11 @@ fn a_faulty_common_header_is_answered(rt: HostRuntime) -> Result<(), Fail> {
         ),
     ];
     for (head, fault, rule) in cases {
-        let mut script = Script::initialized(alloc)?;
-        let bytes = hex::decode(alloc, head)?;
-        let fields = format!(in alloc; "0300180020000000 {fault}")?;
-        script.rx(&bytes)?;
-        script.termination(fields.as_str(), &bytes)?;
+        let mut bytes = [0; 8];
+        hex::decode_to_slice(head, &mut bytes)?;
+        let mut script = Script::initialized(alloc);
+        script.rx(&bytes);
+        script.termination(format_args!("0300180020000000 {fault}"), &bytes);
         script.passes(&rt, rule)?;
     }
     Ok(())
@@ -84,21 +84,20 @@ fn a_faulty_common_header_is_answered(rt: HostRuntime) -> Result<(), Fail> {
 #[test]
 fn a_first_pdu_that_is_no_icreq_is_answered(rt: HostRuntime) -> Result<(), Fail> {
     let alloc = rt.alloc();
-    let mut script = Script::opened(alloc)?;
-    let pdu = capsule(alloc, 0x7F, 1)?;
-    script.rx(&pdu)?;
-    script.termination("0300180060000000 0200 00000000", &pdu)?;
+    let mut script = Script::opened(alloc);
+    let pdu = capsule(0x7F, 1);
+    script.rx(&pdu);
+    script.termination("0300180060000000 0200 00000000", &pdu);
     script.passes(&rt, "a capsule")?;
-    let mut script = Script::opened(alloc)?;
-    let mut pdu = zeros(alloc, 28)?;
+    let mut script = Script::opened(alloc);
+    let mut pdu = [0; 28];
     put(
         &mut pdu,
         0,
         &[0x06, 0x00, 0x18, 0x18, 0x1C, 0x00, 0x00, 0x00],
     );
-    script.rx(&pdu)?;
-    pdu.truncate(24);
-    script.termination("0300180030000000 0200 00000000", &pdu)?;
+    script.rx(&pdu);
+    script.termination("0300180030000000 0200 00000000", front(&pdu, 24));
     script.passes(&rt, "data")
 }
 
@@ -114,61 +113,57 @@ fn a_faulty_icreq_is_answered(rt: HostRuntime) -> Result<(), Fail> {
         (0, 32, "0100 0a000000", "HPDA over 31"),
     ];
     for (pfv, hpda, fault, rule) in cases {
-        let mut script = Script::opened(alloc)?;
-        let mut pdu = icreq(alloc)?;
+        let mut script = Script::opened(alloc);
+        let mut pdu = icreq();
         put(&mut pdu, 8, &[pfv]);
         put(&mut pdu, 10, &[hpda]);
-        let fields = format!(in alloc; "0300180098000000 {fault}")?;
-        script.rx(&pdu)?;
-        script.termination(fields.as_str(), &pdu)?;
+        script.rx(&pdu);
+        script.termination(format_args!("0300180098000000 {fault}"), &pdu);
         script.passes(&rt, rule)?;
     }
-    let mut script = Script::initialized(alloc)?;
-    let pdu = icreq(alloc)?;
-    script.rx(&pdu)?;
-    script.termination("0300180098000000 0200 00000000", &pdu)?;
+    let mut script = Script::initialized(alloc);
+    let pdu = icreq();
+    script.rx(&pdu);
+    script.termination("0300180098000000 0200 00000000", &pdu);
     script.passes(&rt, "a second ICReq")
 }
 
 #[test]
 fn data_that_no_transfer_awaits_is_answered(rt: HostRuntime) -> Result<(), Fail> {
     let alloc = rt.alloc();
-    let mut pdu = zeros(alloc, 28)?;
+    let mut pdu = [0; 28];
     put(
         &mut pdu,
         0,
         &[0x06, 0x00, 0x18, 0x18, 0x1C, 0x00, 0x00, 0x00, 0x01],
     );
-    let mut head = pdu.clone()?;
-    head.truncate(24);
-    let mut script = Script::initialized(alloc)?;
-    script.rx(&pdu)?;
-    script.termination("0300180030000000 0100 0a000000", &head)?;
+    let head = front(&pdu, 24);
+    let mut script = Script::initialized(alloc);
+    script.rx(&pdu);
+    script.termination("0300180030000000 0100 0a000000", head);
     script.passes(&rt, "before Connect")?;
-    let mut script = Script::enabled(alloc)?;
-    script.rx(&pdu)?;
-    script.termination("0300180030000000 0100 0a000000", &head)?;
+    let mut script = Script::enabled(alloc);
+    script.rx(&pdu);
+    script.termination("0300180030000000 0100 0a000000", head);
     script.passes(&rt, "after it")
 }
 
 #[test]
 fn a_capsule_brings_8192_bytes(rt: HostRuntime) -> Result<(), Fail> {
     let alloc = rt.alloc();
-    let mut most = connect(alloc)?;
-    most.extend_from_slice(&zeros(alloc, 8192 - 1024)?)?;
+    let mut most = [0; 72 + 8192];
+    put(&mut most, 0, &connect());
     put(&mut most, 4, &[0x48, 0x20]);
-    let mut script = Script::initialized(alloc)?;
-    script.rx(&most)?;
-    script.pdu("0500180018000000 0100000000000000 0100 0000 0100 0000", 0)?;
+    let mut script = Script::initialized(alloc);
+    script.rx(&most);
+    script.pdu("0500180018000000 0100000000000000 0100 0000 0100 0000", 0);
     script.passes(&rt, "8,192 bytes")?;
-    let mut over = most.clone()?;
-    over.push(0)?;
+    let mut over = [0; 72 + 8193];
+    put(&mut over, 0, &most);
     put(&mut over, 4, &[0x49, 0x20]);
-    let mut head = over.clone()?;
-    head.truncate(72);
-    let mut script = Script::initialized(alloc)?;
-    script.rx(&over)?;
-    script.termination("0300180060000000 0500 00000000", &head)?;
+    let mut script = Script::initialized(alloc);
+    script.rx(&over);
+    script.termination("0300180060000000 0500 00000000", front(&over, 72));
     script.passes(&rt, "8,193 bytes")
 }
 

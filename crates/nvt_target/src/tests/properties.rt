@@ -7,11 +7,11 @@ use std::test::Fail;
 #[test]
 fn properties_are_read(rt: HostRuntime) -> Result<(), Fail> {
     let alloc = rt.alloc();
-    let mut script = Script::connected(alloc)?;
-    script.rx(&property_get(alloc, 2, 1, 0)?)?;
-    script.pdu("0500180018000000 3f00010220000008 0200 0000 0200 0000", 0)?;
-    script.rx(&property_get(alloc, 3, 1, 0x10)?)?;
-    script.pdu("0500180018000000 0000000000000000 0300 0000 0300 0480", 0)?;
+    let mut script = Script::connected(alloc);
+    script.rx(&property_get(2, 1, 0));
+    script.pdu("0500180018000000 3f00010220000008 0200 0000 0200 0000", 0);
+    script.rx(&property_get(3, 1, 0x10));
+    script.pdu("0500180018000000 0000000000000000 0300 0000 0300 0480", 0);
     script.passes(&rt, "CAP, and no property at 10h")
 }
 
@@ -48,10 +48,12 @@ fn a_property_has_its_own_size(rt: HostRuntime) -> Result<(), Fail> {
         ),
     ];
     for (attrib, offset, value, status, rule) in cases {
-        let mut script = Script::connected(alloc)?;
-        script.rx(&property_get(alloc, 2, attrib, offset)?)?;
-        let fields = format!(in alloc; "0500180018000000 {value} 0200 0000 0200 {status}")?;
-        script.pdu(fields.as_str(), 0)?;
+        let mut script = Script::connected(alloc);
+        script.rx(&property_get(2, attrib, offset));
+        script.pdu(
+            format_args!("0500180018000000 {value} 0200 0000 0200 {status}"),
+            0,
+        );
         script.passes(&rt, rule)?;
     }
     Ok(())
@@ -120,16 +122,22 @@ fn properties_are_set(rt: HostRuntime) -> Result<(), Fail> {
         ),
     ];
     for (attrib, offset, value, status, cc, csts, rule) in cases {
-        let mut script = Script::connected(alloc)?;
-        script.rx(&property_set(alloc, 2, attrib, offset, value)?)?;
-        let set = format!(in alloc; "0500180018000000 0000000000000000 0200 0000 0200 {status}")?;
-        script.pdu(set.as_str(), 0)?;
-        script.rx(&property_get(alloc, 3, 0, 0x14)?)?;
-        let cc = format!(in alloc; "0500180018000000 {cc}00000000 0300 0000 0300 0000")?;
-        script.pdu(cc.as_str(), 0)?;
-        script.rx(&property_get(alloc, 4, 0, 0x1C)?)?;
-        let csts = format!(in alloc; "0500180018000000 {csts}00000000 0400 0000 0400 0000")?;
-        script.pdu(csts.as_str(), 0)?;
+        let mut script = Script::connected(alloc);
+        script.rx(&property_set(2, attrib, offset, value));
+        script.pdu(
+            format_args!("0500180018000000 0000000000000000 0200 0000 0200 {status}"),
+            0,
+        );
+        script.rx(&property_get(3, 0, 0x14));
+        script.pdu(
+            format_args!("0500180018000000 {cc}00000000 0300 0000 0300 0000"),
+            0,
+        );
+        script.rx(&property_get(4, 0, 0x1C));
+        script.pdu(
+            format_args!("0500180018000000 {csts}00000000 0400 0000 0400 0000"),
+            0,
+        );
         script.passes(&rt, rule)?;
     }
     Ok(())
@@ -138,23 +146,23 @@ fn properties_are_set(rt: HostRuntime) -> Result<(), Fail> {
 #[test]
 fn a_reset_takes_readiness_away(rt: HostRuntime) -> Result<(), Fail> {
     let alloc = rt.alloc();
-    let mut script = Script::enabled(alloc)?;
-    script.rx(&property_set(alloc, 3, 0, 0x14, 0x0046_0000)?)?;
-    script.pdu("0500180018000000 0000000000000000 0300 0000 0300 0000", 0)?;
-    script.rx(&property_get(alloc, 4, 0, 0x1C)?)?;
-    script.pdu("0500180018000000 0000000000000000 0400 0000 0400 0000", 0)?;
-    script.rx(&super::bytes::get_log(alloc, 5, 0, 1024)?)?;
-    script.pdu("0500180018000000 0000000000000000 0500 0000 0500 1880", 0)?;
+    let mut script = Script::enabled(alloc);
+    script.rx(&property_set(3, 0, 0x14, 0x0046_0000));
+    script.pdu("0500180018000000 0000000000000000 0300 0000 0300 0000", 0);
+    script.rx(&property_get(4, 0, 0x1C));
+    script.pdu("0500180018000000 0000000000000000 0400 0000 0400 0000", 0);
+    script.rx(&super::bytes::get_log(5, 0, 1024));
+    script.pdu("0500180018000000 0000000000000000 0500 0000 0500 1880", 0);
     script.passes(&rt, "EN from 1 to 0")
 }
 
 #[test]
 fn an_unknown_fabrics_type_is_answered(rt: HostRuntime) -> Result<(), Fail> {
     let alloc = rt.alloc();
-    let mut pdu = property_get(alloc, 2, 1, 0)?;
+    let mut pdu = property_get(2, 1, 0);
     put_sqe(&mut pdu, 4, &[0x05]);
-    let mut script = Script::connected(alloc)?;
-    script.rx(&pdu)?;
-    script.pdu("0500180018000000 0000000000000000 0200 0000 0200 0480", 0)?;
+    let mut script = Script::connected(alloc);
+    script.rx(&pdu);
+    script.pdu("0500180018000000 0000000000000000 0200 0000 0200 0480", 0);
     script.passes(&rt, "FCTYPE 05h")
 }

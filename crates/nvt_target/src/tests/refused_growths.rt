@@ -5,7 +5,8 @@ use super::bytes::{DISCOVERY_NQN, HOST_NQN};
 use nvt_config::{Edit, EditFault, Family, NewFault, Text};
 use nvt_fields::{Nqn, NqnFault};
 use pdu_cut::{RxBuf, Side};
-use std::alloc::AllocError;
+use std::alloc::{AllocError, Global};
+use std::process::Abort;
 use std::test::Fail;
 use target_core::{OpenFault, StepFault, Target};
 
@@ -19,7 +20,7 @@ macro_rules! again {
             Ok(value) => value,
             Err(fault) => {
                 assert!($rt; matches!(&fault, $memory));
-                $refused = $refused.saturating_add(1);
+                *$refused = $refused.saturating_add(1);
                 $call?
             }
         }
@@ -119,17 +120,32 @@ fn wanted() -> [u8; SENT] {
     sent
 }
 
-#[test]
-fn each_call_is_made_again(rt: HostRuntime) -> Result<(), Fail> {
-    let alloc = rt.alloc();
-    let mut refused = 0u32;
+fn a_name_is_read(rt: &impl Abort, alloc: Global, refused: &mut u32) -> Result<(), Fail> {
     let name = HOST_NQN.as_bytes();
     let nqn = again!(rt, refused, NqnFault::Memory, Nqn::read(alloc, name));
     assert_eq!(rt; nqn.as_bytes(), name);
+    Ok(())
+}
+
+fn a_buffer_is_made(rt: &impl Abort, alloc: Global, refused: &mut u32) -> Result<(), Fail> {
     let buffer = again!(rt, refused, AllocError, RxBuf::new(alloc, Side::Target));
     assert_eq!(rt; buffer.room(), 32_768);
+    Ok(())
+}
+
+// A target of one disk.
+fn a_target_is_made(rt: &impl Abort, alloc: Global, refused: &mut u32) -> Result<Target, Fail> {
     let units = [2048];
-    let mut target = again!(rt, refused, NewFault::Memory, Target::new(alloc, &units));
+    let target = again!(rt, refused, NewFault::Memory, Target::new(alloc, &units));
+    Ok(target)
+}
+
+fn a_port_is_added(
+    rt: &impl Abort,
+    alloc: Global,
+    target: &mut Target,
+    refused: &mut u32,
+) -> Result<(), Fail> {
     let address = b"127.0.0.1".as_slice();
     let address = again!(rt, refused, AllocError, Vec::from_slice(alloc, address));
     let edit = Edit::PortAdd {
@@ -139,6 +155,15 @@ fn each_call_is_made_again(rt: HostRuntime) -> Result<(), Fail> {
         service: 4420,
     };
     again!(rt, refused, EditFault::Memory, target.edit(&edit));
+    Ok(())
+}
+
+// From the opening of a connection to its log page.
+fn a_connection_is_served(
+    rt: &impl Abort,
+    target: &mut Target,
+    refused: &mut u32,
+) -> Result<(), Fail> {
     let k = again!(rt, refused, OpenFault::Memory, target.open(1));
     let (icreq, connect, enable) = (icreq(), connect(), enable());
     let (get_status, get_log) = (get_status(), get_log());
@@ -155,6 +180,18 @@ fn each_call_is_made_again(rt: HostRuntime) -> Result<(), Fail> {
     }
     assert_eq!(rt; len, SENT);
     assert_eq!(rt; sent.as_slice(), wanted().as_slice());
+    Ok(())
+}
+
+#[test]
+fn each_call_is_made_again(rt: HostRuntime) -> Result<(), Fail> {
+    let alloc = rt.alloc();
+    let mut refused = 0u32;
+    a_name_is_read(&rt, alloc, &mut refused)?;
+    a_buffer_is_made(&rt, alloc, &mut refused)?;
+    let mut target = a_target_is_made(&rt, alloc, &mut refused)?;
+    a_port_is_added(&rt, alloc, &mut target, &mut refused)?;
+    a_connection_is_served(&rt, &mut target, &mut refused)?;
     println!(rt; "refused growths: {refused}")?;
     Ok(())
 }

@@ -51,11 +51,11 @@ fn a_line_of_another_form_ends_the_replay(rt: HostRuntime) -> Result<(), Fail> {
         "port add 2 ipv4 127.0.0.1 4420",
     ];
     for line in lines {
-        let mut script = Script::opened(alloc)?;
-        script.line("end 5")?;
-        script.prints("5 none")?;
-        script.line(line)?;
-        script.line("open 1")?;
+        let mut script = Script::opened(alloc);
+        script.line("end 5");
+        script.prints("5 none");
+        script.line(line);
+        script.line("open 1");
         script.ends(&rt, line, Err(ReplayFault::StreamLine { line: 3 }))?;
     }
     Ok(())
@@ -65,21 +65,21 @@ fn a_line_of_another_form_ends_the_replay(rt: HostRuntime) -> Result<(), Fail> {
 fn the_form_is_judged_before_the_connection(rt: HostRuntime) -> Result<(), Fail> {
     let alloc = rt.alloc();
     let mut script = Script::new(alloc);
-    script.line("rx 7 0")?;
+    script.line("rx 7 0");
     script.ends(
         &rt,
         "an odd digit",
         Err(ReplayFault::StreamLine { line: 1 }),
     )?;
     let mut script = Script::new(alloc);
-    script.line("rx 7 0F")?;
-    script.prints("7 none")?;
-    script.line("open 65535")?;
-    script.prints("open refused NoSuchPort")?;
-    script.line("open 0")?;
-    script.prints("open refused NoSuchPort")?;
-    script.line("end 18446744073709551615")?;
-    script.prints("18446744073709551615 none")?;
+    script.line("rx 7 0F");
+    script.prints("7 none");
+    script.line("open 65535");
+    script.prints("open refused NoSuchPort");
+    script.line("open 0");
+    script.prints("open refused NoSuchPort");
+    script.line("end 18446744073709551615");
+    script.prints("18446744073709551615 none");
     script.passes(&rt, "the widest forms")
 }
 

@@ -2,7 +2,6 @@
 use nvt_config::{Access, Edit, Family, Text};
 use nvt_fields::Nqn;
 use std::alloc::{AllocError, Global};
-use std::test::Fail;
 
 /// Names of subsystems.
 pub const A: &[u8] = b"nqn.2026-01.test:a";
@@ -78,8 +77,12 @@ pub fn log_read(alloc: Global, cid: u8, offset: u16) -> Result<Vec<u8>, AllocErr
     capsule(alloc, &entry, &[])
 }
 
-pub fn name(alloc: Global, text: &[u8]) -> Result<Nqn, Fail> {
-    Ok(Nqn::read(alloc, text)?)
+// The names of the tests are well-formed, so that memory alone can be wanted.
+fn name(alloc: Global, text: &[u8]) -> Result<Nqn, AllocError> {
+    match Nqn::read(alloc, text) {
+        Ok(nqn) => Ok(nqn),
+        Err(_) => Err(AllocError),
+    }
 }
 
 fn text(alloc: Global, bytes: &[u8]) -> Result<Text, AllocError> {
@@ -104,24 +107,46 @@ pub fn port_set(alloc: Global, id: u64, service: u64) -> Result<Edit, AllocError
     })
 }
 
-pub fn subsystem_add(alloc: Global, nqn: &[u8], access: Access) -> Result<Edit, Fail> {
+pub fn port_del(id: u64) -> Result<Edit, AllocError> {
+    Ok(Edit::PortDel { id })
+}
+
+pub fn subsystem_add(alloc: Global, nqn: &[u8], access: Access) -> Result<Edit, AllocError> {
+    let nqn = name(alloc, nqn)?;
+    let serial = text(alloc, b"SN")?;
     Ok(Edit::SubsystemAdd {
-        nqn: name(alloc, nqn)?,
-        serial: text(alloc, b"SN")?,
+        nqn,
+        serial,
         access,
     })
 }
 
-pub fn link_add(alloc: Global, port: u64, nqn: &[u8]) -> Result<Edit, Fail> {
-    Ok(Edit::LinkAdd {
-        port,
-        subsystem: name(alloc, nqn)?,
-    })
+pub fn subsystem_set(alloc: Global, nqn: &[u8], access: Access) -> Result<Edit, AllocError> {
+    let nqn = name(alloc, nqn)?;
+    Ok(Edit::SubsystemSet { nqn, access })
 }
 
-pub fn link_del(alloc: Global, port: u64, nqn: &[u8]) -> Result<Edit, Fail> {
-    Ok(Edit::LinkDel {
-        port,
-        subsystem: name(alloc, nqn)?,
-    })
+pub fn subsystem_del(alloc: Global, nqn: &[u8]) -> Result<Edit, AllocError> {
+    let nqn = name(alloc, nqn)?;
+    Ok(Edit::SubsystemDel { nqn })
+}
+
+pub fn link_add(alloc: Global, port: u64, nqn: &[u8]) -> Result<Edit, AllocError> {
+    let subsystem = name(alloc, nqn)?;
+    Ok(Edit::LinkAdd { port, subsystem })
+}
+
+pub fn link_del(alloc: Global, port: u64, nqn: &[u8]) -> Result<Edit, AllocError> {
+    let subsystem = name(alloc, nqn)?;
+    Ok(Edit::LinkDel { port, subsystem })
+}
+
+pub fn host_add(alloc: Global, nqn: &[u8]) -> Result<Edit, AllocError> {
+    let nqn = name(alloc, nqn)?;
+    Ok(Edit::HostAdd { nqn })
+}
+
+pub fn host_del(alloc: Global, nqn: &[u8]) -> Result<Edit, AllocError> {
+    let nqn = name(alloc, nqn)?;
+    Ok(Edit::HostDel { nqn })
 }

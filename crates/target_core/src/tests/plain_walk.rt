@@ -1,7 +1,7 @@
 //! The target beside the plain walk over its history: what the two send is equal.
 use super::pdus::{
-    A, B, H1, H2, capsule, connect, connect_data, ic_req, link_add, link_del, log_read, name,
-    port_add, port_set, property, subsystem_add,
+    A, B, H1, H2, capsule, connect, connect_data, host_add, host_del, ic_req, link_add, link_del,
+    log_read, port_add, port_del, port_set, property, subsystem_add, subsystem_del, subsystem_set,
 };
 use crate::plain::{Event, sent};
 use crate::{Stepped, Target};
@@ -142,35 +142,22 @@ fn random_pdu(alloc: Global, random: &mut Pcg32, position: u32) -> Result<Vec<u8
 }
 
 // An edit of one of three ports, two subsystems and two hosts.
-fn random_edit(alloc: Global, random: &mut Pcg32) -> Result<Edit, Fail> {
+fn random_edit(alloc: Global, random: &mut Pcg32) -> Result<Edit, AllocError> {
     let id = u64::from(random.next_word() % 3);
     let nqn = pick(random, A, &[B, B, B, B]);
     let host = pick(random, H1, &[H2, H2, H2, H2]);
     let access = pick(random, Access::Open, &[Access::Closed, Access::Closed]);
-    match random.next_word() % 12 {
-        0 | 1 => Ok(port_add(alloc, id)?),
-        2 => Ok(port_set(alloc, id, u64::from(random.next_word() % 3))?),
-        3 => Ok(Edit::PortDel { id }),
+    match random.next_word() % 13 {
+        0 | 1 => port_add(alloc, id),
+        2 => port_set(alloc, id, u64::from(random.next_word() % 3)),
+        3 => port_del(id),
         4 | 5 => subsystem_add(alloc, nqn, access),
-        6 => Ok(Edit::SubsystemSet {
-            nqn: name(alloc, nqn)?,
-            access,
-        }),
-        7 => Ok(Edit::SubsystemDel {
-            nqn: name(alloc, nqn)?,
-        }),
+        6 => subsystem_set(alloc, nqn, access),
+        7 => subsystem_del(alloc, nqn),
         8 | 9 => link_add(alloc, id, nqn),
         10 => link_del(alloc, id, nqn),
-        _ => random_host_edit(alloc, random, host),
-    }
-}
-
-fn random_host_edit(alloc: Global, random: &mut Pcg32, host: &[u8]) -> Result<Edit, Fail> {
-    let nqn = name(alloc, host)?;
-    if rarely(random, 2) {
-        Ok(Edit::HostAdd { nqn })
-    } else {
-        Ok(Edit::HostDel { nqn })
+        11 => host_add(alloc, host),
+        _ => host_del(alloc, host),
     }
 }
 
@@ -295,12 +282,33 @@ fn sends_what_the_plain_walk_computes(rt: HostRuntime) -> Result<(), Fail> {
     Ok(())
 }
 
+// A PDU of the first conversation.
+#[derive(Clone, Copy)]
+enum Pdu {
+    IcReq,
+    Connect,
+    // CID, FCTYPE and offset.
+    Property(u8, u8, u8),
+    // CID and offset.
+    LogRead(u8, u16),
+}
+
+fn bytes_of(alloc: Global, pdu: Pdu) -> Result<Vec<u8>, AllocError> {
+    match pdu {
+        Pdu::IcReq => ic_req(alloc),
+        Pdu::Connect => connect(alloc, H1),
+        Pdu::Property(cid, fctype, ofst) => property(alloc, cid, fctype, ofst),
+        Pdu::LogRead(cid, offset) => log_read(alloc, cid, offset),
+    }
+}
+
 // What the target sends of these PDUs is what the plain walk computes, and is this long. Each PDU comes
 // in two pieces.
-fn compare(rt: &impl Abort, alloc: Global, pdus: Vec<Vec<u8>>, wanted: usize) -> Result<(), Fail> {
+fn compare(rt: &impl Abort, alloc: Global, pdus: &[Pdu], wanted: usize) -> Result<(), Fail> {
     let mut script = Script::new(alloc)?;
     script.open(1)?;
-    for bytes in pdus {
+    for pdu in pdus {
+        let bytes = bytes_of(alloc, *pdu)?;
         script.take(0, bytes, 127)?;
     }
     script.compare(rt, 0)?;
@@ -310,28 +318,36 @@ fn compare(rt: &impl Abort, alloc: Global, pdus: Vec<Vec<u8>>, wanted: usize) ->
 
 #[test]
 fn the_first_conversation_is_what_the_plain_walk_computes(rt: HostRuntime) -> Result<(), Fail> {
-    let alloc = rt.alloc();
-    compare(&rt, alloc, vec![in alloc; ic_req(alloc)?]?, 128)?;
-    compare(&rt, alloc, vec![in alloc]?, 0)?;
-    let first = vec![in alloc; property(alloc, 1, 4, 0)?]?;
-    compare(&rt, alloc, first, 96)?;
-    let properties = vec![in alloc;
-        ic_req(alloc)?,
-        connect(alloc, H1)?,
-        property(alloc, 2, 4, 0)?,
-        property(alloc, 3, 4, 0x10)?,
-    ]?;
-    compare(&rt, alloc, properties, 128 + 3 * 24)?;
-    let reads = vec![in alloc;
-        ic_req(alloc)?,
-        connect(alloc, H1)?,
-        property(alloc, 2, 0, 0x14)?,
-        property(alloc, 3, 4, 0x1C)?,
-        log_read(alloc, 4, 0)?,
-        log_read(alloc, 5, 1024)?,
-        log_read(alloc, 6, 1028)?,
-    ]?;
-    compare(&rt, alloc, reads, 128 + 3 * 24 + 2 * (24 + 1024 + 24) + 24)
+    let rows: [(&[Pdu], usize); 5] = [
+        (&[Pdu::IcReq], 128),
+        (&[], 0),
+        (&[Pdu::Property(1, 4, 0)], 96),
+        (
+            &[
+                Pdu::IcReq,
+                Pdu::Connect,
+                Pdu::Property(2, 4, 0),
+                Pdu::Property(3, 4, 0x10),
+            ],
+            128 + 3 * 24,
+        ),
+        (
+            &[
+                Pdu::IcReq,
+                Pdu::Connect,
+                Pdu::Property(2, 0, 0x14),
+                Pdu::Property(3, 4, 0x1C),
+                Pdu::LogRead(4, 0),
+                Pdu::LogRead(5, 1024),
+                Pdu::LogRead(6, 1028),
+            ],
+            128 + 3 * 24 + 2 * (24 + 1024 + 24) + 24,
+        ),
+    ];
+    for (pdus, wanted) in rows {
+        compare(&rt, rt.alloc(), pdus, wanted)?;
+    }
+    Ok(())
 }
 
 #[test]
