@@ -28,6 +28,15 @@ fn sixty_four_are_open_at_a_time(rt: HostRuntime) -> Result<(), Fail> {
     driver.finish()
 }
 
+// The controller's identifier in the result of a response to Connect.
+fn identifier(response: &[u8; 24]) -> u16 {
+    u16::from_le_bytes([response[8], response[9]])
+}
+
+fn status(response: &[u8; 24]) -> u16 {
+    u16::from_le_bytes([response[22], response[23]])
+}
+
 #[test]
 fn each_controller_gets_the_least_free_identifier(rt: HostRuntime) -> Result<(), Fail> {
     let alloc = rt.alloc();
@@ -35,14 +44,14 @@ fn each_controller_gets_the_least_free_identifier(rt: HostRuntime) -> Result<(),
     for k in 0..33usize {
         assert_eq!(rt; driver.target.open(1), Ok(k));
     }
-    for cntlid in 1..33u8 {
+    for cntlid in 1..33u16 {
         let response = driver.connect(usize::from(cntlid), H1);
-        assert_eq!(rt; response.get(8..12), Some([cntlid, 0, 0, 0].as_slice()));
-        assert_eq!(rt; response.get(22..24), Some([0, 0].as_slice()));
+        assert_eq!(rt; identifier(&response), cntlid);
+        assert_eq!(rt; status(&response), 0);
     }
     let refused = driver.connect(0, H1);
-    assert_eq!(rt; refused.get(8..12), Some([0, 0, 0, 0].as_slice()));
-    assert_eq!(rt; refused.get(22..24), Some([0x02, 0x83].as_slice()));
+    assert_eq!(rt; identifier(&refused), 0);
+    assert_eq!(rt; status(&refused), 0x8302);
     driver.target.end(7);
     driver.bring(0, connect(alloc, H1));
     assert_eq!(rt;
@@ -73,7 +82,7 @@ fn a_deleted_port_ends_its_connections(rt: HostRuntime) -> Result<(), Fail> {
     assert!(rt; driver.target.ended(0));
     assert_eq!(rt; driver.target.open(1), Ok(3));
     let response = driver.connect(3, H1);
-    assert_eq!(rt; response.get(8..10), Some([1, 0].as_slice()));
+    assert_eq!(rt; identifier(&response), 1);
     driver.finish()
 }
 
@@ -82,7 +91,7 @@ fn a_step_leaves_other_connections_alone(rt: HostRuntime) -> Result<(), Fail> {
     let alloc = rt.alloc();
     let mut driver = Driver::new(alloc)?;
     let request = ic_req(alloc)?;
-    let (front, back) = request.split_at(100);
+    let (front, back) = request.split_at(request.len().min(100));
     assert_eq!(rt; driver.target.open(1), Ok(0));
     assert_eq!(rt; driver.target.open(2), Ok(1));
     assert_eq!(rt; driver.target.receive(0, front), Ok(100));

@@ -74,7 +74,11 @@ impl Driver {
     }
 
     fn copy_output(&mut self, k: usize, at: usize, bytes: &mut [u8]) {
-        match self.target.output(k).get(at..at + bytes.len()) {
+        let found = match self.target.output(k).get(at..) {
+            Some(rest) => rest.get(..bytes.len()),
+            None => None,
+        };
+        match found {
             Some(found) => bytes.copy_from_slice(found),
             None => self.failed = true,
         }
