@@ -1,6 +1,7 @@
 pub mod Bytes
+pub mod Comparisons
 pub mod Counts
 pub mod Listings
 pub mod Orders
 pub mod Pages
-pub mod Slots
+pub mod Walks

@@ -1,6 +1,6 @@
 -- The page's header, and the records behind it.
-use Rattle.std.proofs.Common.{◌≡◌, ℕ, ◌+◌, ◌<◌, List, [], ◌∷◌, ◌++◌, length, get_or, take, replicate, refl, ap, sym, ◌∙◌, arith, append_assoc, length-append}
-use Rattle.std.proofs.lemmas.List.{append-nil, length-replicate, take_more}
+use Rattle.std.proofs.Common.{◌≡◌, ℕ, ◌+◌, List, [], ◌∷◌, ◌++◌, length, replicate, refl, ap, sym, ◌∙◌, arith, append_assoc, length-append}
+use Rattle.std.proofs.lemmas.List.{append-nil, length-replicate}
 use Rattle.std.proofs.lemmas.List.Concat.{flat_map-append}
 use Rattle.std.specs.Int.{w64, to_le_bytes}
 use Rattle.std.specs.List.{flat_map}
@@ -31,16 +31,6 @@ length_of_page generation records =
     ∙ length-append (header_of generation (length records)) (flat_map record_of records)
     ∙ ap (λ n. n + length (flat_map record_of records)) (length_of_header generation (length records))
 
--- the bytes of one more record
-pub records_more : (records : List Parts) (i : ℕ) (p : Parts) → i < length records → p ≡ get_or records i p → flat_map record_of (take (i + 1) records) ≡ flat_map record_of (take i records) ++ record_of p
-records_more records i p below read =
-    let e : take (i + 1) records ≡ take i records ++ p ∷ [] = take_more records i p below ∙ ap (λ y. take i records ++ y ∷ []) (sym read) in
-    rw (e, flat_map-append, append-nil) refl
-
-pub length_more : (records : List Parts) (i : ℕ) (p : Parts) → i < length records → p ≡ get_or records i p → length (flat_map record_of (take (i + 1) records)) ≡ length (flat_map record_of (take i records)) + length (record_of p)
-length_more records i p below read =
-    ap length (records_more records i p below read) ∙ length-append (flat_map record_of (take i records)) (record_of p)
-
 -- a window has its own length
 pub own_length : (out page : List ℕ) (offset n : ℕ) → out ≡ window page offset n → out ≡ window page offset (length out)
 own_length out page offset n shown =
@@ -48,12 +38,13 @@ own_length out page offset n shown =
     rw len shown
 
 -- the numbers of the header, and zeros behind them
-pub header_shown : (out : List ℕ) (offset generation count : ℕ) (records : List Parts) → out ≡ window (to_le_bytes w64 generation ++ to_le_bytes w64 count) offset (length out) → out ≡ window (header_of generation count ++ flat_map record_of (take 0 records)) offset (length out)
+pub header_shown : (out : List ℕ) (offset generation count : ℕ) → out ≡ window (to_le_bytes w64 generation ++ to_le_bytes w64 count) offset (length out) → out ≡ window (header_of generation count ++ []) offset (length out)
 unfolding header_of
-header_shown out offset generation count records shown =
+header_shown out offset generation count shown =
     rw (append-nil (to_le_bytes w64 generation ++ to_le_bytes w64 count ++ replicate 1008 0))
     (shown ∙ window-zeros (to_le_bytes w64 generation ++ to_le_bytes w64 count) 1008 offset (length out))
 
-pub record_behind : (head : List ℕ) (records : List Parts) (i : ℕ) (p : Parts) → i < length records → p ≡ get_or records i p → head ++ flat_map record_of (take (i + 1) records) ≡ (head ++ flat_map record_of (take i records)) ++ record_of p
-record_behind head records i p below read =
-    rw (records_more records i p below read) (sym (append_assoc head (flat_map record_of (take i records)) (record_of p)))
+-- one more record
+pub record_behind : (head : List ℕ) (done : List Parts) (p : Parts) → head ++ flat_map record_of (done ++ p ∷ []) ≡ (head ++ flat_map record_of done) ++ record_of p
+record_behind head done p =
+    rw (flat_map-append, append-nil (record_of p)) (sym (append_assoc head (flat_map record_of done) (record_of p)))

@@ -5,3 +5,4 @@ pub mod Record
 pub mod Records
 pub mod Same
 pub mod View
+pub mod Walk

@@ -2,8 +2,8 @@
 //! changed them, and the page's bytes from any offset. It knows no connection and no command.
 #![tactic(auto)]
 
-mod entries;
 mod entry;
+mod listing;
 mod order;
 mod page;
 pub mod plain;
@@ -11,5 +11,6 @@ mod record;
 #[cfg(test)]
 mod tests;
 pub mod view;
+mod walk;
 
 pub use view::{DiscoveryView, Plan};

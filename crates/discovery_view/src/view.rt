@@ -1,12 +1,13 @@
 //! A discovery view: it follows the edits of a configuration and lends each host its page.
-ghost use Rattle.std.specs.Prelude.{◌≡◌, ◌≤◌, ◌<◌, IsOk, IfOk, OnOk, Ok, length};
+ghost use Rattle.std.specs.Prelude.{◌≡◌, ◌≤◌, ◌<◌, IsOk, IfOk, OnOk, Ok, length, nat_lt};
 ghost use Rattle.nvt_config.specs.Accept.{accept};
 ghost use Rattle.nvt_fields.specs.Window.{window};
 ghost use Rattle.discovery_view.specs.Listing.{RecordsAreListed};
 ghost use Rattle.discovery_view.specs.View.{count_in, first_shown, page_in, shown_next};
 
-use crate::entries::{are_same, entries};
+use crate::listing::Listing;
 use crate::page::{page_len, write_page};
+use crate::record::RECORD_LEN;
 use nvt_config::{Config, Edit};
 use std::alloc::{AllocError, Global};
 use std::marker::Model;
@@ -89,7 +90,7 @@ impl DiscoveryView {
     pub fn window(&self, host: &[u8], offset: u64, out: &mut [u8])
         ensures { out.new ≡ window (page_in self.now.shown host.now) offset (length out.old) }
     {
-        let shown = entries(&self.latest, host);
+        let shown = Listing::new(&self.latest, host);
         write_page(out, offset, self.count(host), &shown);
     }
 
@@ -97,7 +98,15 @@ impl DiscoveryView {
     pub fn len(&self, host: &[u8]) -> u64
         ensures { result ≡ length (page_in self.now.shown host.now) }
     {
-        page_len(&entries(&self.latest, host))
+        page_len(&Listing::new(&self.latest, host))
+    }
+
+    /// Whether an offset is past the end of the host's page.
+    pub fn is_past_end(&self, host: &[u8], offset: u64) -> bool
+        ensures { result ≡ nat_lt (length (page_in self.now.shown host.now)) offset }
+    {
+        // Most reads begin at the header, which each page has.
+        offset > RECORD_LEN as u64 && offset > self.len(host)
     }
 
     /// The host's generation counter (GENCTR): how many edits have changed its records.
@@ -105,11 +114,11 @@ impl DiscoveryView {
         ensures { result ≡ count_in self.now.shown host.now }
     {
         let mut count: u64 = 0;
-        let mut shown = entries(&self.latest, host);
+        let mut shown = Listing::new(&self.latest, host);
         let mut past = self.past.as_slice();
         while let Some((before, rest)) = past.split_last() {
-            let earlier = entries(before, host);
-            if !are_same(&earlier, &shown) {
+            let earlier = Listing::new(before, host);
+            if !earlier.is_same(&shown) {
                 count = count.wrapping_add(1);
             }
             shown = earlier;

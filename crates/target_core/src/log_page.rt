@@ -27,7 +27,10 @@ pub(crate) fn command(view: &DiscoveryView, host: &Nqn, sqe: &Sqe<'_>) -> Outcom
         return refused(Status::INVALID_LOG_PAGE);
     }
     let len = (u64::from(request.numd) + 1) * 4;
-    if len > READ_MAX || request.offset % 4 != 0 || request.offset > view.len(host.as_bytes()) {
+    if len > READ_MAX
+        || request.offset % 4 != 0
+        || view.is_past_end(host.as_bytes(), request.offset)
+    {
         return refused(Status::INVALID_FIELD);
     }
     let sgl = sqe.sgl1();

@@ -1,4 +1,4 @@
-use Rattle.std.proofs.Common.{◌≡◌, ◌+◌, ◌%◌, ◌^◌, Some, length, map, reverse}
+use Rattle.std.proofs.Common.{◌≡◌, ◌+◌, ◌%◌, ◌^◌, length, reverse}
 use Rattle.nvt_config.specs.Configuration.{Configuration}
 use Rattle.discovery_view.specs.Records.{records_of}
 use Rattle.discovery_view.specs.View.{changes_until}
@@ -8,7 +8,7 @@ use Rattle.discovery_view.proofs.view.DiscoveryView.count.Given as goal
 abbrev pub invariant-loop-before : goal.invariant-loop-before
 invariant-loop-before l =
     (c : Configuration)
-    × (l.shown.items ≡ map (λ p. Some p) (records_of c l.host))
+    × (l.shown ≡ records_of c l.host)
     × ((l.count + changes_until c (reverse l.past) l.host) % 2 ^ 64 ≡ changes_until l.self.shown.now l.self.shown.past l.host % 2 ^ 64)
 
 abbrev pub decreases-loop-before : goal.decreases-loop-before
