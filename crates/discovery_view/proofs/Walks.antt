@@ -9,8 +9,8 @@ use Rattle.nvt_config.specs.declared.subsystem.Subsystem.{Subsystem}
 use Rattle.nvt_config.specs.Configuration.{Configuration}
 use Rattle.nvt_config.specs.Permission.{may_use}
 use Rattle.discovery_view.specs.Record.{Parts}
-use Rattle.discovery_view.specs.Records.{parts_of}
-use Rattle.discovery_view.specs.Walk.{entries_of, records_among, records_left}
+use Rattle.discovery_view.specs.Records.{parts_of, records_among}
+use Rattle.discovery_view.specs.Walk.{entries_of, records_left}
 
 pub entries_from : {T : Type 0} (slots : List (Option (Bor T))) (others : List T) → map option_copied slots ≡ map (λ y. Some y) others → entries_of slots ≡ others
 entries_from [] [] same = refl

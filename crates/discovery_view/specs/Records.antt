@@ -24,10 +24,13 @@ parts_of port subsystem = record {
   address = port.address;
 }
 
+-- those of one port, among these subsystems
+abbrev pub records_among : Configuration → List ℕ → Port → List Subsystem → List Parts
+records_among c host port subsystems = map (parts_of port) (filter (λ s. may_use c host s.nqn port.id) subsystems)
+
 -- those of one port
 abbrev pub records_on : Configuration → List ℕ → Port → List Parts
-records_on c host port =
-    map (parts_of port) (filter (λ s. may_use c host s.nqn port.id) (subsystems_in_order c))
+records_on c host port = records_among c host port (subsystems_in_order c)
 
 abbrev pub records_of : Configuration → List ℕ → List Parts
 records_of c host = flat_map (records_on c host) (ports_in_order c)

@@ -1,23 +1,18 @@
 -- A walk over the entries of a page, and what is left of it.
-use Rattle.std.specs.Prelude.{ℕ, Option, None, Some, List, [], ◌∷◌, ◌++◌, map, filter}
+use Rattle.std.specs.Prelude.{ℕ, Option, None, Some, List, [], ◌∷◌, ◌++◌}
 use Rattle.std.specs.Borrow.{Bor}
 use Rattle.std.specs.List.{flat_map}
 use Rattle.nvt_config.specs.declared.port.Port.{Port}
 use Rattle.nvt_config.specs.declared.subsystem.Subsystem.{Subsystem}
 use Rattle.nvt_config.specs.Configuration.{Configuration}
-use Rattle.nvt_config.specs.Permission.{may_use}
 use Rattle.discovery_view.specs.Record.{Parts}
-use Rattle.discovery_view.specs.Records.{parts_of}
+use Rattle.discovery_view.specs.Records.{records_among}
 
 -- what the slots hold
 abbrev pub entries_of : {T : Type 0} → List (Option (Bor T)) → List T
 entries_of [] = []
 entries_of (None ∷ slots) = entries_of slots
 entries_of (Some entry ∷ slots) = entry.now ∷ entries_of slots
-
--- the records of these subsystems on a port
-abbrev pub records_among : Configuration → List ℕ → Port → List Subsystem → List Parts
-records_among c host port subsystems = map (parts_of port) (filter (λ s. may_use c host s.nqn port.id) subsystems)
 
 -- the records on these ports: on the first of them those of the subsystems that are left, and on the
 -- others those of all

@@ -2,7 +2,8 @@
 ghost use Rattle.std.specs.Prelude.{◌≡◌, ◌≤◌, ◌∷◌, [], IsTrue, IfSome, MatchOption, drop, length};
 ghost use Rattle.std.specs.Iterator.{YieldsFirst, item_count};
 ghost use Rattle.nvt_config.specs.Port.{is_port};
-ghost use Rattle.discovery_view.specs.Walk.{entries_of, records_among};
+ghost use Rattle.discovery_view.specs.Records.{records_among};
+ghost use Rattle.discovery_view.specs.Walk.{entries_of};
 
 use crate::entry::Entry;
 use nvt_config::{Config, Port, Subsystem};

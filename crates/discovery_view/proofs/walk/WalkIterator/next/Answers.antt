@@ -1,7 +1,8 @@
 use Rattle.std.proofs.Common.{◌≡◌, ◌∙◌, ◌<◌, IsTrue, [], drop, length, sym, arith}
 use Rattle.std.proofs.lemmas.Bool.{ltb-true}
 use Rattle.nvt_config.specs.Port.{is_port}
-use Rattle.discovery_view.specs.Walk.{entries_of, records_among}
+use Rattle.discovery_view.specs.Records.{records_among}
+use Rattle.discovery_view.specs.Walk.{entries_of}
 use Rattle.discovery_view.proofs.Walks.{entry_ahead, entry_holds, none_ahead, port_done, rest_of}
 use Rattle.discovery_view.proofs.walk.WalkIterator.next.Goals as goal
 use Rattle.discovery_view.proofs.walk.WalkIterator.next.Goals.{in-Some-slot+in_default-next_on, in_default-slot}
