@@ -1,8 +1,8 @@
 //! The arguments of the program.
 
-use crate::replay::ReplayFault;
 use clap::error::ErrorKind;
 use clap::{Arg, Command, Error, value_parser};
+use nvt_replay::ReplayFault;
 use std::alloc::{AllocError, Global};
 use std::env;
 use std::rt::Env;

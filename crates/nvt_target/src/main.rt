@@ -5,18 +5,12 @@
 #![tactic(auto)]
 
 mod arguments;
-mod edit_line;
-mod lines;
-mod number;
-mod print;
 mod program;
-mod replay;
-mod stream_line;
 #[cfg(test)]
 mod tests;
 
 use arguments::Usage;
-use replay::ReplayFault;
+use nvt_replay::ReplayFault;
 use std::process::ExitCode;
 
 const FAULT: u8 = 1;

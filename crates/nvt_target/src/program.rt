@@ -1,8 +1,10 @@
 //! The command `replay`, from its files to the standard output.
 
+ghost use Rattle.std.specs.Prelude.{◌^◌, ◌≤◌, IfErr, IfOk, length};
+ghost use Rattle.nvt_replay.specs.Replay.{IsOfRun};
+
 use crate::arguments::Arguments;
-use crate::print::written;
-use crate::replay::{ReplayFault, replay};
+use nvt_replay::{ReplayFault, replay, written};
 use std::alloc::Global;
 use std::fs::File;
 use std::io::{self, BufWriter, ErrorKind, Read, Write};
@@ -37,7 +39,11 @@ pub fn run<R: Files + Print + AllocGlobal>(
     result
 }
 
-fn read_file<R: Files>(rt: &R, alloc: Global, path: &str) -> Result<Vec<u8>, ReplayFault> {
+// The bytes of a file that is not too long.
+fn read_file<R: Files>(rt: &R, alloc: Global, path: &str) -> Result<Vec<u8>, ReplayFault>
+    ensures ok { IfOk result (λ bytes. length bytes.items ≤ 2 ^ 26) }
+    ensures fault { IfErr result IsOfRun }
+{
     let mut bytes = Vec::new(alloc);
     let Ok(file) = File::open(rt, path) else {
         return Err(ReplayFault::Io);

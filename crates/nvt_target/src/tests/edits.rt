@@ -1,7 +1,7 @@
 //! The lines of edits, and the replies to those that are refused.
 
 use super::script::{Script, UNITS};
-use crate::replay::{ReplayFault, replay};
+use nvt_replay::{ReplayFault, replay};
 use std::alloc::Global;
 use std::process::Abort;
 use std::test::Fail;

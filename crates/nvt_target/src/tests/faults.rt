@@ -2,7 +2,7 @@
 
 use super::bytes::{capsule, connect, front, icreq, put};
 use super::script::{PORT, Script, UNITS};
-use crate::replay::{ReplayFault, replay};
+use nvt_replay::{ReplayFault, replay};
 use std::io;
 use std::io::Write;
 use std::test::Fail;

@@ -1,7 +1,7 @@
 //! A script that grows line by line, and beside it what it must print.
 
 use super::bytes::{connect, enable, icreq};
-use crate::replay::{ReplayFault, replay};
+use nvt_replay::{ReplayFault, replay};
 use std::alloc::{AllocError, Global};
 use std::fmt::Display;
 use std::process::Abort;

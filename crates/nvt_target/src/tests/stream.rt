@@ -1,7 +1,7 @@
 //! The lines of a script, and how a replay ends.
 
 use super::script::{PORT, Script, UNITS};
-use crate::replay::{ReplayFault, replay};
+use nvt_replay::{ReplayFault, replay};
 use std::test::Fail;
 
 #[test]

@@ -1,0 +1,101 @@
+-- The lines of edits: the line of each edit, and the first fault of a line.
+use Rattle.std.specs.Prelude.{◌≡◌, ℕ, ◌+◌, ◌≤◌, ◌==◌, ◌||◌, nat_lt, Bool, List, [], ◌∷◌, ◌++◌, length, drop, codes, Option, Some, None, if◌then◌else◌}
+use Rattle.std.specs.Fmt.{decimal}
+use Rattle.std.specs.List.{before_first, list_all}
+use Rattle.std.specs.Option.{option_or}
+use Rattle.std.specs.Str.{bytes_eq}
+use Rattle.nvt_config.specs.Text.{is_word_byte}
+use Rattle.nvt_config.specs.declared.edit.Edit.{Edit}
+use Rattle.nvt_config.specs.declared.edit.Edit.TheVariants.{PortAdd}
+use Rattle.nvt_config.specs.declared.port.Family.{Family}
+use Rattle.nvt_config.specs.declared.port.Family.TheVariants.{Ipv4, Ipv6}
+use Rattle.config_text.specs.Number.{is_number}
+use Rattle.config_text.specs.declared.edit_line.LineFault.{LineFault}
+use Rattle.config_text.specs.declared.edit_line.LineFaultKind.{LineFaultKind}
+use Rattle.config_text.specs.declared.edit_line.LineFaultKind.TheVariants.{TooLong, Empty, UnknownWord, Missing, BadNumber, BadWord, Extra}
+use Rattle.config_text.specs.declared.edit_line.ReadEditFault.{ReadEditFault}
+use Rattle.config_text.specs.declared.edit_line.ReadEditFault.TheVariants.{Line, Memory}
+
+abbrev pub family_word : Family → List ℕ
+family_word Ipv4 = codes "ipv4"
+family_word Ipv6 = codes "ipv6"
+
+-- words, with one space between
+abbrev pub port_add_line : ℕ → Family → List ℕ → ℕ → List ℕ
+port_add_line id family address service =
+    codes "port" ++ 32 ∷ (codes "add" ++ 32 ∷ (decimal id ++ 32 ∷ (family_word family ++ 32 ∷
+    (address ++ 32 ∷ decimal service))))
+
+-- Whether this is the edit's one line. Until the edit language is built, `port add` alone has a line.
+abbrev pub IsLineOf : List ℕ → Edit → Type 0
+IsLineOf line (PortAdd id family address service) = line ≡ port_add_line id family address service
+IsLineOf line _ = ⊥
+
+-- what a word of a line has to be
+pub data Form : Type 0 where
+  keyword_form : List ℕ → Form
+  number_form : Form
+  family_form : Form
+  address_form : Form
+
+abbrev pub port_add_forms : List Form
+port_add_forms =
+    keyword_form (codes "port") ∷ keyword_form (codes "add") ∷ number_form
+    ∷ family_form ∷ address_form ∷ number_form ∷ []
+
+abbrev pub allows : Form → List ℕ → Bool
+allows (keyword_form text) word = bytes_eq word text
+allows number_form word = is_number word
+allows family_form word = bytes_eq word (codes "ipv4") || bytes_eq word (codes "ipv6")
+allows address_form word = list_all is_word_byte word
+
+abbrev pub kind_of : Form → LineFaultKind
+kind_of (keyword_form text) = UnknownWord
+kind_of number_form = BadNumber
+kind_of family_form = BadWord
+kind_of address_form = BadWord
+
+abbrev pub fault : ℕ → LineFaultKind → Option LineFault
+fault column kind = Some (record { column = column; kind = kind })
+
+-- the word at a column, up to the next space or the line's end
+abbrev pub word_at : List ℕ → ℕ → List ℕ
+word_at line column = before_first (λ b. b == 32) (drop column line)
+
+-- the column of the word after it; past the line's end where there is none
+abbrev pub next_column : List ℕ → ℕ → ℕ
+next_column line column = column + length (word_at line column) + 1
+
+-- from a column of a line to the next, where there is a word
+abbrev pub IsMoved : List ℕ → ℕ → List ℕ → ℕ → Type 0
+IsMoved old column new next = (new ≡ old) × (column ≤ length old) × (next ≡ next_column old column)
+
+-- there has to be a word, of a byte at least
+abbrev pub absence : List ℕ → ℕ → Option LineFault
+absence line column =
+    if nat_lt (length line) column then fault (length line) Missing
+    else if length (word_at line column) == 0 then fault column Empty else None
+
+-- the word at a column has to be of this form
+abbrev pub word_fault : List ℕ → ℕ → Form → Option LineFault
+word_fault line column form =
+    option_or (absence line column)
+    (if allows form (word_at line column) then None else fault column (kind_of form))
+
+-- the words from a column on have to be of these forms, and no more
+abbrev pub fault_from : List ℕ → ℕ → List Form → Option LineFault
+fault_from line column [] =
+    if nat_lt (length line) column then None
+    else option_or (absence line column) (fault column Extra)
+fault_from line column (form ∷ forms) =
+    option_or (word_fault line column form) (fault_from line (next_column line column) forms)
+
+-- the first fault of a line
+abbrev pub line_fault : List ℕ → Option LineFault
+line_fault line =
+    if nat_lt 1024 (length line) then fault 0 TooLong else fault_from line 0 port_add_forms
+
+-- the fault is that of the line; memory is wanted only where there is none
+abbrev pub IsReadFault : List ℕ → ReadEditFault → Type 0
+IsReadFault line (Line fault) = line_fault line ≡ Some fault
+IsReadFault line Memory = line_fault line ≡ None

@@ -1,0 +1,3 @@
+pub mod EditLine
+pub mod Lines
+pub mod Number

@@ -1,0 +1,105 @@
+-- The lines of a file, taken in turn.
+use Rattle.std.proofs.Common.{◌≡◌, ℕ, ◌+◌, ◌-◌, ◌<◌, List, [], ◌∷◌, ◌++◌, length, suc, get_or, get_or-drop, take, drop, length-drop, refl, sym, ap, subst, ◌∙◌, arith, true, inl, inr, Ok}
+use Rattle.std.specs.List.{All}
+use Rattle.std.proofs.lemmas.List.{drop-drop, take_all, take_more}
+use Rattle.std.proofs.lemmas.List.Elements.{All-push}
+use Rattle.nvt_config.specs.declared.edit.Edit.{Edit}
+use Rattle.nvt_config.specs.Accept.{accept}
+use Rattle.nvt_config.specs.Configuration.{Configuration, are_disks, disks_alone}
+use Rattle.config_text.specs.EditLine.{IsLineOf}
+use Rattle.config_text.specs.Lines.{lines_of}
+use Rattle.nvt_replay.specs.Replay.{Configures, Explains, IsFirstMalformed, RefusesEdits, RefusesLine, Refuses}
+use Rattle.nvt_replay.specs.StreamLine.{IsStreamLine, Says}
+use Rattle.nvt_replay.specs.declared.stream_line.StreamLine.{StreamLine}
+use Rattle.nvt_replay.specs.declared.stream_line.StreamLine.TheVariants as stream
+use Rattle.nvt_replay.specs.declared.playback.ReplayFault.{ReplayFault}
+use Rattle.nvt_replay.specs.declared.playback.ReplayFault.TheVariants as fault
+
+-- where a line is left, it is the next
+pub record IsNext (all : List (List ℕ)) (n : ℕ) (line : List ℕ) (rest : List (List ℕ)) : Type 0 where
+  pub below : n < length all
+  pub is : get_or all n [] ≡ line
+  pub after : drop (n + 1) all ≡ rest
+  pub more : take (n + 1) all ≡ take n all ++ line ∷ []
+
+pub next_line : (all : List (List ℕ)) (n : ℕ) (line : List ℕ) (rest : List (List ℕ)) → drop n all ≡ line ∷ rest → IsNext all n line rest
+next_line all n line rest e =
+    let len : length all - n ≡ suc (length rest) = sym (length-drop n all) ∙ ap length e in
+    let lt : n < length all = omega arith in
+    let plus : n ≡ n + 0 = omega arith in
+    let here : get_or all n [] ≡ line = ap (λ k. get_or all k []) plus ∙ sym (get_or-drop n all 0 []) ∙ ap (λ xs. get_or xs 0 []) e in
+    record {
+      below = lt;
+      is = here;
+      after = sym (drop-drop 1 n all) ∙ ap (drop 1) e;
+      more = take_more all n [] lt ∙ ap (λ x. take n all ++ x ∷ []) here;
+    }
+
+-- where none is left, all were taken
+pub all_taken : (all : List (List ℕ)) (n : ℕ) → drop n all ≡ [] → take n all ≡ all
+all_taken all n e =
+    let len : length all - n ≡ 0 = sym (length-drop n all) ∙ ap length e in
+    take_all n all (omega arith)
+
+pub Configures-push : (lines : List (List ℕ)) (old mid new : Configuration) (line : List ℕ) (edit : Edit) → Configures lines old mid → IsLineOf line edit → accept mid edit ≡ Ok new → Configures (lines ++ line ∷ []) old new
+Configures-push [] old mid new line edit before e accepted = (edit, e, new, ap (λ c. accept c edit) (sym before) ∙ accepted, refl)
+Configures-push (first ∷ lines) old mid new line edit before e accepted =
+    (before.0, before.1, before.2, before.3, Configures-push lines before.2 mid new line edit before.4 e accepted)
+
+pub before_more : (all : List (List ℕ)) (n : ℕ) (line : List ℕ) (rest : List (List ℕ)) (old mid new : Configuration) → drop n all ≡ line ∷ rest → Configures (take n all) old mid
+    → (edit : Edit) × IsLineOf line edit × (accept mid edit ≡ Ok new) → Configures (take (n + 1) all) old new
+before_more all n line rest old mid new e before taken =
+    subst (λ lines. Configures lines old new) (sym (next_line all n line rest e).more)
+    (Configures-push (take n all) old mid new line taken.0 before taken.1 taken.2)
+
+-- a line that is refused is the first
+pub refused_at : (f : ReplayFault) (edits units : List ℕ) (n : ℕ) (line : List ℕ) (rest : List (List ℕ)) (c : Configuration) → are_disks units ≡ true → drop n (lines_of edits) ≡ line ∷ rest
+    → Configures (take n (lines_of edits)) (disks_alone units) c → RefusesLine f c line (n + 1) → RefusesEdits f edits units
+refused_at (fault.EditLine m reply) edits units n line rest c disks e before refuses =
+    let next = next_line (lines_of edits) n line rest e in
+    let number : m ≡ n + 1 = refuses.0 in
+    let front : m - 1 ≡ n = omega arith in
+    let below : n < length (lines_of edits) = next.below in (
+      disks,
+      record {
+        counted = (omega arith, omega arith);
+        found = (
+          c,
+          subst (λ k. Configures (take k (lines_of edits)) (disks_alone units) c) (sym front) before,
+          subst (λ l. Refuses c l reply) (sym (ap (λ k. get_or (lines_of edits) k []) front ∙ next.is)) refuses.1,
+        );
+      },
+    )
+refused_at (fault.StreamLine m) edits units n line rest c disks e before refuses = refuses
+refused_at fault.Memory edits units n line rest c disks e before refuses = tt
+refused_at fault.Io edits units n line rest c disks e before refuses = refuses
+refused_at fault.Disks edits units n line rest c disks e before refuses = absurd refuses
+
+-- a fault of the edits explains them to the whole replay
+pub explained : (f : ReplayFault) (edits stream units : List ℕ) → RefusesEdits f edits units → Explains f edits stream units
+explained (fault.EditLine m reply) edits stream units h = h
+explained (fault.StreamLine m) edits stream units h = absurd h
+explained fault.Memory edits stream units h = tt
+explained fault.Io edits stream units h = absurd h
+explained fault.Disks edits stream units h = h
+
+-- what a line says makes it one of the three forms
+pub is_stream_line : (line : List ℕ) (says : StreamLine) → Says line says → IsStreamLine line
+is_stream_line line (stream.Open port) h = inl (port, h)
+is_stream_line line (stream.Receive k hex) h = inr (inl (k, hex.now, h))
+is_stream_line line (stream.End k) h = inr (inr (k, h))
+
+pub well_formed_more : (all : List (List ℕ)) (n : ℕ) (line : List ℕ) (rest : List (List ℕ)) → drop n all ≡ line ∷ rest → All IsStreamLine (take n all) → IsStreamLine line → All IsStreamLine (take (n + 1) all)
+well_formed_more all n line rest e before is =
+    subst (All IsStreamLine) (sym (next_line all n line rest e).more) (All-push IsStreamLine (take n all) line before is)
+
+pub malformed_at : (all : List (List ℕ)) (n : ℕ) (line : List ℕ) (rest : List (List ℕ)) → drop n all ≡ line ∷ rest → All IsStreamLine (take n all) → ¬ IsStreamLine line → IsFirstMalformed all (n + 1)
+malformed_at all n line rest e before not =
+    let next = next_line all n line rest e in
+    let below : n < length all = next.below in
+    let front : n + 1 - 1 ≡ n = omega arith in
+    record {
+      counted = (omega arith, omega arith);
+      before = subst (λ k. All IsStreamLine (take k all)) (sym front) before;
+      malformed = λ is. not (subst IsStreamLine (ap (λ k. get_or all k []) front ∙ next.is) is);
+    }

@@ -1,0 +1,3 @@
+pub mod StreamLine
+pub mod Printed
+pub mod Replay

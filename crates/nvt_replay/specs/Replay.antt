@@ -1,0 +1,91 @@
+-- What the end of a replay says of its files.
+use Rattle.std.specs.Prelude.{◌≡◌, ℕ, ◌-◌, ◌≤◌, true, false, List, [], ◌∷◌, length, take, slice_index_or, All, Some, Result, Ok, Err}
+use Rattle.nvt_config.specs.declared.edit.Edit.{Edit}
+use Rattle.nvt_config.specs.Accept.{accept}
+use Rattle.nvt_config.specs.Configuration.{Configuration, are_disks, disks_alone}
+use Rattle.config_text.specs.EditLine.{IsLineOf, line_fault}
+use Rattle.config_text.specs.Lines.{lines_of}
+use Rattle.nvt_replay.specs.StreamLine.{IsStreamLine}
+use Rattle.nvt_replay.specs.declared.playback.Reply.{Reply}
+use Rattle.nvt_replay.specs.declared.playback.Reply.TheVariants as reply
+use Rattle.nvt_replay.specs.declared.playback.ReplayFault.{ReplayFault}
+use Rattle.nvt_replay.specs.declared.playback.ReplayFault.TheVariants.{EditLine, StreamLine, Memory, Io, Disks}
+
+-- each line is that of an edit, and the configuration accepts them in their order
+abbrev pub Configures : List (List ℕ) → Configuration → Configuration → Type 0
+Configures [] old new = new ≡ old
+Configures (line ∷ lines) old new =
+    (edit : Edit) × IsLineOf line edit
+    × (next : Configuration) × (accept old edit ≡ Ok next) × Configures lines next new
+
+-- the reply to a line: its fault, or why the configuration refuses its edit
+abbrev pub Refuses : Configuration → List ℕ → Reply → Type 0
+Refuses c line (reply.Line fault) = line_fault line ≡ Some fault
+Refuses c line (reply.Edit fault) = (edit : Edit) × IsLineOf line edit × (accept c edit ≡ Err fault)
+
+-- the line of this number, counted from 1
+abbrev pub line_at : List (List ℕ) → ℕ → List ℕ
+line_at lines n = slice_index_or lines (n - 1) []
+
+-- the lines before the nth are accepted, and the nth is refused so
+pub record IsFirstRefused (lines : List (List ℕ)) (old : Configuration) (n : ℕ) (reply : Reply) : Type 0 where
+  pub counted : (1 ≤ n) × (n ≤ length lines)
+  pub found : (c : Configuration) × Configures (take (n - 1) lines) old c × Refuses c (line_at lines n) reply
+
+-- the lines before the nth have a form of a script's, and the nth has none
+pub record IsFirstMalformed (lines : List (List ℕ)) (n : ℕ) : Type 0 where
+  pub counted : (1 ≤ n) × (n ≤ length lines)
+  pub before : All IsStreamLine (take (n - 1) lines)
+  pub malformed : ¬ IsStreamLine (line_at lines n)
+
+-- all lines of edits are accepted
+abbrev pub AcceptsAll : List ℕ → List ℕ → Type 0
+AcceptsAll edits units =
+    (are_disks units ≡ true) × (c : Configuration) × Configures (lines_of edits) (disks_alone units) c
+
+-- what each fault says of the edits, the script and the disks
+abbrev pub Explains : ReplayFault → List ℕ → List ℕ → List ℕ → Type 0
+Explains (EditLine n reply) edits stream units =
+    (are_disks units ≡ true) × IsFirstRefused (lines_of edits) (disks_alone units) n reply
+Explains (StreamLine n) edits stream units =
+    AcceptsAll edits units × IsFirstMalformed (lines_of stream) n
+Explains Memory edits stream units = Unit {0}
+Explains Io edits stream units = AcceptsAll edits units
+Explains Disks edits stream units = are_disks units ≡ false
+
+-- what a fault says of the edits and the disks, before the script
+abbrev pub RefusesEdits : ReplayFault → List ℕ → List ℕ → Type 0
+RefusesEdits (EditLine n reply) edits units =
+    (are_disks units ≡ true) × IsFirstRefused (lines_of edits) (disks_alone units) n reply
+RefusesEdits (StreamLine n) edits units = ⊥
+RefusesEdits Memory edits units = Unit {0}
+RefusesEdits Io edits units = ⊥
+RefusesEdits Disks edits units = are_disks units ≡ false
+
+-- the nth line: accepted, or refused with the reply, or without memory
+abbrev pub RefusesLine : ReplayFault → Configuration → List ℕ → ℕ → Type 0
+RefusesLine (EditLine m reply) c line n = (m ≡ n) × Refuses c line reply
+RefusesLine (StreamLine m) c line n = ⊥
+RefusesLine Memory c line n = Unit {0}
+RefusesLine Io c line n = ⊥
+RefusesLine Disks c line n = ⊥
+
+abbrev pub TakesLine : Configuration → List ℕ → ℕ → Result (Unit {0}) ReplayFault → Configuration → Type 0
+TakesLine old line n (Ok done) new = (edit : Edit) × IsLineOf line edit × (accept old edit ≡ Ok new)
+TakesLine old line n (Err fault) new = RefusesLine fault old line n
+
+-- a fault of the edits or the disks: no line of the script has run
+abbrev pub IsBeforeScript : ReplayFault → Type 0
+IsBeforeScript (EditLine n reply) = Unit {0}
+IsBeforeScript (StreamLine n) = ⊥
+IsBeforeScript Memory = ⊥
+IsBeforeScript Io = ⊥
+IsBeforeScript Disks = Unit {0}
+
+-- a fault that a line of the script may end with: memory, or the output
+abbrev pub IsOfRun : ReplayFault → Type 0
+IsOfRun (EditLine n reply) = ⊥
+IsOfRun (StreamLine n) = ⊥
+IsOfRun Memory = Unit {0}
+IsOfRun Io = Unit {0}
+IsOfRun Disks = ⊥

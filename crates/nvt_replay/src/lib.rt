@@ -1,0 +1,10 @@
+//! A replay: a script of connections, run over a target that the lines of edits configured. What it
+//! prints depends on its two texts and the sizes of the disks alone.
+#![tactic(auto)]
+
+pub mod playback;
+mod print;
+mod stream_line;
+
+pub use playback::{ReplayFault, Reply, replay};
+pub use print::written;

@@ -1,0 +1,139 @@
+//! What `replay` prints: a line for each PDU that is sent, and for each connection that is opened,
+//! ended by the target or not known.
+
+ghost use Rattle.std.specs.Prelude.{◌≡◌, ◌<◌, ◌≤◌, ◌∷◌, ◌++◌, [], IfErr, IfSome, OnOk, is_ok, length};
+ghost use Rattle.std.specs.Io.KnownBytes.{Appends};
+ghost use Rattle.hex.specs.Hex.{encode_lower};
+ghost use Rattle.nvt_replay.specs.Printed.{event_line, pdu_length, pdu_line};
+ghost use Rattle.nvt_replay.specs.Replay.{IsOfRun};
+
+use crate::playback::ReplayFault;
+use nvt_fields::u32_at;
+use std::alloc::{AllocError, Global};
+use std::fmt::Display;
+use std::io::{self, ErrorKind, Write};
+
+const COMMON_HEADER: usize = 8;
+
+const PLEN: usize = 4;
+
+/// Prints to a writer, each line by one call.
+#[derive(Drop)]
+pub struct Printer<'a, W: Write> {
+    out: &'a mut W,
+    // The line that is made.
+    line: Vec<u8>,
+}
+
+impl<'a, W: Write> Printer<'a, W> {
+    pub fn new(alloc: Global, out: &'a mut W) -> Printer<'a, W> {
+        Printer {
+            out,
+            line: Vec::new(alloc),
+        }
+    }
+
+    /// Prints `K WORD`.
+    pub fn event(&mut self, connection: u64, word: &str) -> Result<(), ReplayFault>
+        ensures fault { IfErr result IsOfRun }
+        ensures printed { OnOk result (Appends (W.contents self.old.out.now)
+            (W.contents self.new.out.now) (event_line connection word.now)) }
+    {
+        self.text(format_args!("{connection} {word}\n"))
+    }
+
+    /// Prints `open REPLY`.
+    pub fn refused_open(&mut self, reply: impl Display + Drop) -> Result<(), ReplayFault>
+        ensures { IfErr result IsOfRun }
+    {
+        self.text(format_args!("open refused {reply}\n"))
+    }
+
+    /// Prints `K pdu HEX` for each PDU of some output of connection K.
+    pub fn pdus(&mut self, connection: u64, output: &[u8]) -> Result<(), ReplayFault>
+        ensures { IfErr result IsOfRun }
+    {
+        let mut rest = output;
+        while !rest.is_empty() {
+            let (pdu, after) = rest.split_at(pdu_len(rest));
+            self.pdu(connection, pdu)?;
+            rest = after;
+        }
+        Ok(())
+    }
+
+    fn pdu(&mut self, connection: u64, pdu: &[u8]) -> Result<(), ReplayFault>
+        ensures fault { IfErr result IsOfRun }
+        ensures printed { OnOk result (Appends (W.contents self.old.out.now)
+            (W.contents self.new.out.now) (pdu_line connection pdu.now)) }
+    {
+        self.line.clear();
+        written(write!(self.line, "{connection} pdu "))?;
+        push_hex(&mut self.line, pdu)?;
+        push_line_end(&mut self.line)?;
+        written(self.out.write_all(&self.line))
+    }
+
+    fn text<D: Display + Drop>(&mut self, text: D) -> Result<(), ReplayFault>
+        ensures fault { IfErr result IsOfRun }
+        ensures printed { OnOk result (IfSome (D.output text)
+            (Appends (W.contents self.old.out.now) (W.contents self.new.out.now))) }
+    {
+        self.line.clear();
+        written(write!(self.line, "{text}"))?;
+        written(self.out.write_all(&self.line))
+    }
+}
+
+/// What a write answers, as the fault of a replay.
+pub fn written(outcome: io::Result<()>) -> Result<(), ReplayFault>
+    ensures fault { IfErr result IsOfRun }
+    ensures variant { is_ok result ≡ is_ok outcome }
+{
+    match outcome {
+        Ok(()) => Ok(()),
+        Err(error) if error.kind() == ErrorKind::OutOfMemory => Err(ReplayFault::Memory),
+        Err(_) => Err(ReplayFault::Io),
+    }
+}
+
+// The length of the PDU at the front: its PLEN, or all where that is no length of a PDU there.
+fn pdu_len(output: &[u8]) -> usize
+    requires { 0 < length output.now }
+    ensures len { result ≡ pdu_length output.now }
+    ensures positive { 0 < result }
+    ensures within { result ≤ length output.now }
+{
+    if output.len() < COMMON_HEADER {
+        return output.len();
+    }
+    let len = u32_at(output, PLEN) as usize;
+    if (COMMON_HEADER..=output.len()).contains(&len) {
+        len
+    } else {
+        output.len()
+    }
+}
+
+// Appends the bytes in lower-case hex.
+fn push_hex(text: &mut Vec<u8>, bytes: &[u8]) -> Result<(), AllocError>
+    ensures { OnOk result (text.new.items ≡ text.old.items ++ encode_lower bytes.now) }
+{
+    let start = text.len();
+    let Some(len) = bytes.len().checked_mul(2) else {
+        return Err(AllocError);
+    };
+    let Some(end) = start.checked_add(len) else {
+        return Err(AllocError);
+    };
+    text.resize(end, 0)?;
+    let _ = hex::encode_to_slice(bytes, &mut text[start..]);
+    Ok(())
+}
+
+fn push_line_end(text: &mut Vec<u8>) -> Result<(), AllocError>
+    ensures { OnOk result (text.new.items ≡ text.old.items ++ 10 ∷ []) }
+{
+    text.push(b'\n')?;
+    Ok(())
+}

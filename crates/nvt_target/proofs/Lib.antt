@@ -1,4 +1,0 @@
-pub mod LineLemmas
-pub mod WordLemmas
-pub mod NumberLemmas
-pub mod ReplayLemmas

@@ -1,6 +1,0 @@
-pub mod Lines
-pub mod Number
-pub mod StreamLine
-pub mod EditLine
-pub mod Printed
-pub mod Replay
