@@ -1,0 +1,118 @@
+"""Edits that turn a right body into a wrong one: how a file of one is read, and where it changes what."""
+
+import os
+from dataclasses import dataclass, field
+
+from source import blanked, calls_in, functions_of
+
+
+class BadEdit(Exception):
+    """Why an edit cannot be applied."""
+
+
+@dataclass(frozen=True)
+class Change:
+    file: str
+    old: str
+    new: str
+
+
+@dataclass
+class Edit:
+    """A wrong body. `function` is the one whose body it changes, or None where it changes more than one, or
+    what is no function; `calls` are what that function's body may call, before the edit and after it."""
+
+    crate: str
+    name: str
+    changes: list
+    function: object = None
+    calls: frozenset = field(default_factory=frozenset)
+
+    def label(self):
+        return f"{self.crate}/{self.name}"
+
+
+def read_changes(text):
+    """Reads the lines `file: PATH`, and then pairs `old: TEXT` and `new: TEXT`."""
+    file, old, changes = "", None, []
+    for line in text.split("\n"):
+        if line.startswith("file: "):
+            file = line.removeprefix("file: ").strip()
+            if os.path.normpath(file) != file or not file.startswith("src/"):
+                raise BadEdit("a 'file:' line names no file below src/")
+        elif line.startswith("old: "):
+            old = line.removeprefix("old: ")
+        elif line.startswith("new:"):
+            if not file or not old:
+                raise BadEdit("a 'new:' line stands before any 'file:' or 'old:' line")
+            changes.append(Change(file, old, line.removeprefix("new:").removeprefix(" ")))
+            old = None
+        elif line.strip():
+            raise BadEdit(f"the line '{line[:60]}' is none of 'file:', 'old:' and 'new:'")
+    if not changes or old:
+        raise BadEdit("it has no 'old:' and 'new:' pair, or an 'old:' without its 'new:'")
+    return changes
+
+
+def text_of(sources, file):
+    if file not in sources:
+        raise BadEdit(f"there is no file {file}")
+    return sources[file]
+
+
+def apply(changes, sources):
+    """Returns the sources with the changes made, each at the one place where its old text stands."""
+    sources = dict(sources)
+    for change in changes:
+        text = text_of(sources, change.file)
+        if text.count(change.old) != 1:
+            raise BadEdit(f"an 'old:' text stands in {change.file} {text.count(change.old)} times, and not once")
+        sources[change.file] = text.replace(change.old, change.new)
+    return sources
+
+
+def span(change, text):
+    """Returns from where to where the old text differs from the new one, in this text."""
+    at = text.index(change.old)
+    front = len(os.path.commonprefix([change.old, change.new]))
+    back = len(os.path.commonprefix([change.old[front:][::-1], change.new[front:][::-1]]))
+    return at + front, at + len(change.old) - back
+
+
+def function_at(change, text):
+    """Returns the place of the function in whose body the change lies, or None."""
+    start, end = span(change, text)
+    inside = [it for it in functions_of(change.file, text) if it.body < start and end < it.end]
+    return max(inside, key=lambda it: it.body, default=None)
+
+
+def find_function(edit, sources):
+    """Finds the one function that the edit changes, if there is one."""
+    found, calls = set(), frozenset()
+    for n, change in enumerate(edit.changes):
+        text = text_of(apply(edit.changes[:n], sources), change.file)
+        if text.count(change.old) != 1:
+            raise BadEdit(f"an 'old:' text stands in {change.file} {text.count(change.old)} times, and not once")
+        place = function_at(change, text)
+        found.add(place.function if place else None)
+        if place:
+            calls |= calls_in(blanked(text)[place.body : place.end]) | calls_in(change.new)
+    if len(found) == 1:
+        edit.function, edit.calls = found.pop(), calls
+
+
+def read_edits(crate, folder, sources):
+    """Returns the edits of crates/NAME/wrong-bodies, and those that cannot be applied with the reason."""
+    edits, bad = [], []
+    for name in sorted(os.listdir(folder)) if os.path.isdir(folder) else []:
+        edit = Edit(crate, name.removesuffix(".edit"), [])
+        try:
+            if not name.endswith(".edit"):
+                raise BadEdit("an edit is a file whose name ends in .edit")
+            with open(f"{folder}/{name}", encoding="utf-8") as it:
+                edit.changes = read_changes(it.read())
+            find_function(edit, sources)
+            edits.append(edit)
+        except (BadEdit, OSError, UnicodeDecodeError) as why:
+            bad.append((edit, str(why)))
+    return edits, bad

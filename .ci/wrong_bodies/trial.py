@@ -1,0 +1,82 @@
+"""How edits are tried and judged."""
+
+import re
+from dataclasses import dataclass
+
+from checks import PROVED, REFUSED, could_be_read, failures, is_of
+from edits import apply
+
+
+@dataclass
+class Verdict:
+    """What came of an edit: whether the prover refused it, and what to say of it."""
+
+    edit: object
+    refused: bool
+    text: str
+
+
+def module_of(owner, sources):
+    """Returns the module that declares a type."""
+    for file, text in sources.items():
+        if re.search(rf"\b(struct|enum)\s+{owner}\b", text):
+            return file.removeprefix("src/").removesuffix(".rt").replace("/", "::")
+    return ""
+
+
+def path_of(function, sources):
+    """Returns what names the function in a check of it alone: its path, or its module's where it stands in an
+    impl of a trait."""
+    if not function.owner:
+        return "::".join(it for it in (function.module(), function.name) if it)
+    if function.trait:
+        return function.module()
+    return "::".join(it for it in (module_of(function.owner, sources), function.owner, function.name) if it)
+
+
+class Trial:
+    """Tries edits of one crate, whose sources are these."""
+
+    def __init__(self, checker, crate, sources):
+        self.checker, self.crate, self.sources = checker, crate, sources
+
+    def in_round(self, edits):
+        """Tries a round, and returns a verdict for each edit."""
+        refused = self.together(edits) if all(it.function for it in edits) else {}
+        return [refused.get(it.label()) or self.alone(it) for it in edits]
+
+    def together(self, edits):
+        """Tries edits in one check of their functions, and returns the verdicts on those that it plainly refuses."""
+        changes = [it for edit in edits for it in edit.changes]
+        only = sorted({path_of(it.function, self.sources) for it in edits})
+        _, lines = self.checker.check(self.crate, apply(changes, self.sources), only)
+        if could_be_read(lines):
+            return {}
+        found = failures(self.crate.name, lines)
+        refused = {}
+        for edit in edits:
+            others = [it.function for it in edits if it is not edit]
+            for name in self.own(edit, found):
+                if not any(self.is_of(other, call) for other in others for call in found[name]):
+                    refused[edit.label()] = Verdict(edit, True, f"refused at {name}")
+        return refused
+
+    def alone(self, edit):
+        """Tries an edit by itself, from the crate as it stands."""
+        status, lines = self.checker.check(self.crate, apply(edit.changes, self.sources))
+        if status == PROVED:
+            return Verdict(edit, False, "NOT REFUSED: the crate is still proved with this edit")
+        unread = could_be_read(lines)
+        if unread:
+            return Verdict(edit, False, f"BAD EDIT: no contract was tried: {unread[:200]}")
+        found = failures(self.crate.name, lines)
+        if status == REFUSED and found:
+            return Verdict(edit, True, f"refused at {(self.own(edit, found) or sorted(found))[0]}, alone")
+        said = [it for it in lines if re.match(r"\S+:\d+:\d+: error|rattle: no verdict", it)] or lines[-2:]
+        return Verdict(edit, False, f"NOT REFUSED at a goal of any function: {said[0][:200]}")
+
+    def own(self, edit, found):
+        return [name for name in sorted(found) if edit.function and self.is_of(edit.function, name)]
+
+    def is_of(self, function, name):
+        return is_of(function, self.crate.name, name)
