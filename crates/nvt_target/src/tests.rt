@@ -1,13 +1,5 @@
-//! Scripts and what they print. The expected bytes are typed from the formats of NVMe over TCP, each
-//! PDU as its fields.
+//! What no conversation in tests/conversations shows.
 
 mod bytes;
-mod commands;
-mod connect;
-mod edits;
-mod faults;
-mod properties;
+mod calls;
 mod refused_growths;
-mod script;
-mod set_up;
-mod stream;
