@@ -21,10 +21,16 @@ family_word Ipv4 = codes "ipv4"
 family_word Ipv6 = codes "ipv6"
 
 -- words, with one space between
+abbrev pub place_words : List ℕ → ℕ → List ℕ
+place_words address service = address ++ 32 ∷ decimal service
+
+abbrev pub endpoint_words : ℕ → Family → List ℕ → ℕ → List ℕ
+endpoint_words id family address service =
+    decimal id ++ 32 ∷ (family_word family ++ 32 ∷ place_words address service)
+
 abbrev pub port_add_line : ℕ → Family → List ℕ → ℕ → List ℕ
 port_add_line id family address service =
-    codes "port" ++ 32 ∷ (codes "add" ++ 32 ∷ (decimal id ++ 32 ∷ (family_word family ++ 32 ∷
-    (address ++ 32 ∷ decimal service))))
+    codes "port" ++ 32 ∷ (codes "add" ++ 32 ∷ endpoint_words id family address service)
 
 -- Whether this is the edit's one line. Until the edit language is built, `port add` alone has a line.
 abbrev pub IsLineOf : List ℕ → Edit → Type 0
@@ -38,10 +44,17 @@ pub data Form : Type 0 where
   family_form : Form
   address_form : Form
 
+abbrev pub place_forms : List Form
+place_forms = address_form ∷ number_form ∷ []
+
+abbrev pub endpoint_forms : List Form
+endpoint_forms = number_form ∷ family_form ∷ place_forms
+
+abbrev pub port_add_command : List Form
+port_add_command = keyword_form (codes "port") ∷ keyword_form (codes "add") ∷ []
+
 abbrev pub port_add_forms : List Form
-port_add_forms =
-    keyword_form (codes "port") ∷ keyword_form (codes "add") ∷ number_form
-    ∷ family_form ∷ address_form ∷ number_form ∷ []
+port_add_forms = port_add_command ++ endpoint_forms
 
 abbrev pub allows : Form → List ℕ → Bool
 allows (keyword_form text) word = bytes_eq word text
@@ -89,6 +102,27 @@ fault_from line column [] =
     else option_or (absence line column) (fault column Extra)
 fault_from line column (form ∷ forms) =
     option_or (word_fault line column form) (fault_from line (next_column line column) forms)
+
+-- the words from a column on have to be of these forms; more may follow
+abbrev pub front_fault : List ℕ → ℕ → List Form → Option LineFault
+front_fault line column [] = None
+front_fault line column (form ∷ forms) =
+    option_or (word_fault line column form) (front_fault line (next_column line column) forms)
+
+-- the column after so many words
+abbrev pub column_after : List ℕ → ℕ → List Form → ℕ
+column_after line column [] = column
+column_after line column (form ∷ forms) = column_after line (next_column line column) forms
+
+-- these words stand from the column on, and then the line goes on at the next column or ends
+abbrev pub IsFront : List ℕ → ℕ → List ℕ → List ℕ → ℕ → Type 0
+IsFront old column words new next =
+    (new ≡ old) × (column ≤ length old)
+    × (next ≤ length new → drop column old ≡ words ++ 32 ∷ drop next new)
+
+-- these words stand from the column on, and there the line ends
+abbrev pub IsRest : List ℕ → ℕ → List ℕ → Type 0
+IsRest line column words = (column ≤ length line) × (drop column line ≡ words)
 
 -- the first fault of a line
 abbrev pub line_fault : List ℕ → Option LineFault

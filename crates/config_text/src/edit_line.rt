@@ -1,11 +1,11 @@
 //! The line of an edit. Until the edit language is whole, `port add` is the one edit that is read.
 
-ghost use Rattle.std.specs.Prelude.{◌≡◌, ◌==◌, ◌+◌, ◌<◌, ◌≤◌, [], IfErr, IfOk, None, OnOk, length, if◌then◌else◌};
+ghost use Rattle.std.specs.Prelude.{◌≡◌, ◌==◌, ◌+◌, ◌<◌, ◌≤◌, [], ◌∷◌, ◌++◌, IfErr, IfOk, None, OnOk, length, if◌then◌else◌};
 ghost use Rattle.std.specs.Fmt.{decimal};
 ghost use Rattle.std.specs.List.{before_first, list_all};
 ghost use Rattle.std.specs.Result.{result_err};
 ghost use Rattle.nvt_config.specs.Text.{is_word_byte};
-ghost use Rattle.config_text.specs.EditLine.{IsLineOf, IsMoved, IsReadFault, absence, address_form, family_form, family_word, fault, fault_from, keyword_form, line_fault, number_form, port_add_line, word_at, word_fault};
+ghost use Rattle.config_text.specs.EditLine.{IsFront, IsLineOf, IsMoved, IsReadFault, IsRest, absence, address_form, column_after, endpoint_forms, endpoint_words, family_form, family_word, fault, fault_from, front_fault, keyword_form, line_fault, number_form, place_forms, place_words, port_add_line, word_at, word_fault};
 
 use crate::lines::find_byte;
 use crate::number::read_number;
@@ -104,15 +104,9 @@ fn read_port_add(line: &[u8]) -> Result<(u64, Family, &[u8], u64), LineFault>
             kind: LineFaultKind::TooLong,
         });
     }
-    let mut words = Words::of(line);
-    words.keyword(b"port")?;
-    words.keyword(b"add")?;
-    let id = words.number()?;
-    let family = words.family()?;
-    let address = words.address()?;
-    let service = words.number()?;
-    words.end()?;
-    Ok((id, family, address, service))
+    let mut words = Words { line, column: 0 };
+    words.command(b"port", b"add")?;
+    words.endpoint()
 }
 
 // The words of a line from a column on: what stands between two spaces is a word, also where that is
@@ -125,11 +119,43 @@ struct Words<'a> {
 }
 
 impl<'a> Words<'a> {
-    fn of(line: &'a [u8]) -> Words<'a>
-        ensures line { result.line ≡ line.entry }
-        ensures column { result.column ≡ 0 }
+    // The first two words, which say what is edited and how.
+    fn command(&mut self, noun: &[u8], verb: &[u8]) -> Result<(), LineFault>
+        ensures fault { result_err result ≡ front_fault self.old.line.now self.old.column
+            (keyword_form noun.now ∷ keyword_form verb.now ∷ []) }
+        ensures front { OnOk result (IsFront self.old.line.now self.old.column
+            (noun.now ++ 32 ∷ verb.now) self.new.line.now self.new.column) }
+        ensures moved { OnOk result (self.new.column ≡ column_after self.old.line.now self.old.column
+            (keyword_form noun.now ∷ keyword_form verb.now ∷ [])) }
     {
-        Words { line, column: 0 }
+        self.keyword(noun)?;
+        self.keyword(verb)
+    }
+
+    // The rest of a line: an identifier, and where to connect to.
+    fn endpoint(&mut self) -> Result<(u64, Family, &'a [u8], u64), LineFault>
+        ensures fault { result_err result
+            ≡ fault_from self.old.line.now self.old.column endpoint_forms }
+        ensures rest { IfOk result (λ p. IsRest self.old.line.now self.old.column
+            (endpoint_words p.0 p.1 p.2.now p.3)) }
+    {
+        let id = self.number()?;
+        let family = self.family()?;
+        let (address, service) = self.place()?;
+        Ok((id, family, address, service))
+    }
+
+    // The rest of a line: an address and a service.
+    fn place(&mut self) -> Result<(&'a [u8], u64), LineFault>
+        ensures fault { result_err result
+            ≡ fault_from self.old.line.now self.old.column place_forms }
+        ensures rest { IfOk result (λ p. IsRest self.old.line.now self.old.column
+            (place_words p.0.now p.1)) }
+    {
+        let address = self.address()?;
+        let service = self.number()?;
+        self.end()?;
+        Ok((address, service))
     }
 
     fn keyword(&mut self, text: &[u8]) -> Result<(), LineFault>

@@ -1,0 +1,5 @@
+use Rattle.config_text.proofs.WordLemmas.{front_if}
+use Rattle.config_text.proofs.edit_line.Words.command.Goals as goal
+
+pub returns-clause-front : goal.returns-clause-front
+returns-clause-front c = front_if c.keyword-2.result _ _ _ _ _ _ _ _ c.in_ok-keyword.ensures.moved c.in_ok-keyword.ensures.word c.keyword-2.ensures.moved c.keyword-2.ensures.word
