@@ -21,7 +21,7 @@ is_capsule_offset Transport = false
 is_capsule_offset Other = false
 
 -- the command's data, which has to be in the capsule and whole
-abbrev pub connect_data : Sgl → List ℕ → Result (List ℕ) Status
+unfoldable pub connect_data : Sgl → List ℕ → Result (List ℕ) Status
 connect_data sgl bytes =
     if not (is_capsule_offset sgl.sgl_type) then Err sgl_type_invalid else
     if not (sgl.len == 1024) then Err data_sgl_length_invalid else
@@ -29,16 +29,16 @@ connect_data sgl bytes =
     Ok (slice_range bytes sgl.address (sgl.address + 1024))
 
 -- whether a field holds a well-formed name
-abbrev pub holds_name : List ℕ → Bool
+unfoldable pub holds_name : List ℕ → Bool
 holds_name field = is_none (fault_of (up_to_zero field))
 
 -- Until other controllers are built, the discovery subsystem alone is known.
-abbrev pub is_known_subsystem : List ℕ → Bool
+unfoldable pub is_known_subsystem : List ℕ → Bool
 is_known_subsystem field = holds_name field && pointwise nat_eq (up_to_zero field) discovery_nqn
 
 -- The result that names the first invalid parameter: its offset, with bit 16 set where it is in the
 -- data.
-abbrev pub invalid_parameter : Connect → List ℕ → Option ℕ
+unfoldable pub invalid_parameter : Connect → List ℕ → Option ℕ
 invalid_parameter connect bytes =
     if nat_lt 8 connect.qid then Some 0x2A else
     if nat_lt connect.sqsize 1 || nat_lt 63 connect.sqsize then Some 0x2C else
@@ -54,7 +54,7 @@ admitted_by None None connect = refused connect_controller_busy
 admitted_by None (Some cntlid) connect =
     done cntlid (change.Connect (record { cntlid = cntlid; sqsize = connect.sqsize }))
 
-abbrev pub admitted : Option ℕ → Connect → List ℕ → Result Success Refusal
+unfoldable pub admitted : Option ℕ → Connect → List ℕ → Result Success Refusal
 admitted free connect bytes =
     refuse (not (connect.recfmt == 0)) incompatible_format (admitted_by (invalid_parameter connect bytes) free connect)
 
@@ -63,7 +63,7 @@ connected_by (Err status) free connect = refused status
 connected_by (Ok bytes) free connect = admitted free connect bytes
 
 -- what a Connect comes to, by its entry and the data in its capsule, where this identifier is free
-abbrev pub connect : Option ℕ → List ℕ → List ℕ → Result Success Refusal
+unfoldable pub connect : Option ℕ → List ℕ → List ℕ → Result Success Refusal
 connect free entry bytes = connected_by (connect_data (sgl1_of entry) bytes) free (connect_of entry)
 
 abbrev pub host_in_data : Result (List ℕ) Status → List ℕ
@@ -71,5 +71,5 @@ host_in_data (Err status) = []
 host_in_data (Ok bytes) = up_to_zero (slice_range bytes 512 768)
 
 -- the host that a Connect names
-abbrev pub host_named : List ℕ → List ℕ → List ℕ
+unfoldable pub host_named : List ℕ → List ℕ → List ℕ
 host_named entry bytes = host_in_data (connect_data (sgl1_of entry) bytes)

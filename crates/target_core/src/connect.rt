@@ -28,6 +28,7 @@ const SUBNQN: u64 = DATA + 0x100;
 const HOSTNQN: u64 = DATA + 0x200;
 
 /// Answers a Connect: with a new controller, or with the first reason against it.
+#[tactic(auto, unfolding(crate::specs::Connect::connect))]
 pub(crate) fn command(free: Option<u16>, sqe: &Sqe<'_>, payload: &[u8]) -> Outcome
     ensures { result ≡ connect free sqe.now.entry.now payload.now }
 {
@@ -38,6 +39,7 @@ pub(crate) fn command(free: Option<u16>, sqe: &Sqe<'_>, payload: &[u8]) -> Outco
 }
 
 /// The host that a Connect names; no byte where its data is not there.
+#[tactic(auto, unfolding(crate::specs::Connect::host_named))]
 pub(crate) fn host_name<'a>(sqe: &Sqe<'_>, payload: &'a [u8]) -> &'a [u8]
     ensures { result.now ≡ host_named sqe.now.entry.now payload.now }
 {
@@ -51,6 +53,7 @@ pub(crate) fn host_name<'a>(sqe: &Sqe<'_>, payload: &'a [u8]) -> &'a [u8]
 }
 
 // A new controller gets the identifier that is free, if there is one.
+#[tactic(auto, unfolding(crate::specs::Connect::admitted))]
 fn admit(free: Option<u16>, connect: &Connect, bytes: &[u8; 1024]) -> Outcome
     ensures { result ≡ admitted free connect.now bytes.now }
 {
@@ -74,6 +77,7 @@ fn admit(free: Option<u16>, connect: &Connect, bytes: &[u8; 1024]) -> Outcome
 }
 
 // The command's data, which has to be in the capsule and whole.
+#[tactic(auto, unfolding(crate::specs::Connect::connect_data))]
 fn in_capsule<'a>(sgl: &Sgl, payload: &'a [u8]) -> Result<&'a [u8; 1024], Status>
     ensures { MatchResult result (λ bytes. connect_data sgl.now payload.now ≡ Ok bytes.now) (λ status. connect_data sgl.now payload.now ≡ Err status) }
 {
@@ -92,6 +96,7 @@ fn in_capsule<'a>(sgl: &Sgl, payload: &'a [u8]) -> Result<&'a [u8; 1024], Status
 
 // The first parameter that is invalid. Until other controllers are built, no name but the discovery
 // subsystem's is known.
+#[tactic(auto, unfolding(crate::specs::Connect::invalid_parameter))]
 fn invalid_parameter(connect: &Connect, bytes: &[u8; 1024]) -> Option<u64>
     ensures { result ≡ invalid_parameter connect.now bytes.now }
 {
@@ -117,6 +122,7 @@ fn invalid_parameter(connect: &Connect, bytes: &[u8; 1024]) -> Option<u64>
     None
 }
 
+#[tactic(auto, unfolding(crate::specs::Connect::is_known_subsystem, crate::specs::Connect::holds_name))]
 fn is_known_subsystem(field: &[u8; 256]) -> bool
     ensures { result ≡ is_known_subsystem field.now }
 {
@@ -126,6 +132,7 @@ fn is_known_subsystem(field: &[u8; 256]) -> bool
     }
 }
 
+#[tactic(auto, unfolding(crate::specs::Connect::holds_name))]
 fn holds_name(field: &[u8; 256]) -> bool
     ensures { result ≡ holds_name field.now }
 {
