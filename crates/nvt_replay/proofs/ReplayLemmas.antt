@@ -8,7 +8,7 @@ use Rattle.nvt_config.specs.Accept.{accept}
 use Rattle.nvt_config.specs.Configuration.{Configuration, are_disks, disks_alone}
 use Rattle.config_text.specs.EditLine.{IsLineOf}
 use Rattle.config_text.specs.Lines.{lines_of}
-use Rattle.nvt_replay.specs.Replay.{Configures, Explains, IsFirstMalformed, RefusesEdits, RefusesLine, Refuses}
+use Rattle.nvt_replay.specs.Replay.{AcceptsAll, Configures, EndsScript, Explains, IsFirstMalformed, RefusesEdits, RefusesLine, RefusesLines, Refuses}
 use Rattle.nvt_replay.specs.StreamLine.{IsStreamLine, Says}
 use Rattle.nvt_replay.specs.declared.stream_line.StreamLine.{StreamLine}
 use Rattle.nvt_replay.specs.declared.stream_line.StreamLine.TheVariants as stream
@@ -53,27 +53,41 @@ before_more all n line rest old mid new e before taken =
     (Configures-push (take n all) old mid new line taken.0 before taken.1 taken.2)
 
 -- a line that is refused is the first
-pub refused_at : (f : ReplayFault) (edits units : List ℕ) (n : ℕ) (line : List ℕ) (rest : List (List ℕ)) (c : Configuration) → are_disks units ≡ true → drop n (lines_of edits) ≡ line ∷ rest
-    → Configures (take n (lines_of edits)) (disks_alone units) c → RefusesLine f c line (n + 1) → RefusesEdits f edits units
-refused_at (fault.EditLine m reply) edits units n line rest c disks e before refuses =
+pub refused_at : (f : ReplayFault) (edits : List ℕ) (n : ℕ) (line : List ℕ) (rest : List (List ℕ)) (old c : Configuration) → drop n (lines_of edits) ≡ line ∷ rest
+    → Configures (take n (lines_of edits)) old c → RefusesLine f c line (n + 1) → RefusesLines f (lines_of edits) old
+refused_at (fault.EditLine m reply) edits n line rest old c e before refuses =
     let next = next_line (lines_of edits) n line rest e in
     let number : m ≡ n + 1 = refuses.0 in
     let front : m - 1 ≡ n = omega arith in
-    let below : n < length (lines_of edits) = next.below in (
-      disks,
-      record {
-        counted = (omega arith, omega arith);
-        found = (
-          c,
-          subst (λ k. Configures (take k (lines_of edits)) (disks_alone units) c) (sym front) before,
-          subst (λ l. Refuses c l reply) (sym (ap (λ k. get_or (lines_of edits) k []) front ∙ next.is)) refuses.1,
-        );
-      },
-    )
-refused_at (fault.StreamLine m) edits units n line rest c disks e before refuses = refuses
-refused_at fault.Memory edits units n line rest c disks e before refuses = tt
-refused_at fault.Io edits units n line rest c disks e before refuses = refuses
-refused_at fault.Disks edits units n line rest c disks e before refuses = absurd refuses
+    let below : n < length (lines_of edits) = next.below in
+    record {
+      counted = (omega arith, omega arith);
+      found = (
+        c,
+        subst (λ k. Configures (take k (lines_of edits)) old c) (sym front) before,
+        subst (λ l. Refuses c l reply) (sym (ap (λ k. get_or (lines_of edits) k []) front ∙ next.is)) refuses.1,
+      );
+    }
+refused_at (fault.StreamLine m) edits n line rest old c e before refuses = refuses
+refused_at fault.Memory edits n line rest old c e before refuses = tt
+refused_at fault.Io edits n line rest old c e before refuses = refuses
+refused_at fault.Disks edits n line rest old c e before refuses = refuses
+
+-- the edits are refused where a line is
+pub refused_edits : (f : ReplayFault) (edits units : List ℕ) → are_disks units ≡ true → RefusesLines f (lines_of edits) (disks_alone units) → RefusesEdits f edits units
+refused_edits (fault.EditLine m reply) edits units disks refuses = (disks, refuses)
+refused_edits (fault.StreamLine m) edits units disks refuses = refuses
+refused_edits fault.Memory edits units disks refuses = tt
+refused_edits fault.Io edits units disks refuses = refuses
+refused_edits fault.Disks edits units disks refuses = absurd refuses
+
+-- a fault of the script explains itself to the whole replay, once all edits are accepted
+pub ended : (f : ReplayFault) (edits stream units : List ℕ) → AcceptsAll edits units → EndsScript f (lines_of stream) → Explains f edits stream units
+ended (fault.EditLine m reply) edits stream units accepted ends = absurd ends
+ended (fault.StreamLine m) edits stream units accepted ends = (accepted, ends)
+ended fault.Memory edits stream units accepted ends = tt
+ended fault.Io edits stream units accepted ends = accepted
+ended fault.Disks edits stream units accepted ends = absurd ends
 
 -- a fault of the edits explains them to the whole replay
 pub explained : (f : ReplayFault) (edits stream units : List ℕ) → RefusesEdits f edits units → Explains f edits stream units

@@ -53,6 +53,22 @@ Explains Memory edits stream units = Unit {0}
 Explains Io edits stream units = AcceptsAll edits units
 Explains Disks edits stream units = are_disks units ≡ false
 
+-- what a fault says of lines of edits, which start from this configuration
+abbrev pub RefusesLines : ReplayFault → List (List ℕ) → Configuration → Type 0
+RefusesLines (EditLine n reply) lines old = IsFirstRefused lines old n reply
+RefusesLines (StreamLine n) lines old = ⊥
+RefusesLines Memory lines old = Unit {0}
+RefusesLines Io lines old = ⊥
+RefusesLines Disks lines old = ⊥
+
+-- what a fault says of the lines of a script that runs
+abbrev pub EndsScript : ReplayFault → List (List ℕ) → Type 0
+EndsScript (EditLine n reply) lines = ⊥
+EndsScript (StreamLine n) lines = IsFirstMalformed lines n
+EndsScript Memory lines = Unit {0}
+EndsScript Io lines = Unit {0}
+EndsScript Disks lines = ⊥
+
 -- what a fault says of the edits and the disks, before the script
 abbrev pub RefusesEdits : ReplayFault → List ℕ → List ℕ → Type 0
 RefusesEdits (EditLine n reply) edits units =

@@ -4,7 +4,7 @@ ghost use Rattle.std.specs.Prelude.{◌≡◌, ◌+◌, ◌<◌, ◌≤◌, ◌^
 ghost use Rattle.std.specs.Bool.{OnFalse};
 ghost use Rattle.nvt_config.specs.Configuration.{are_disks, disks_alone};
 ghost use Rattle.config_text.specs.Lines.{lines_of};
-ghost use Rattle.nvt_replay.specs.Replay.{AcceptsAll, Configures, Explains, IsBeforeScript, IsFirstRefused, IsOfRun, RefusesEdits, TakesLine};
+ghost use Rattle.nvt_replay.specs.Replay.{AcceptsAll, Configures, EndsScript, Explains, IsBeforeScript, IsFirstRefused, IsOfRun, RefusesEdits, RefusesLines, TakesLine};
 ghost use Rattle.nvt_replay.specs.StreamLine.{IsStreamLine};
 
 use crate::print::Printer;
@@ -81,15 +81,7 @@ pub fn replay<W: Write>(
         piece: Vec::new(alloc),
         printer: Printer::new(alloc, out),
     };
-    let mut number = 0;
-    for line in Lines::of(stream) {
-        number += 1;
-        match read_stream_line(line) {
-            Some(line) => playback.play(line)?,
-            None => return Err(ReplayFault::StreamLine { line: number }),
-        }
-    }
-    Ok(())
+    playback.run(stream)
 }
 
 // A target of these disks after the edits.
@@ -105,12 +97,21 @@ fn configured(alloc: Global, edits: &[u8], units: &[u64]) -> Result<Target, Repl
         Err(NewFault::Disks) => return Err(ReplayFault::Disks),
         Err(NewFault::Memory) => return Err(ReplayFault::Memory),
     };
+    take_edits(alloc, &mut target, edits)?;
+    Ok(target)
+}
+
+// Applies the edits, up to the first line that is refused.
+fn take_edits(alloc: Global, target: &mut Target, edits: &[u8]) -> Result<(), ReplayFault>
+    ensures ok { OnOk result (Configures (lines_of edits.now) target.old.config target.new.config) }
+    ensures fault { IfErr result (λ fault. RefusesLines fault (lines_of edits.now) target.old.config) }
+{
     let mut number = 0;
     for line in Lines::of(edits) {
         number += 1;
-        take_edit(alloc, &mut target, number, line)?;
+        take_edit(alloc, target, number, line)?;
     }
-    Ok(target)
+    Ok(())
 }
 
 // Applies one line of edits.
@@ -149,6 +150,22 @@ struct Playback<'a, W: Write> {
 }
 
 impl<'a, W: Write> Playback<'a, W> {
+    // Runs the script, up to the first line that has none of its forms.
+    fn run(&mut self, stream: &[u8]) -> Result<(), ReplayFault>
+        ensures ok { OnOk result (All IsStreamLine (lines_of stream.now)) }
+        ensures fault { IfErr result (λ fault. EndsScript fault (lines_of stream.now)) }
+    {
+        let mut number = 0;
+        for line in Lines::of(stream) {
+            number += 1;
+            match read_stream_line(line) {
+                Some(line) => self.play(line)?,
+                None => return Err(ReplayFault::StreamLine { line: number }),
+            }
+        }
+        Ok(())
+    }
+
     fn play(&mut self, line: StreamLine<'_>) -> Result<(), ReplayFault>
         ensures { IfErr result IsOfRun }
     {

@@ -1,11 +1,10 @@
 use Rattle.std.proofs.Common.{◌≡◌, ◌∷◌, drop, subst, ◌∙◌, arith}
 use Rattle.std.proofs.lemmas.Result.{err_from_is_err_and}
-use Rattle.nvt_config.specs.Configuration.{disks_alone}
 use Rattle.config_text.specs.Lines.{lines_of}
 use Rattle.nvt_replay.specs.Replay.{Configures}
 use Rattle.config_text.proofs.LineLemmas.{length-lines_of}
 use Rattle.nvt_replay.proofs.ReplayLemmas.{IsNext, all_taken, before_more, next_line, refused_at}
-use Rattle.nvt_replay.proofs.playback.configured.Goals as goal
+use Rattle.nvt_replay.proofs.playback.take_edits.Goals as goal
 
 pub overflow_add-number : goal.overflow_add-number
 overflow_add-number c =
@@ -18,7 +17,6 @@ loop-line-preserved c =
     let left : drop c.loop-line.number (lines_of c.args.edits.now) ≡ c.in-Some.line.now ∷ c.next.new.self = c.loop-line.invariant.rest ∙ c.in-Some.ensures.steps in
     let next : IsNext (lines_of c.args.edits.now) c.loop-line.number c.in-Some.line.now c.next.new.self = next_line (lines_of c.args.edits.now) c.loop-line.number c.in-Some.line.now c.next.new.self left in
     record {
-      disks = c.loop-line.invariant.disks;
       rest = next.after;
       counted = omega (arith, next.below);
       before = before_more (lines_of c.args.edits.now) c.loop-line.number c.in-Some.line.now c.next.new.self _ _ _ left c.loop-line.invariant.before c.in_ok-take_edit.ensures;
@@ -28,9 +26,9 @@ pub returns-in_err-take_edit-clause-fault : goal.returns-in_err-take_edit-clause
 returns-in_err-take_edit-clause-fault c =
     let left : drop c.loop-line.number (lines_of c.args.edits.now) ≡ c.in-Some.line.now ∷ c.next.new.self = c.loop-line.invariant.rest ∙ c.in-Some.ensures.steps in
     let p = err_from_is_err_and c.from_residual.result c.from_residual.ensures.1 in
-    rw (p.1, p.2) (refused_at _ c.args.edits.now c.args.units.now c.loop-line.number c.in-Some.line.now c.next.new.self _ c.loop-line.invariant.disks left c.loop-line.invariant.before c.in_err-take_edit.ensures)
+    rw (p.1, p.2) (refused_at _ c.args.edits.now c.loop-line.number c.in-Some.line.now c.next.new.self _ _ left c.loop-line.invariant.before c.in_err-take_edit.ensures)
 
 pub returns-clause-ok : goal.returns-clause-ok
 returns-clause-ok c =
     let all = all_taken (lines_of c.args.edits.now) c.loop-line.number (c.loop-line.invariant.rest ∙ c.in-None.ensures.steps.0) in
-    subst (λ lines. Configures lines (disks_alone c.args.units.now) c.loop-line.target.config) all c.loop-line.invariant.before
+    subst (λ lines. Configures lines c.args.target.now.config c.loop-line.target.config) all c.loop-line.invariant.before

@@ -4,7 +4,7 @@ use Rattle.config_text.specs.Lines.{lines_of}
 use Rattle.nvt_replay.specs.StreamLine.{IsStreamLine}
 use Rattle.config_text.proofs.LineLemmas.{length-lines_of}
 use Rattle.nvt_replay.proofs.ReplayLemmas.{IsNext, all_taken, is_stream_line, malformed_at, next_line, well_formed_more}
-use Rattle.nvt_replay.proofs.playback.replay.Goals as goal
+use Rattle.nvt_replay.proofs.playback.Playback.run.Goals as goal
 
 pub overflow_add-number : goal.overflow_add-number
 overflow_add-number g c =
@@ -17,7 +17,6 @@ loop-line-preserved g c =
     let left : drop c.loop-line.number (lines_of c.args.stream.now) ≡ c.in-Some.line.now ∷ c.next.new.self = c.loop-line.invariant.rest ∙ c.in-Some.ensures.steps in
     let next : IsNext (lines_of c.args.stream.now) c.loop-line.number c.in-Some.line.now c.next.new.self = next_line (lines_of c.args.stream.now) c.loop-line.number c.in-Some.line.now c.next.new.self left in
     record {
-      edits = c.loop-line.invariant.edits;
       rest = next.after;
       counted = omega (arith, next.below);
       before = well_formed_more (lines_of c.args.stream.now) c.loop-line.number c.in-Some.line.now c.next.new.self left c.loop-line.invariant.before (is_stream_line c.in-Some.line.now c.in-Some-read_stream_line.line c.in-Some-read_stream_line.ensures.some);
@@ -26,9 +25,9 @@ loop-line-preserved g c =
 pub returns-in-None-read_stream_line-clause-fault : goal.returns-in-None-read_stream_line-clause-fault
 returns-in-None-read_stream_line-clause-fault g c =
     let left : drop c.loop-line.number (lines_of c.args.stream.now) ≡ c.in-Some.line.now ∷ c.next.new.self = c.loop-line.invariant.rest ∙ c.in-Some.ensures.steps in
-    (c.loop-line.invariant.edits, malformed_at (lines_of c.args.stream.now) c.loop-line.number c.in-Some.line.now c.next.new.self left c.loop-line.invariant.before c.in-None-read_stream_line.ensures.none)
+    malformed_at (lines_of c.args.stream.now) c.loop-line.number c.in-Some.line.now c.next.new.self left c.loop-line.invariant.before c.in-None-read_stream_line.ensures.none
 
 pub returns-clause-ok : goal.returns-clause-ok
 returns-clause-ok g c =
     let all = all_taken (lines_of c.args.stream.now) c.loop-line.number (c.loop-line.invariant.rest ∙ c.in-None.ensures.steps.0) in
-    (c.loop-line.invariant.edits, subst (All IsStreamLine) all c.loop-line.invariant.before)
+    subst (All IsStreamLine) all c.loop-line.invariant.before

@@ -1,13 +1,11 @@
 use Rattle.std.proofs.Common.{◌≡◌, ◌≤◌, take, drop, length}
 use Rattle.std.specs.List.{All}
 use Rattle.config_text.specs.Lines.{lines_of}
-use Rattle.nvt_replay.specs.Replay.{AcceptsAll}
 use Rattle.nvt_replay.specs.StreamLine.{IsStreamLine}
-use Rattle.nvt_replay.proofs.playback.replay.Given as goal
+use Rattle.nvt_replay.proofs.playback.Playback.run.Given as goal
 
 abbrev pub invariant-loop-line : goal.invariant-loop-line
 invariant-loop-line g l = record {
-  edits : AcceptsAll l.edits l.units;
   rest : drop l.number (lines_of l.stream) ≡ l.line-iterator;
   counted : l.number ≤ length (lines_of l.stream);
   before : All IsStreamLine (take l.number (lines_of l.stream));
