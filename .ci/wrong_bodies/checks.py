@@ -5,6 +5,7 @@ import re
 import shutil
 import subprocess
 import tempfile
+import threading
 from dataclasses import dataclass
 
 PARTS = ("src", "specs", "proofs")
@@ -71,15 +72,22 @@ def crates_of(root):
 
 
 class Checker:
-    """Checks crates of a repository whose libraries are proved and built. What a check proves is kept in `scratch`
-    for the next one of that crate."""
+    """Checks crates of a repository whose libraries are proved and built. It works on copies of these, made when
+    they are first asked for, and keeps what a check proves for the next one of that crate; all of it in `scratch`."""
 
     def __init__(self, root, scratch):
         self.root, self.scratch, self.kit = root, scratch, kit()
-        self.seconds = {}
+        self.seconds, self.copying = {}, threading.Lock()
+
+    def kept(self, crate):
+        return f"{self.scratch}/kept/{crate.name}"
 
     def library(self, name):
-        return f"{self.root}/crates/{name}/out/rlib/{name}.rlib"
+        copy = f"{self.scratch}/libraries/{name}/{name}.rlib"
+        with self.copying:
+            if not os.path.isdir(copy):
+                shutil.copytree(f"{self.root}/crates/{name}/out/rlib/{name}.rlib", copy)
+        return copy
 
     def words(self, crate):
         words = [f"{self.kit}/bin/rattle", "check", "--crate-name", crate.name, crate.root_file()]
@@ -102,7 +110,7 @@ class Checker:
             for path, text in sources.items():
                 with open(f"{room}/{path}", "w", encoding="utf-8") as it:
                     it.write(text)
-            words = [*self.words(crate), "--incremental", f"{self.scratch}/{crate.name}"]
+            words = [*self.words(crate), "--incremental", self.kept(crate)]
             for path in only:
                 words += ["--only", path]
             return self.run(crate, words, room)
