@@ -8,8 +8,6 @@ mod order;
 mod page;
 pub mod plain;
 mod record;
-#[cfg(test)]
-mod tests;
 pub mod view;
 mod walk;
 

@@ -11,8 +11,6 @@ pub mod link;
 pub mod permission;
 pub mod port;
 pub mod subsystem;
-#[cfg(test)]
-mod tests;
 pub mod text;
 
 pub use config::Config;

@@ -7,8 +7,6 @@ pub mod name;
 pub mod pdu_type;
 pub mod status;
 pub mod termination;
-#[cfg(test)]
-mod tests;
 pub mod window;
 
 pub use field::{u16_at, u32_at, u64_at, write_spaced, write_zeroed};

@@ -12,8 +12,6 @@ pub mod initialize;
 pub mod sgl;
 pub mod sqe;
 pub mod termination;
-#[cfg(test)]
-mod tests;
 
 pub use append::Full;
 pub use capsule_resp::CapsuleResp;

@@ -15,5 +15,3 @@ pub use cut::Cut;
 pub use side::Side;
 pub use view::PduView;
 
-#[cfg(test)]
-mod tests;

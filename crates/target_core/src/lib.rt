@@ -17,8 +17,6 @@ mod queue;
 mod registers;
 mod session;
 mod target;
-#[cfg(test)]
-mod tests;
 mod wire;
 
 pub use fault::{NoConn, OpenFault, StepFault, Stepped};

@@ -1,9 +1,9 @@
 //! A target that a test drives.
-use super::pdus::{connect, ic_req, log_read, port_add, property};
-use crate::{Stepped, Target};
-use nvt_config::Edit;
+use super::pdus::{connect, ic_req, log_read, property};
 use std::alloc::{AllocError, Global};
 use std::test::Fail;
+use target_core::{Stepped, Target};
+use test_edits::{Line, edit};
 
 /// The bytes before those of a log read's data: an ICResp, two responses, and a header.
 const BEFORE_DATA: usize = 128 + 2 * 24 + 24;
@@ -11,7 +11,7 @@ const BEFORE_DATA: usize = 128 + 2 * 24 + 24;
 /// A target, and whether a call was refused that must not be: then the test fails at its end.
 #[derive(Drop)]
 pub struct Driver {
-    alloc: Global,
+    pub alloc: Global,
     pub target: Target,
     failed: bool,
 }
@@ -24,14 +24,13 @@ impl Driver {
             target: Target::new(alloc, &[2048])?,
             failed: false,
         };
-        for id in 1..3u64 {
-            driver.edit(port_add(alloc, id));
-        }
+        driver.edit(Line::PortAdd(1, b"127.0.0.1", 4420));
+        driver.edit(Line::PortAdd(2, b"127.0.0.1", 4420));
         Ok(driver)
     }
 
-    pub fn edit(&mut self, edit: Result<Edit, AllocError>) {
-        match edit {
+    pub fn edit(&mut self, line: Line<'_>) {
+        match edit(self.alloc, line) {
             Ok(edit) => self.failed |= self.target.edit(&edit).is_err(),
             Err(AllocError) => self.failed = true,
         }
@@ -40,12 +39,14 @@ impl Driver {
     /// Brings a whole PDU, and takes it.
     pub fn bring(&mut self, k: usize, pdu: Result<Vec<u8>, AllocError>) {
         match pdu {
-            Ok(bytes) => {
-                self.failed |= self.target.receive(k, &bytes).is_err();
-                self.failed |= self.target.step(k) != Ok(Stepped::One);
-            }
+            Ok(bytes) => self.take(k, &bytes),
             Err(AllocError) => self.failed = true,
         }
+    }
+
+    fn take(&mut self, k: usize, bytes: &[u8]) {
+        self.failed |= self.target.receive(k, bytes) != Ok(bytes.len());
+        self.failed |= self.target.step(k) != Ok(Stepped::One);
     }
 
     /// Brings a connection to where its Connect is answered, and returns the response.
@@ -59,15 +60,21 @@ impl Driver {
 
     /// 1,024 bytes of the page that a host reads, which connects for it and then goes away.
     pub fn page(&mut self, host: &[u8], offset: u16) -> [u8; 1024] {
-        let mut data = [0u8; 1024];
-        let Ok(k) = self.target.open(1) else {
-            self.failed = true;
-            return data;
-        };
+        match self.target.open(1) {
+            Ok(k) => self.page_on(k, host, offset),
+            Err(_) => {
+                self.failed = true;
+                [0; 1024]
+            }
+        }
+    }
+
+    fn page_on(&mut self, k: usize, host: &[u8], offset: u16) -> [u8; 1024] {
         self.connect(k, host);
         self.bring(k, property(self.alloc, 2, 0, 0x14));
         self.bring(k, log_read(self.alloc, 3, offset));
         self.failed |= self.target.output(k).len() != BEFORE_DATA + 1024 + 24;
+        let mut data = [0u8; 1024];
         self.copy_output(k, BEFORE_DATA, &mut data);
         self.target.end(k);
         data

@@ -1,8 +1,7 @@
-//! Headers typed from the standard's tables, and streams in pieces.
-use crate::{Cut, RxBuf, Side};
+//! Headers with each fault, and streams in pieces.
 use nvt_fields::{FatalErrorStatus, PduType};
-use std::alloc::Global;
-use std::process::Abort;
+use pdu_cut::{Cut, RxBuf, Side};
+use std::alloc::{AllocError, Global};
 use std::test::Fail;
 
 /// Headers of PDUs to the target, and the offset of the first field in error.
@@ -91,48 +90,59 @@ const HOST_HEADERS: [[u8; 8]; 5] = [
     [0x09, 2, 24, 255, 24, 0, 0, 0],
 ];
 
-fn assert_fault(
-    rt: &impl Abort,
+// Whether a side that receives these bytes alone finds the fault at this offset in them.
+fn finds_fault(
     alloc: Global,
     side: Side,
     bytes: &[u8; 8],
     offset: u32,
-) -> Result<(), Fail> {
+) -> Result<bool, AllocError> {
     let mut buffer = RxBuf::new(alloc, side)?;
-    assert_eq!(rt; buffer.receive(bytes), 8);
-    match buffer.peek() {
+    let received = buffer.receive(bytes);
+    Ok(received == 8 && is_fault(&buffer.peek(), bytes, offset))
+}
+
+fn is_fault(cut: &Cut<'_>, bytes: &[u8; 8], offset: u32) -> bool {
+    match cut {
         Cut::Fault { fes, fei, head } => {
-            assert_eq!(rt; fes, FatalErrorStatus::InvalidHeaderField);
-            assert_eq!(rt; fei, offset, "{bytes:?}");
-            assert_eq!(rt; head, bytes.as_slice());
+            *fes == FatalErrorStatus::InvalidHeaderField
+                && *fei == offset
+                && *head == bytes.as_slice()
         }
-        _ => assert!(rt; false, "no fault in {bytes:?}"),
+        _ => false,
+    }
+}
+
+#[test]
+fn first_faults_at_the_target(rt: HostRuntime) -> Result<(), Fail> {
+    for (head, offset) in &TARGET_FAULTS {
+        assert!(rt; finds_fault(rt.alloc(), Side::Target, head, *offset)?);
     }
     Ok(())
 }
 
 #[test]
-fn first_faults(rt: HostRuntime) -> Result<(), Fail> {
-    for (head, offset) in &TARGET_FAULTS {
-        assert_fault(&rt, rt.alloc(), Side::Target, head, *offset)?;
-    }
+fn first_faults_at_the_host(rt: HostRuntime) -> Result<(), Fail> {
     for (head, offset) in &HOST_FAULTS {
-        assert_fault(&rt, rt.alloc(), Side::Host, head, *offset)?;
+        assert!(rt; finds_fault(rt.alloc(), Side::Host, head, *offset)?);
     }
     Ok(())
+}
+
+// Whether a side that receives these bytes alone waits for the rest of a PDU.
+fn waits(alloc: Global, side: Side, bytes: &[u8; 8]) -> Result<bool, AllocError> {
+    let mut buffer = RxBuf::new(alloc, side)?;
+    let received = buffer.receive(bytes);
+    Ok(received == 8 && matches!(buffer.peek(), Cut::More))
 }
 
 #[test]
 fn headers_without_fault(rt: HostRuntime) -> Result<(), Fail> {
     for head in &TARGET_HEADERS {
-        let mut buffer = RxBuf::new(rt.alloc(), Side::Target)?;
-        buffer.receive(head);
-        assert!(rt; matches!(buffer.peek(), Cut::More), "{head:?}");
+        assert!(rt; waits(rt.alloc(), Side::Target, head)?);
     }
     for head in &HOST_HEADERS {
-        let mut buffer = RxBuf::new(rt.alloc(), Side::Host)?;
-        buffer.receive(head);
-        assert!(rt; matches!(buffer.peek(), Cut::More), "{head:?}");
+        assert!(rt; waits(rt.alloc(), Side::Host, head)?);
     }
     Ok(())
 }
@@ -144,24 +154,27 @@ fn byte_of_ic_req(place: usize) -> u8 {
     if place < 8 { IC_REQ_HEAD[place] } else { 0 }
 }
 
+fn is_ic_req(cut: &Cut<'_>) -> bool {
+    match cut {
+        Cut::Pdu(view) => {
+            view.kind() == PduType::IcReq
+                && view.flags() == 0
+                && view.plen() == 128
+                && view.header().len() == 128
+                && view.data().is_empty()
+        }
+        _ => false,
+    }
+}
+
 #[test]
 fn byte_by_byte(rt: HostRuntime) -> Result<(), Fail> {
     let mut buffer = RxBuf::new(rt.alloc(), Side::Target)?;
     for place in 0..128 {
-        assert!(rt; matches!(buffer.peek(), Cut::More), "after {place} bytes");
-        assert_eq!(rt; buffer.receive(&[byte_of_ic_req(place)]), 1);
+        assert!(rt; matches!(buffer.peek(), Cut::More));
+        assert!(rt; buffer.receive(&[byte_of_ic_req(place)]) == 1);
     }
-    let len = match buffer.peek() {
-        Cut::Pdu(view) => {
-            assert_eq!(rt; view.kind(), PduType::IcReq);
-            assert_eq!(rt; view.flags(), 0);
-            assert_eq!(rt; view.header().len(), 128);
-            assert_eq!(rt; view.data().len(), 0);
-            view.plen()
-        }
-        _ => 0,
-    };
-    assert_eq!(rt; len, 128);
+    assert!(rt; is_ic_req(&buffer.peek()));
     Ok(())
 }
 
@@ -169,11 +182,11 @@ fn byte_by_byte(rt: HostRuntime) -> Result<(), Fail> {
 fn no_more_than_its_room(rt: HostRuntime) -> Result<(), Fail> {
     let mut buffer = RxBuf::new(rt.alloc(), Side::Target)?;
     let piece = [0; 20_000];
-    assert_eq!(rt; buffer.room(), 32_768);
-    assert_eq!(rt; buffer.receive(&piece), 20_000);
-    assert_eq!(rt; buffer.receive(&piece), 12_768);
-    assert_eq!(rt; buffer.room(), 0);
-    assert_eq!(rt; buffer.receive(&piece), 0);
+    // What the room is before each piece, and how much of the piece is received.
+    for (room, received) in [(32_768, 20_000), (12_768, 12_768), (0, 0)] {
+        assert!(rt; buffer.room() == room);
+        assert!(rt; buffer.receive(&piece) == received);
+    }
     Ok(())
 }
 
@@ -184,28 +197,35 @@ const TWO_PDUS: [u8; 58] = [
     0, 14, 15,
 ];
 
+// Whether a PDU with these flags, this header and this data is at the front.
+fn is_data_pdu(cut: &Cut<'_>, flags: u8, header: &[u8], data: &[u8]) -> bool {
+    match cut {
+        Cut::Pdu(view) => {
+            view.kind() == PduType::H2cData
+                && view.flags() == flags
+                && view.header() == header
+                && view.data() == data
+        }
+        _ => false,
+    }
+}
+
 #[test]
 fn two_in_one_piece(rt: HostRuntime) -> Result<(), Fail> {
     let mut buffer = RxBuf::new(rt.alloc(), Side::Target)?;
-    assert_eq!(rt; buffer.receive(&TWO_PDUS), 58);
-    match buffer.peek() {
-        Cut::Pdu(view) => {
-            assert_eq!(rt; view.kind(), PduType::H2cData);
-            assert_eq!(rt; view.header(), &TWO_PDUS[..24]);
-            assert_eq!(rt; view.data(), [10, 11, 12, 13].as_slice());
-        }
-        _ => assert!(rt; false, "the first PDU"),
-    }
+    assert!(rt; buffer.receive(&TWO_PDUS) == 58);
+    assert!(rt; is_data_pdu(&buffer.peek(), 0, &TWO_PDUS[..24], &[10, 11, 12, 13]));
     buffer.consume(28);
-    match buffer.peek() {
-        Cut::Pdu(view) => {
-            assert_eq!(rt; view.flags(), 4);
-            assert_eq!(rt; view.data(), [14, 15].as_slice());
-        }
-        _ => assert!(rt; false, "the second PDU"),
-    }
-    buffer.consume(30);
+    assert!(rt; is_data_pdu(&buffer.peek(), 4, &TWO_PDUS[28..52], &[14, 15]));
+    Ok(())
+}
+
+#[test]
+fn room_comes_back(rt: HostRuntime) -> Result<(), Fail> {
+    let mut buffer = RxBuf::new(rt.alloc(), Side::Target)?;
+    assert!(rt; buffer.receive(&TWO_PDUS) == 58);
+    buffer.consume(58);
     assert!(rt; matches!(buffer.peek(), Cut::More));
-    assert_eq!(rt; buffer.room(), 32_768);
+    assert!(rt; buffer.room() == 32_768);
     Ok(())
 }

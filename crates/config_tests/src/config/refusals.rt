@@ -1,0 +1,156 @@
+use super::filled;
+use super::outline::is_answered;
+use nvt_config::{Access, Config, EditFault, Entry, Family, Value};
+use nvt_fields::DISCOVERY_NQN;
+use std::alloc::Global;
+use std::process::Abort;
+use std::test::Fail;
+use test_edits::{Line, is_same};
+
+// Both calls refuse each edit for its first reason, and leave all as it was.
+fn assert_refused(
+    rt: &impl Abort,
+    alloc: Global,
+    rows: &[(Line<'_>, EditFault)],
+) -> Result<(), Fail> {
+    let before = filled(alloc)?;
+    let mut config = filled(alloc)?;
+    assert_leaves(rt, alloc, &mut config, &before, rows)
+}
+
+fn assert_leaves(
+    rt: &impl Abort,
+    alloc: Global,
+    config: &mut Config,
+    before: &Config,
+    rows: &[(Line<'_>, EditFault)],
+) -> Result<(), Fail> {
+    for (line, fault) in rows {
+        assert!(rt; is_answered(alloc, config, *line, Err(*fault))?);
+        assert!(rt; is_same(config, before));
+    }
+    Ok(())
+}
+
+const NO_SUBSYSTEM: EditFault = EditFault::NoSuch(Entry::Subsystem);
+
+const NO_PORT: EditFault = EditFault::NoSuch(Entry::Port);
+
+const BAD_NQN: EditFault = EditFault::BadValue(Value::Nqn);
+
+const BAD_SERIAL: EditFault = EditFault::BadValue(Value::Serial);
+
+const BAD_PORT: EditFault = EditFault::BadValue(Value::Port);
+
+const BAD_ADDRESS: EditFault = EditFault::BadValue(Value::Address);
+
+const BAD_SERVICE: EditFault = EditFault::BadValue(Value::Service);
+
+const SUBSYSTEMS: [(Line<'static>, EditFault); 11] = [
+    (
+        Line::SubsystemAdd(DISCOVERY_NQN, b"", Access::Open),
+        BAD_NQN,
+    ),
+    (
+        Line::SubsystemAdd(DISCOVERY_NQN, b"SN", Access::Open),
+        BAD_NQN,
+    ),
+    (Line::SubsystemAdd(b"nqn.a", b"", Access::Open), BAD_SERIAL),
+    (
+        Line::SubsystemAdd(b"nqn.d", &[b'x'; 21], Access::Open),
+        BAD_SERIAL,
+    ),
+    (
+        Line::SubsystemAdd(b"nqn.d", b"S N", Access::Open),
+        BAD_SERIAL,
+    ),
+    (
+        Line::SubsystemAdd(b"nqn.d", b"\x7f", Access::Open),
+        BAD_SERIAL,
+    ),
+    (
+        Line::SubsystemAdd(b"nqn.a", b"SN", Access::Open),
+        EditFault::Exists(Entry::Subsystem),
+    ),
+    (Line::SubsystemSet(b"nqn.d", Access::Closed), NO_SUBSYSTEM),
+    (
+        Line::SubsystemSet(DISCOVERY_NQN, Access::Open),
+        NO_SUBSYSTEM,
+    ),
+    (Line::SubsystemDel(b"nqn.d"), NO_SUBSYSTEM),
+    (Line::SubsystemDel(b"nqn.b"), EditFault::InUse(Entry::Link)),
+];
+
+#[test]
+fn of_subsystems(rt: HostRuntime) -> Result<(), Fail> {
+    assert_refused(&rt, rt.alloc(), &SUBSYSTEMS)
+}
+
+// A port's number, its address and its service, which are refused when it is added and when it is set.
+const PORT_VALUES: [(u64, &[u8], u64, EditFault); 8] = [
+    (0, b"", 0, BAD_PORT),
+    (65_536, b"a", 4420, BAD_PORT),
+    (4, b"", 0, BAD_ADDRESS),
+    (1, &[b'x'; 257], 4420, BAD_ADDRESS),
+    (4, b"a b", 4420, BAD_ADDRESS),
+    (4, b"a\x7f", 4420, BAD_ADDRESS),
+    (1, b"a", 0, BAD_SERVICE),
+    (4, b"a", 65_536, BAD_SERVICE),
+];
+
+#[test]
+fn of_the_values_of_ports(rt: HostRuntime) -> Result<(), Fail> {
+    for (id, address, service, fault) in &PORT_VALUES {
+        let rows = [
+            (Line::PortAdd(*id, address, *service), *fault),
+            (Line::PortSet(*id, Family::Ipv6, address, *service), *fault),
+        ];
+        assert_refused(&rt, rt.alloc(), &rows)?;
+    }
+    Ok(())
+}
+
+const PORTS: [(Line<'static>, EditFault); 7] = [
+    (Line::PortAdd(1, b"a", 4420), EditFault::Exists(Entry::Port)),
+    (Line::PortSet(4, Family::Ipv6, b"a", 4420), NO_PORT),
+    (Line::PortDel(0), NO_PORT),
+    (Line::PortDel(4), NO_PORT),
+    (Line::PortDel(65_537), NO_PORT),
+    (Line::PortDel(u64::MAX), NO_PORT),
+    (Line::PortDel(2), EditFault::InUse(Entry::Link)),
+];
+
+#[test]
+fn of_ports(rt: HostRuntime) -> Result<(), Fail> {
+    assert_refused(&rt, rt.alloc(), &PORTS)
+}
+
+const LINKS: [(Line<'static>, EditFault); 11] = [
+    (Line::LinkAdd(4, b"nqn.d"), NO_PORT),
+    (Line::LinkAdd(0, b"nqn.a"), NO_PORT),
+    (Line::LinkAdd(65_537, b"nqn.c"), NO_PORT),
+    (Line::LinkAdd(1, b"nqn.d"), NO_SUBSYSTEM),
+    (Line::LinkAdd(1, b"nqn.a"), EditFault::Exists(Entry::Link)),
+    (Line::LinkDel(4, b"nqn.d"), NO_PORT),
+    (Line::LinkDel(0, b"nqn.a"), NO_PORT),
+    (Line::LinkDel(65_537, b"nqn.a"), NO_PORT),
+    (Line::LinkDel(1, b"nqn.d"), NO_SUBSYSTEM),
+    (Line::LinkDel(2, b"nqn.a"), EditFault::NoSuch(Entry::Link)),
+    (Line::LinkDel(1, b"nqn.c"), EditFault::NoSuch(Entry::Link)),
+];
+
+#[test]
+fn of_links(rt: HostRuntime) -> Result<(), Fail> {
+    assert_refused(&rt, rt.alloc(), &LINKS)
+}
+
+const HOSTS: [(Line<'static>, EditFault); 3] = [
+    (Line::HostAdd(b"nqn.h"), EditFault::Exists(Entry::Host)),
+    (Line::HostDel(b"nqn.k"), EditFault::NoSuch(Entry::Host)),
+    (Line::HostDel(b"nqn.i"), EditFault::NoSuch(Entry::Host)),
+];
+
+#[test]
+fn of_hosts(rt: HostRuntime) -> Result<(), Fail> {
+    assert_refused(&rt, rt.alloc(), &HOSTS)
+}

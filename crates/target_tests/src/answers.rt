@@ -1,0 +1,100 @@
+//! What edits are answered with ample memory.
+use super::pdus::{A, B, H1};
+use nvt_config::{Access, EditFault, Entry, Family, Value};
+use nvt_fields::DISCOVERY_NQN;
+use std::alloc::{AllocError, Global};
+use std::process::Abort;
+use std::test::Fail;
+use target_core::Target;
+use test_edits::{Line, edit};
+
+// Edits of each kind in turn, and what each is answered.
+const ROWS: [(Line<'static>, Result<(), EditFault>); 30] = [
+    (Line::SubsystemAdd(A, b"SN", Access::Open), Ok(())),
+    (
+        Line::SubsystemAdd(A, b"SN", Access::Open),
+        Err(EditFault::Exists(Entry::Subsystem)),
+    ),
+    (
+        Line::SubsystemAdd(DISCOVERY_NQN, b"SN", Access::Open),
+        Err(EditFault::BadValue(Value::Nqn)),
+    ),
+    (
+        Line::SubsystemAdd(B, b"", Access::Open),
+        Err(EditFault::BadValue(Value::Serial)),
+    ),
+    (Line::SubsystemSet(A, Access::Closed), Ok(())),
+    (Line::SubsystemSet(A, Access::Open), Ok(())),
+    (
+        Line::SubsystemSet(B, Access::Open),
+        Err(EditFault::NoSuch(Entry::Subsystem)),
+    ),
+    (Line::PortAdd(1, b"127.0.0.1", 4420), Ok(())),
+    (
+        Line::PortAdd(1, b"127.0.0.1", 4420),
+        Err(EditFault::Exists(Entry::Port)),
+    ),
+    (
+        Line::PortAdd(0, b"127.0.0.1", 4420),
+        Err(EditFault::BadValue(Value::Port)),
+    ),
+    (Line::PortSet(1, Family::Ipv6, b"::1", 4421), Ok(())),
+    (
+        Line::PortSet(2, Family::Ipv6, b"::1", 4421),
+        Err(EditFault::NoSuch(Entry::Port)),
+    ),
+    (
+        Line::PortSet(1, Family::Ipv6, b"", 4421),
+        Err(EditFault::BadValue(Value::Address)),
+    ),
+    (
+        Line::PortSet(1, Family::Ipv6, b"::1", 0),
+        Err(EditFault::BadValue(Value::Service)),
+    ),
+    (Line::LinkAdd(1, A), Ok(())),
+    (Line::LinkAdd(1, A), Err(EditFault::Exists(Entry::Link))),
+    (Line::LinkAdd(2, A), Err(EditFault::NoSuch(Entry::Port))),
+    (
+        Line::LinkAdd(1, B),
+        Err(EditFault::NoSuch(Entry::Subsystem)),
+    ),
+    (Line::PortDel(1), Err(EditFault::InUse(Entry::Link))),
+    (Line::SubsystemDel(A), Err(EditFault::InUse(Entry::Link))),
+    (Line::LinkDel(1, A), Ok(())),
+    (Line::LinkDel(1, A), Err(EditFault::NoSuch(Entry::Link))),
+    (Line::PortDel(1), Ok(())),
+    (Line::PortDel(1), Err(EditFault::NoSuch(Entry::Port))),
+    (Line::SubsystemDel(A), Ok(())),
+    (
+        Line::SubsystemDel(A),
+        Err(EditFault::NoSuch(Entry::Subsystem)),
+    ),
+    (Line::HostAdd(H1), Ok(())),
+    (Line::HostAdd(H1), Err(EditFault::Exists(Entry::Host))),
+    (Line::HostDel(H1), Ok(())),
+    (Line::HostDel(H1), Err(EditFault::NoSuch(Entry::Host))),
+];
+
+// Whether the configuration and the target answer the edit of a line so.
+fn is_answered(
+    alloc: Global,
+    target: &mut Target,
+    line: Line<'_>,
+    answer: Result<(), EditFault>,
+) -> Result<bool, AllocError> {
+    let edit = edit(alloc, line)?;
+    Ok(target.config().check(&edit) == answer && target.edit(&edit) == answer)
+}
+
+fn assert_answers(rt: &impl Abort, alloc: Global, target: &mut Target) -> Result<(), Fail> {
+    for (line, answer) in &ROWS {
+        assert!(rt; is_answered(alloc, target, *line, *answer)?);
+    }
+    Ok(())
+}
+
+#[test]
+fn each_kind_of_edit_is_answered(rt: HostRuntime) -> Result<(), Fail> {
+    let mut target = Target::new(rt.alloc(), &[2048])?;
+    assert_answers(&rt, rt.alloc(), &mut target)
+}

@@ -1,0 +1,22 @@
+//! Tests of the target and of `replay`, through their public calls. The expected bytes are typed from
+//! the formats of NVMe over TCP; the plain walk over a history is the second opinion on what is sent.
+#![tactic(auto)]
+
+#[cfg(test)]
+mod answers;
+#[cfg(test)]
+mod connections;
+#[cfg(test)]
+mod driver;
+#[cfg(test)]
+mod pages;
+#[cfg(test)]
+mod pdus;
+#[cfg(test)]
+mod random;
+#[cfg(test)]
+mod replays;
+#[cfg(test)]
+mod waiting;
+#[cfg(test)]
+mod walk;

@@ -1,0 +1,79 @@
+//! PDUs that a host sends.
+use std::alloc::{AllocError, Global};
+
+/// Names of subsystems.
+pub const A: &[u8] = b"nqn.2026-01.test:a";
+
+pub const B: &[u8] = b"nqn.2026-01.test:b";
+
+/// Names of hosts.
+pub const H1: &[u8] = b"nqn.2026-01.test:h1";
+
+pub const H2: &[u8] = b"nqn.2026-01.test:h2";
+
+/// An ICReq with both digests asked for.
+pub fn ic_req(alloc: Global) -> Result<Vec<u8>, AllocError> {
+    let mut pdu = [0u8; 128];
+    pdu[2] = 128;
+    pdu[4] = 128;
+    pdu[11] = 3;
+    Vec::from_slice(alloc, &pdu)
+}
+
+/// A capsule with this entry and data.
+pub fn capsule(alloc: Global, entry: &[u8; 64], data: &[u8]) -> Result<Vec<u8>, AllocError> {
+    let plen = (72 + data.len().min(20_000) as u32).to_le_bytes();
+    let pdo = if data.is_empty() { 0 } else { 72 };
+    let mut pdu = Vec::from_slice(alloc, &[4, 0, 72, pdo, plen[0], plen[1], plen[2], plen[3]])?;
+    pdu.extend_from_slice(entry)?;
+    pdu.extend_from_slice(data)?;
+    Ok(pdu)
+}
+
+/// The data of a Connect to the discovery subsystem.
+pub fn connect_data(host: &[u8]) -> [u8; 1024] {
+    let mut data = [0u8; 1024];
+    data[16] = 0xFF;
+    data[17] = 0xFF;
+    data[256..292].copy_from_slice(b"nqn.2014-08.org.nvmexpress.discovery");
+    let len = host.len().min(256);
+    data[512..512 + len].copy_from_slice(&host[..len]);
+    data
+}
+
+/// A Connect of CID 1 to the discovery subsystem, with SQSIZE 31.
+pub fn connect(alloc: Global, host: &[u8]) -> Result<Vec<u8>, AllocError> {
+    let mut entry = [0u8; 64];
+    entry[..5].copy_from_slice(&[0x7F, 0x40, 1, 0, 1]);
+    entry[33] = 4;
+    entry[39] = 1;
+    entry[44] = 31;
+    capsule(alloc, &entry, &connect_data(host))
+}
+
+/// A Property Get or Set, of CC 00460001h.
+pub fn property(alloc: Global, cid: u8, fctype: u8, ofst: u8) -> Result<Vec<u8>, AllocError> {
+    let mut entry = [0u8; 64];
+    entry[..5].copy_from_slice(&[0x7F, 0x40, cid, 0, fctype]);
+    entry[40] = u8::from(ofst == 0);
+    entry[44] = ofst;
+    entry[48..51].copy_from_slice(&[1, 0, 0x46]);
+    capsule(alloc, &entry, &[])
+}
+
+/// A read of so many dwords of the discovery log page, at most 16,384.
+pub fn log_part(alloc: Global, cid: u8, offset: u16, dwords: u16) -> Result<Vec<u8>, AllocError> {
+    let mut entry = [0u8; 64];
+    entry[..5].copy_from_slice(&[2, 0x40, cid, 0, 0]);
+    entry[32..36].copy_from_slice(&(u32::from(dwords) * 4).to_le_bytes());
+    entry[39] = 0x5A;
+    entry[40] = 0x70;
+    entry[42..44].copy_from_slice(&dwords.saturating_sub(1).to_le_bytes());
+    entry[48..50].copy_from_slice(&offset.to_le_bytes());
+    capsule(alloc, &entry, &[])
+}
+
+/// A read of 1,024 bytes of it.
+pub fn log_read(alloc: Global, cid: u8, offset: u16) -> Result<Vec<u8>, AllocError> {
+    log_part(alloc, cid, offset, 256)
+}

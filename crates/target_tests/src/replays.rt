@@ -1,0 +1,71 @@
+//! Faults of `replay` that no file shows: disks past their limits, and a writer that fails.
+use nvt_replay::{ReplayFault, replay};
+use std::alloc::Global;
+use std::io::{self, Write};
+use std::test::Fail;
+
+const PORT: &[u8] = b"port add 1 ipv4 127.0.0.1 4420\n";
+
+const UNITS: [u64; 4] = [2048, 2048, 2048, 2048];
+
+const TOO_LARGE: [u64; 1] = [(1 << 40) + 1];
+
+#[test]
+fn disks_are_judged_first(rt: HostRuntime) -> Result<(), Fail> {
+    let mut out = Vec::new(rt.alloc());
+    let of_disks = replay(rt.alloc(), b"port", b"x", &TOO_LARGE, &mut out);
+    assert!(rt; of_disks == Err(ReplayFault::Disks));
+    let of_edits = replay(rt.alloc(), b"port", b"x", &UNITS, &mut out);
+    assert!(rt; matches!(&of_edits, Err(ReplayFault::EditLine { line: 1, reply: _ })));
+    assert!(rt; out.is_empty());
+    Ok(())
+}
+
+#[test]
+fn the_fault_of_disks_has_a_text(rt: HostRuntime) -> Result<(), Fail> {
+    let text = ReplayFault::Disks.to_string(rt.alloc())?;
+    assert!(rt; text.as_str() == "disks");
+    Ok(())
+}
+
+// A writer that takes this many more bytes.
+#[derive(Drop)]
+struct Narrow {
+    left: usize,
+}
+
+impl Write for Narrow {
+    fn write(&mut self, buf: &[u8]) -> io::Result<usize> {
+        if self.left == 0 && !buf.is_empty() {
+            return Err(io::Error::from(io::ErrorKind::BrokenPipe));
+        }
+        let len = buf.len().min(self.left);
+        self.left -= len;
+        Ok(len)
+    }
+
+    fn flush(&mut self) -> io::Result<()> {
+        Ok(())
+    }
+}
+
+fn outcome(alloc: Global, left: usize) -> Result<(), ReplayFault> {
+    let mut out = Narrow { left };
+    replay(
+        alloc,
+        PORT,
+        b"open 1\nend 0\nopen 1\nend 0\n",
+        &UNITS,
+        &mut out,
+    )
+}
+
+// Two lines of seven bytes are printed.
+#[test]
+fn a_write_that_fails_ends_the_replay(rt: HostRuntime) {
+    for left in 0..14 {
+        assert!(rt; outcome(rt.alloc(), left) == Err(ReplayFault::Io));
+    }
+    assert!(rt; outcome(rt.alloc(), 14).is_ok());
+    assert!(rt; outcome(rt.alloc(), 15).is_ok());
+}

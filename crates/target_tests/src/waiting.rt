@@ -1,0 +1,86 @@
+//! Output that is not taken.
+use super::driver::Driver;
+use super::pages::{ONE_RECORD, record};
+use super::pdus::{H1, log_part, property};
+use std::process::Abort;
+use std::test::Fail;
+
+/// The ICResp and the responses to the Connect and the Property Set.
+const BEFORE_READS: usize = 128 + 24 + 24;
+
+/// What a read of 32,768 bytes is sent: a header, the data, and a response.
+const READ: usize = 24 + 32_768 + 24;
+
+// Whether this is what the read of this CID is sent. As many responses went before it on its queue, and
+// the page is the header of GENCTR 2 and NUMREC 1, and one record.
+fn is_read(sent: &[u8], cid: u8) -> bool {
+    let mut header = [0u8; 24];
+    header[..9].copy_from_slice(&[0x07, 0x04, 0x18, 0x18, 0x18, 0x80, 0x00, 0x00, cid]);
+    header[16..20].copy_from_slice(&[0x00, 0x80, 0x00, 0x00]);
+    let mut response = [0u8; 24];
+    response[..5].copy_from_slice(&[0x05, 0x00, 0x18, 0x00, 0x18]);
+    response[16] = cid;
+    response[20] = cid;
+    sent.len() == READ
+        && sent[..24] == header[..]
+        && is_page(&sent[24..32_792])
+        && sent[32_792..] == response[..]
+}
+
+// Whether this is the page, and zeros behind it.
+fn is_page(data: &[u8]) -> bool {
+    let mut header = [0u8; 1024];
+    header[0] = 2;
+    header[8] = 1;
+    data.len() == 32_768
+        && data[..1024] == header[..]
+        && data[1024..2048] == record()[..]
+        && data[2048..].iter().all(|byte| *byte == 0)
+}
+
+// Whether the output begins, after `at` bytes, with what the reads from CID 3 to `last` are sent, and
+// ends there.
+fn holds_reads(output: &[u8], at: usize, last: u8) -> bool {
+    let Some(reads) = output.get(at..) else {
+        return false;
+    };
+    let mut cid = 3u8;
+    for sent in reads.chunks(READ) {
+        if !is_read(sent, cid) {
+            return false;
+        }
+        cid = cid.saturating_add(1);
+    }
+    cid == last.saturating_add(1)
+}
+
+// A host that connects, enables its controller, and reads three times; nothing is taken.
+fn read_three_times(driver: &mut Driver) {
+    let alloc = driver.alloc;
+    for line in &ONE_RECORD {
+        driver.edit(*line);
+    }
+    driver.connect(0, H1);
+    driver.bring(0, property(alloc, 2, 0, 0x14));
+    for cid in 3..6 {
+        driver.bring(0, log_part(alloc, cid, 0, 8192));
+    }
+}
+
+#[test]
+fn steps_go_on_while_output_waits(rt: HostRuntime) -> Result<(), Fail> {
+    let mut driver = Driver::new(rt.alloc())?;
+    assert!(rt; driver.target.open(1) == Ok(0));
+    read_three_times(&mut driver);
+    assert!(rt; holds_reads(driver.target.output(0), BEFORE_READS, 5));
+    take_and_read(&rt, &mut driver);
+    driver.finish()
+}
+
+// Takes a part of the output, and reads once more.
+fn take_and_read(rt: &impl Abort, driver: &mut Driver) {
+    let len = driver.target.output(0).len().min(BEFORE_READS);
+    driver.target.taken(0, len);
+    driver.bring(0, log_part(driver.alloc, 6, 0, 8192));
+    assert!(rt; holds_reads(driver.target.output(0), 0, 6));
+}
