@@ -49,8 +49,12 @@ fn follow(followed: &mut Followed, edit: &Edit) -> Result<(), Fail> {
 // Makes an edit, which is accepted.
 fn make(alloc: Global, followed: &mut Followed, line: Line<'_>) -> Result<(), Fail> {
     let edit = edit(alloc, line)?;
-    followed.config.check(&edit)?;
-    follow(followed, &edit)
+    make_edit(followed, &edit)
+}
+
+fn make_edit(followed: &mut Followed, edit: &Edit) -> Result<(), Fail> {
+    followed.config.check(edit)?;
+    follow(followed, edit)
 }
 
 fn make_all(alloc: Global, followed: &mut Followed, lines: &[Line<'_>]) -> Result<(), Fail> {

@@ -53,8 +53,12 @@ fn is_second_port(config: &Config, family: Family, address: &[u8]) -> bool {
 #[test]
 fn of_sets(rt: HostRuntime) -> Result<(), Fail> {
     let mut config = filled(rt.alloc())?;
-    assert_effects(&rt, rt.alloc(), &mut config, &SETS)?;
-    assert!(rt; is_second_port(&config, Family::Ipv6, b"::1"));
+    assert_sets(&rt, rt.alloc(), &mut config)
+}
+
+fn assert_sets(rt: &impl Abort, alloc: Global, config: &mut Config) -> Result<(), Fail> {
+    assert_effects(rt, alloc, config, &SETS)?;
+    assert!(rt; is_second_port(config, Family::Ipv6, b"::1"));
     Ok(())
 }
 

@@ -74,8 +74,12 @@ const OVER_ALL_LINKED: [(Line<'static>, Result<(), EditFault>); 4] = [
 #[test]
 fn each_subsystem_on_each_port(rt: HostRuntime) -> Result<(), Fail> {
     let mut config = Config::new(rt.alloc(), &[])?;
-    link_all(&rt, rt.alloc(), &mut config)?;
-    assert_answers(&rt, rt.alloc(), &mut config, &OVER_ALL_LINKED)?;
+    assert_linked(&rt, rt.alloc(), &mut config)
+}
+
+fn assert_linked(rt: &impl Abort, alloc: Global, config: &mut Config) -> Result<(), Fail> {
+    link_all(rt, alloc, config)?;
+    assert_answers(rt, alloc, config, &OVER_ALL_LINKED)?;
     let lens = [
         config.subsystems().len(),
         config.ports().len(),
@@ -116,9 +120,13 @@ fn is_live_at(config: &Config, place: usize, nqn: &[u8]) -> bool {
 #[test]
 fn names_of_hosts(rt: HostRuntime) -> Result<(), Fail> {
     let mut config = Config::new(rt.alloc(), &[])?;
-    add_hosts(&rt, rt.alloc(), &mut config)?;
-    assert_answers(&rt, rt.alloc(), &mut config, &OVER_ALL_HOSTS)?;
+    assert_full_of_hosts(&rt, rt.alloc(), &mut config)
+}
+
+fn assert_full_of_hosts(rt: &impl Abort, alloc: Global, config: &mut Config) -> Result<(), Fail> {
+    add_hosts(rt, alloc, config)?;
+    assert_answers(rt, alloc, config, &OVER_ALL_HOSTS)?;
     assert!(rt; config.hosts().len() == 256);
-    assert!(rt; is_live_at(&config, 7, b"nqn.007"));
+    assert!(rt; is_live_at(config, 7, b"nqn.007"));
     Ok(())
 }

@@ -1,6 +1,6 @@
 //! What counts as a change of a host's records.
-use super::{A, B, Followed, H1, ONE_RECORD, STRANGER, after, has_numbers, make, page};
-use nvt_config::{Access, Family};
+use super::{A, B, Followed, H1, ONE_RECORD, STRANGER, after, has_numbers, make, page, start};
+use nvt_config::{Access, Edit, Family};
 use std::alloc::Global;
 use std::process::Abort;
 use std::test::Fail;
@@ -40,10 +40,14 @@ const AFTER_A_MOVE: [(Line<'static>, (u64, u64)); 4] = [
 
 #[test]
 fn each_change_of_a_record_counts_once(rt: HostRuntime) -> Result<(), Fail> {
-    let mut view = after(rt.alloc(), &[])?;
-    assert_counts(&rt, rt.alloc(), &mut view, &BEFORE_A_MOVE)?;
-    assert!(rt; has_service(rt.alloc(), &view, b"4421 ")?);
-    assert_counts(&rt, rt.alloc(), &mut view, &AFTER_A_MOVE)
+    let mut followed = start(rt.alloc())?;
+    assert_moves(&rt, rt.alloc(), &mut followed)
+}
+
+fn assert_moves(rt: &impl Abort, alloc: Global, followed: &mut Followed) -> Result<(), Fail> {
+    assert_counts(rt, alloc, followed, &BEFORE_A_MOVE)?;
+    assert!(rt; has_service(alloc, followed, b"4421 ")?);
+    assert_counts(rt, alloc, followed, &AFTER_A_MOVE)
 }
 
 // Whether the service of the one record begins so.
@@ -65,30 +69,38 @@ const ACCESS: [(Line<'static>, (u64, u64)); 8] = [
 
 #[test]
 fn each_change_of_access_counts_once(rt: HostRuntime) -> Result<(), Fail> {
-    let mut view = after(rt.alloc(), &ONE_RECORD)?;
-    assert_counts(&rt, rt.alloc(), &mut view, &ACCESS)
+    let mut followed = after(rt.alloc(), &ONE_RECORD)?;
+    assert_counts(&rt, rt.alloc(), &mut followed, &ACCESS)
 }
 
 // Plans an edit, and lets the plan go.
 fn plan(alloc: Global, followed: &mut Followed, line: Line<'_>) -> Result<(), Fail> {
     let edit = edit(alloc, line)?;
-    followed.config.check(&edit)?;
-    let plan = followed.view.prepare(&followed.config, &edit)?;
-    drop(plan);
+    plan_edit(followed, &edit)
+}
+
+fn plan_edit(followed: &mut Followed, edit: &Edit) -> Result<(), Fail> {
+    followed.config.check(edit)?;
+    drop(followed.view.prepare(&followed.config, edit)?);
     Ok(())
 }
 
-// Whether two plans leave the host's page as it is.
-fn plans_change_nothing(alloc: Global, followed: &mut Followed) -> Result<bool, Fail> {
-    let before = page(alloc, &followed.view, H1)?;
+fn plan_two(alloc: Global, followed: &mut Followed) -> Result<(), Fail> {
     plan(alloc, followed, Line::LinkDel(1, A))?;
-    plan(alloc, followed, Line::SubsystemSet(A, Access::Closed))?;
-    Ok(page(alloc, &followed.view, H1)?.as_slice() == before.as_slice())
+    plan(alloc, followed, Line::SubsystemSet(A, Access::Closed))
+}
+
+// Two plans leave the host's page as it is.
+fn assert_plans(rt: &impl Abort, alloc: Global, followed: &mut Followed) -> Result<(), Fail> {
+    let before = page(alloc, &followed.view, H1)?;
+    plan_two(alloc, followed)?;
+    let after = page(alloc, &followed.view, H1)?;
+    assert!(rt; before.as_slice() == after.as_slice());
+    assert_counts(rt, alloc, followed, &[(Line::LinkDel(1, A), (2, 0))])
 }
 
 #[test]
 fn a_plan_alone_changes_no_answer(rt: HostRuntime) -> Result<(), Fail> {
-    let mut view = after(rt.alloc(), &ONE_RECORD)?;
-    assert!(rt; plans_change_nothing(rt.alloc(), &mut view)?);
-    assert_counts(&rt, rt.alloc(), &mut view, &[(Line::LinkDel(1, A), (2, 0))])
+    let mut followed = after(rt.alloc(), &ONE_RECORD)?;
+    assert_plans(&rt, rt.alloc(), &mut followed)
 }

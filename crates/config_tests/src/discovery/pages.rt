@@ -1,49 +1,68 @@
 //! The bytes of pages.
-use super::{A, B, Followed, H1, ONE_RECORD, after, make, make_all, page};
+use super::{A, B, Followed, H1, ONE_RECORD, after, page};
 use nvt_config::{Access, Family};
 use std::alloc::{AllocError, Global};
+use std::process::Abort;
 use std::test::Fail;
 use test_edits::Line;
 
-// The page of one record: its header says GENCTR 1 and NUMREC 1.
-fn one_record() -> [u8; 2048] {
+// The page of one record of A on port 1, with this GENCTR and this ADRFAM, service and address.
+fn one_record(generation: u8, family: u8, service: &[u8; 6], address: &[u8; 9]) -> [u8; 2048] {
     let mut page = [0u8; 2048];
-    page[0] = 1;
+    page[0] = generation;
     page[8] = 1;
-    page[1024..1034].copy_from_slice(&[0x03, 0x01, 0x02, 0x00, 0x01, 0x00, 0xFF, 0xFF, 0x20, 0x00]);
-    page[1056..1088].copy_from_slice(b"4420                            ");
+    page[1024..1034].copy_from_slice(&[
+        0x03, family, 0x02, 0x00, 0x01, 0x00, 0xFF, 0xFF, 0x20, 0x00,
+    ]);
+    page[1056..1088].fill(b' ');
+    page[1056..1062].copy_from_slice(service);
     page[1280..1298].copy_from_slice(b"nqn.2026-01.test:a");
     page[1536..1792].fill(b' ');
-    page[1536..1545].copy_from_slice(b"127.0.0.1");
+    page[1536..1545].copy_from_slice(address);
     page
+}
+
+// After these edits the host's page is this one.
+fn assert_page(
+    rt: &impl Abort,
+    alloc: Global,
+    lines: &[Line<'_>],
+    wanted: &[u8; 2048],
+) -> Result<(), Fail> {
+    let followed = after(alloc, lines)?;
+    assert_shows(rt, alloc, &followed, wanted)
+}
+
+fn assert_shows(
+    rt: &impl Abort,
+    alloc: Global,
+    followed: &Followed,
+    wanted: &[u8; 2048],
+) -> Result<(), Fail> {
+    let page = page(alloc, &followed.view, H1)?;
+    assert!(rt; page.as_slice() == wanted.as_slice());
+    Ok(())
 }
 
 #[test]
 fn a_record_has_the_bytes_of_the_standard(rt: HostRuntime) -> Result<(), Fail> {
-    let followed = after(rt.alloc(), &ONE_RECORD)?;
-    let page = page(rt.alloc(), &followed.view, H1)?;
-    assert!(rt; page.as_slice() == one_record().as_slice());
-    Ok(())
+    let wanted = one_record(1, 0x01, b"4420  ", b"127.0.0.1");
+    assert_page(&rt, rt.alloc(), &ONE_RECORD, &wanted)
 }
 
-// The same after its port is moved: GENCTR 2, another family, service and address.
-fn moved_record() -> [u8; 2048] {
-    let mut page = one_record();
-    page[0] = 2;
-    page[1025] = 0x02;
-    page[1056..1062].copy_from_slice(b"65535 ");
-    page[1536..1545].copy_from_slice(b"::1      ");
-    page
-}
+// The one record, whose port moves.
+const MOVED: [Line<'static>; 5] = [
+    Line::PortAdd(1, b"127.0.0.1", 4420),
+    Line::SubsystemAdd(A, b"SN", Access::Open),
+    Line::SubsystemAdd(B, b"SN", Access::Closed),
+    Line::LinkAdd(1, A),
+    Line::PortSet(1, Family::Ipv6, b"::1", 65_535),
+];
 
 #[test]
 fn a_record_follows_its_port(rt: HostRuntime) -> Result<(), Fail> {
-    let mut followed = after(rt.alloc(), &ONE_RECORD)?;
-    let line = Line::PortSet(1, Family::Ipv6, b"::1", 65_535);
-    make(rt.alloc(), &mut followed, line)?;
-    let page = page(rt.alloc(), &followed.view, H1)?;
-    assert!(rt; page.as_slice() == moved_record().as_slice());
-    Ok(())
+    let wanted = one_record(2, 0x02, b"65535 ", b"::1      ");
+    assert_page(&rt, rt.alloc(), &MOVED, &wanted)
 }
 
 // Ports and subsystems out of order, and links between them.
@@ -82,14 +101,22 @@ fn is_record(record: &[u8], low: u8, high: u8, name: &[u8; 7]) -> bool {
     record.len() == 1024 && record[4..6] == [low, high] && record[256..263] == name[..]
 }
 
-#[test]
-fn records_come_by_port_and_then_by_name(rt: HostRuntime) -> Result<(), Fail> {
-    let followed = after(rt.alloc(), &OUT_OF_ORDER)?;
-    let page = page(rt.alloc(), &followed.view, H1)?;
+fn assert_in_order(rt: &impl Abort, page: &[u8]) {
     assert!(rt; page.len() == 9 * 1024);
     for (record, (low, high, name)) in page[1024..].chunks(1024).zip(&IN_ORDER) {
         assert!(rt; is_record(record, *low, *high, name));
     }
+}
+
+fn page_out_of_order(alloc: Global) -> Result<Vec<u8>, Fail> {
+    let followed = after(alloc, &OUT_OF_ORDER)?;
+    page(alloc, &followed.view, H1)
+}
+
+#[test]
+fn records_come_by_port_and_then_by_name(rt: HostRuntime) -> Result<(), Fail> {
+    let page = page_out_of_order(rt.alloc())?;
+    assert_in_order(&rt, &page);
     Ok(())
 }
 
@@ -125,29 +152,40 @@ fn are_parts(
     Ok(true)
 }
 
-const SECOND_RECORD: [Line<'static>; 2] = [
+// The one record, and one of B as it opens.
+const TWO_RECORDS: [Line<'static>; 6] = [
+    Line::PortAdd(1, b"127.0.0.1", 4420),
+    Line::SubsystemAdd(A, b"SN", Access::Open),
+    Line::SubsystemAdd(B, b"SN", Access::Closed),
+    Line::LinkAdd(1, A),
     Line::SubsystemSet(B, Access::Open),
     Line::LinkAdd(1, B),
 ];
 
 #[test]
 fn a_window_is_a_slice_of_the_page(rt: HostRuntime) -> Result<(), Fail> {
-    let mut followed = after(rt.alloc(), &ONE_RECORD)?;
-    make_all(rt.alloc(), &mut followed, &SECOND_RECORD)?;
-    let page = page(rt.alloc(), &followed.view, H1)?;
+    let followed = after(rt.alloc(), &TWO_RECORDS)?;
+    assert_slices(&rt, rt.alloc(), &followed)
+}
+
+fn assert_slices(rt: &impl Abort, alloc: Global, followed: &Followed) -> Result<(), Fail> {
+    let page = page(alloc, &followed.view, H1)?;
     assert!(rt; page.len() == 3072);
     for step in 0..260u64 {
-        assert!(rt; are_parts(rt.alloc(), &followed, &page, step * 13)?);
+        assert!(rt; are_parts(alloc, followed, &page, step * 13)?);
     }
     Ok(())
 }
 
 #[test]
 fn a_window_past_the_page_is_zeros(rt: HostRuntime) -> Result<(), Fail> {
-    let mut followed = after(rt.alloc(), &ONE_RECORD)?;
-    make_all(rt.alloc(), &mut followed, &SECOND_RECORD)?;
+    let followed = after(rt.alloc(), &TWO_RECORDS)?;
+    assert_zeros(&rt, rt.alloc(), &followed)
+}
+
+fn assert_zeros(rt: &impl Abort, alloc: Global, followed: &Followed) -> Result<(), Fail> {
     for offset in [3072, 1 << 32, u64::MAX - 2100, u64::MAX] {
-        assert!(rt; is_part(rt.alloc(), &followed, &[], offset, 24)?);
+        assert!(rt; is_part(alloc, followed, &[], offset, 24)?);
     }
     Ok(())
 }

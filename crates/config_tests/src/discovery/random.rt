@@ -68,10 +68,11 @@ fn go_on(
     edits: &mut Vec<Edit>,
     line: Line<'_>,
 ) -> Result<(), Fail> {
-    let edit = edit(alloc, line)?;
-    follow(followed, &edit)?;
-    edits.push(edit)?;
-    Ok(())
+    edits.push(edit(alloc, line)?)?;
+    match edits.last() {
+        Some(edit) => follow(followed, edit),
+        None => Ok(()),
+    }
 }
 
 // How many records the hosts were shown, and how many changes were counted.

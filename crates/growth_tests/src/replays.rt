@@ -1,0 +1,81 @@
+//! `replay`, over two ports and a connection that is initialized.
+use super::rows::{UNITS, tell};
+use nvt_replay::{ReplayFault, replay};
+use std::alloc::Global;
+use std::io::{self, ErrorKind, Write};
+use std::process::Abort;
+use std::test::Fail;
+
+const EDITS: &[u8] = b"port add 1 ipv4 127.0.0.1 4420\nport add 2 ipv6 ::1 4420\n";
+
+// An ICReq comes in two pieces.
+const STREAM: &[u8] = b"open 1\nopen 2\nrx 1 00008000800000000000000300000000\nrx 1 \
+0000000000000000000000000000000000000000000000000000000000000000\
+0000000000000000000000000000000000000000000000000000000000000000\
+0000000000000000000000000000000000000000000000000000000000000000\
+00000000000000000000000000000000\nend 0\nrx 0 00\n";
+
+const PRINTED: &[u8] = b"0 open\n1 open\n1 pdu 01008000800000000000000000400000\
+0000000000000000000000000000000000000000000000000000000000000000\
+0000000000000000000000000000000000000000000000000000000000000000\
+0000000000000000000000000000000000000000000000000000000000000000\
+00000000000000000000000000000000\n0 none\n";
+
+// A writer that takes no memory.
+#[derive(Drop)]
+struct Fixed {
+    bytes: [u8; 400],
+    len: usize,
+}
+
+impl Write for Fixed {
+    fn write(&mut self, buf: &[u8]) -> io::Result<usize> {
+        let mut len = 0usize;
+        for (place, byte) in self.bytes.iter_mut().skip(self.len).zip(buf) {
+            *place = *byte;
+            len = len.saturating_add(1);
+        }
+        self.len = self.len.saturating_add(len);
+        if len < buf.len() {
+            return Err(io::Error::from(ErrorKind::StorageFull));
+        }
+        Ok(len)
+    }
+
+    fn flush(&mut self) -> io::Result<()> {
+        Ok(())
+    }
+}
+
+// Replays the script; whether it printed whole lines of what it has to, and all of them.
+fn replayed(alloc: Global) -> (Result<(), ReplayFault>, bool, bool) {
+    let mut out = Fixed {
+        bytes: [0; 400],
+        len: 0,
+    };
+    let outcome = replay(alloc, EDITS, STREAM, &UNITS, &mut out);
+    let printed = out.bytes.get(..out.len).unwrap_or(&[]);
+    let is_whole = printed.is_empty() || printed.ends_with(b"\n");
+    (
+        outcome,
+        is_whole && PRINTED.starts_with(printed),
+        printed == PRINTED,
+    )
+}
+
+fn is_replayed(rt: &impl Abort, alloc: Global, refused: &mut u32) {
+    let mut replay = replayed(alloc);
+    if replay.0 == Err(ReplayFault::Memory) {
+        assert!(rt; replay.1);
+        *refused = refused.saturating_add(1);
+        replay = replayed(alloc);
+    }
+    assert!(rt; replay == (Ok(()), true, true));
+}
+
+#[test]
+fn replays(rt: HostRuntime) -> Result<(), Fail> {
+    let mut refused = 0;
+    is_replayed(&rt, rt.alloc(), &mut refused);
+    tell(&rt, refused)
+}

@@ -1,0 +1,40 @@
+//! Edits of each kind, and what a test says at its end.
+use nvt_config::{Access, Family};
+use std::test::Fail;
+use test_edits::Line;
+
+pub const A: &[u8] = b"nqn.2026-01.test:a";
+
+pub const B: &[u8] = b"nqn.2026-01.test:b";
+
+pub const HOST: &[u8] = b"nqn.2026-01.test:h1";
+
+pub const UNITS: [u64; 2] = [2048, 4096];
+
+/// They are accepted in turn. In the end subsystem A and port 1 are there, linked, and two live hosts.
+pub const EDITS: [Line<'static>; 18] = [
+    Line::SubsystemAdd(A, b"SN-A", Access::Open),
+    Line::SubsystemAdd(B, b"SN-B", Access::Closed),
+    Line::PortAdd(1, b"127.0.0.1", 4420),
+    Line::PortAdd(2, b"127.0.0.2", 4420),
+    Line::LinkAdd(1, A),
+    Line::LinkAdd(1, B),
+    Line::LinkAdd(2, B),
+    Line::HostAdd(HOST),
+    Line::HostAdd(b"nqn.i"),
+    Line::SubsystemSet(B, Access::Open),
+    Line::PortSet(2, Family::Ipv6, b"::1", 4421),
+    Line::LinkDel(2, B),
+    Line::PortDel(2),
+    Line::LinkDel(1, B),
+    Line::SubsystemDel(B),
+    Line::HostDel(HOST),
+    Line::HostAdd(HOST),
+    Line::SubsystemSet(A, Access::Open),
+];
+
+/// Prints how many calls answered Memory.
+pub fn tell(rt: &impl Print, refused: u32) -> Result<(), Fail> {
+    println!(rt; "refused growths: {refused}")?;
+    Ok(())
+}
