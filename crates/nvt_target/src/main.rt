@@ -6,8 +6,6 @@
 
 mod arguments;
 mod program;
-#[cfg(test)]
-mod tests;
 
 use arguments::Usage;
 use nvt_replay::ReplayFault;

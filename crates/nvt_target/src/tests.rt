@@ -1,5 +1,0 @@
-//! What no conversation in tests/conversations shows.
-
-mod bytes;
-mod calls;
-mod refused_growths;
