@@ -38,15 +38,25 @@ pub fn generation(
     host: &[u8],
 ) -> Result<u64, PlainFault> {
     let mut generation: u64 = 0;
-    let mut before = records(alloc, &config_after(alloc, units, &[])?, host)?;
+    let mut before = records_after(alloc, units, &[], host)?;
     for len in 1..=edits.len() {
-        let after = records(alloc, &config_after(alloc, units, &edits[..len])?, host)?;
+        let after = records_after(alloc, units, &edits[..len], host)?;
         if after.as_slice() != before.as_slice() {
             generation = generation.wrapping_add(1);
         }
         before = after;
     }
     Ok(generation)
+}
+
+fn records_after(
+    alloc: Global,
+    units: &[u64],
+    edits: &[Edit],
+    host: &[u8],
+) -> Result<Vec<u8>, PlainFault> {
+    let config = config_after(alloc, units, edits)?;
+    records(alloc, &config, host)
 }
 
 /// The configuration that these edits make of one that holds disks of these sizes alone.
