@@ -1,6 +1,6 @@
 //! The configuration: each kind of edit, and its copies.
 use super::rows::{A, EDITS, HOST, UNITS, tell};
-use nvt_config::{Config, Edit, EditFault, NewFault};
+use nvt_config::{Config, Edit, EditFault, Host, Link, NewFault, Port, Subsystem, Text};
 use std::alloc::{AllocError, Global};
 use std::process::Abort;
 use std::test::Fail;
@@ -15,9 +15,12 @@ fn an_edit_is_made(
     refused: &mut u32,
 ) -> Result<(), Fail> {
     let edit = again!(rt, refused, AllocError, edit(alloc, line));
+    make(rt, config, &edit, refused)
+}
+
+fn make(rt: &impl Abort, config: &mut Config, edit: &Edit, refused: &mut u32) -> Result<(), Fail> {
     let before = again!(rt, refused, AllocError, config.try_clone());
-    assert!(rt; is_same(&before, config));
-    apply(rt, config, &before, &edit, refused)
+    apply(rt, config, &before, edit, refused)
 }
 
 fn apply(
@@ -57,28 +60,62 @@ fn edits_are_made(
     Ok(())
 }
 
+fn a_subsystem_is_copied(
+    rt: &impl Abort,
+    subsystem: &Subsystem,
+    refused: &mut u32,
+) -> Result<(), Fail> {
+    let copy = again!(rt, refused, AllocError, subsystem.try_clone());
+    assert!(rt; copy.nqn == subsystem.nqn);
+    Ok(())
+}
+
+fn a_text_is_copied(
+    rt: &impl Abort,
+    text: &Text,
+    bytes: &[u8],
+    refused: &mut u32,
+) -> Result<(), Fail> {
+    let copy = again!(rt, refused, AllocError, text.try_clone());
+    assert!(rt; copy.into_vec().as_slice() == bytes);
+    Ok(())
+}
+
+fn a_port_is_copied(rt: &impl Abort, port: &Port, refused: &mut u32) -> Result<(), Fail> {
+    let copy = again!(rt, refused, AllocError, port.try_clone());
+    assert!(rt; copy.address.as_bytes() == b"127.0.0.1".as_slice());
+    Ok(())
+}
+
 fn copies_are_made(rt: &impl Abort, config: &Config, refused: &mut u32) -> Result<(), Fail> {
-    if let Some(subsystem) = config.subsystem(A) {
-        let copy = again!(rt, refused, AllocError, subsystem.try_clone());
-        assert!(rt; copy.nqn == subsystem.nqn);
-        let serial = again!(rt, refused, AllocError, copy.serial.try_clone());
-        assert!(rt; serial.into_vec().as_slice() == b"SN-A".as_slice());
+    for subsystem in config.subsystems() {
+        a_subsystem_is_copied(rt, subsystem, refused)?;
+        a_text_is_copied(rt, &subsystem.serial, b"SN-A", refused)?;
     }
-    if let Some(port) = config.port(1) {
-        let copy = again!(rt, refused, AllocError, port.try_clone());
-        assert!(rt; copy.address.as_bytes() == b"127.0.0.1".as_slice());
+    for port in config.ports() {
+        a_port_is_copied(rt, port, refused)?;
     }
+    Ok(())
+}
+
+fn a_link_is_copied(rt: &impl Abort, link: &Link, refused: &mut u32) -> Result<(), Fail> {
+    let copy = again!(rt, refused, AllocError, link.try_clone());
+    assert!(rt; copy.subsystem == link.subsystem);
+    Ok(())
+}
+
+fn a_host_is_copied(rt: &impl Abort, host: &Host, refused: &mut u32) -> Result<(), Fail> {
+    let copy = again!(rt, refused, AllocError, host.try_clone());
+    assert!(rt; copy.nqn == host.nqn);
     Ok(())
 }
 
 fn more_copies_are_made(rt: &impl Abort, config: &Config, refused: &mut u32) -> Result<(), Fail> {
     for link in config.links() {
-        let copy = again!(rt, refused, AllocError, link.try_clone());
-        assert!(rt; copy.subsystem == link.subsystem);
+        a_link_is_copied(rt, link, refused)?;
     }
     for host in config.hosts() {
-        let copy = again!(rt, refused, AllocError, host.try_clone());
-        assert!(rt; copy.nqn == host.nqn);
+        a_host_is_copied(rt, host, refused)?;
     }
     Ok(())
 }

@@ -1,7 +1,7 @@
 //! The first conversation: from the opening of a connection to its log page, and a fault.
 use super::pdus::{FAULTY, connect, enable, get_log, get_status, ic_req, termination, wanted};
 use super::rows::tell;
-use nvt_config::{EditFault, NewFault};
+use nvt_config::{Edit, EditFault, NewFault};
 use std::alloc::{AllocError, Global};
 use std::process::Abort;
 use std::test::Fail;
@@ -23,7 +23,16 @@ fn a_port_is_added(
 ) -> Result<(), Fail> {
     let line = Line::PortAdd(1, b"127.0.0.1", 4420);
     let edit = again!(rt, refused, AllocError, edit(alloc, line));
-    again!(rt, refused, EditFault::Memory, target.edit(&edit));
+    an_edit_is_made(rt, target, &edit, refused)
+}
+
+fn an_edit_is_made(
+    rt: &impl Abort,
+    target: &mut Target,
+    edit: &Edit,
+    refused: &mut u32,
+) -> Result<(), Fail> {
+    again!(rt, refused, EditFault::Memory, target.edit(edit));
     Ok(())
 }
 

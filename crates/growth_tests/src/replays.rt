@@ -1,4 +1,6 @@
 //! `replay`, over two ports and a connection that is initialized.
+ghost use Rattle.std.specs.Prelude.{◌≤◌, length};
+
 use super::rows::{UNITS, tell};
 use nvt_replay::{ReplayFault, replay};
 use std::alloc::Global;
@@ -28,15 +30,25 @@ struct Fixed {
     len: usize,
 }
 
+impl Fixed {
+    // Writes as much as there is room for, and returns its length.
+    fn put(&mut self, buf: &[u8]) -> usize
+        ensures { result ≤ length buf.now }
+    {
+        let Some(room) = self.bytes.get_mut(self.len..) else {
+            return 0;
+        };
+        let len = room.len().min(buf.len());
+        room[..len].copy_from_slice(&buf[..len]);
+        self.len = self.len.saturating_add(len);
+        len
+    }
+}
+
 impl Write for Fixed {
     fn write(&mut self, buf: &[u8]) -> io::Result<usize> {
-        let mut len = 0usize;
-        for (place, byte) in self.bytes.iter_mut().skip(self.len).zip(buf) {
-            *place = *byte;
-            len = len.saturating_add(1);
-        }
-        self.len = self.len.saturating_add(len);
-        if len < buf.len() {
+        let len = self.put(buf);
+        if len == 0 && !buf.is_empty() {
             return Err(io::Error::from(ErrorKind::StorageFull));
         }
         Ok(len)

@@ -26,11 +26,16 @@ fn an_edit_is_made(
     refused: &mut u32,
 ) -> Result<(), Fail> {
     let edit = again!(rt, refused, AllocError, edit(alloc, line));
-    let before = again!(rt, refused, AllocError, target.config().try_clone());
-    make(rt, target, &before, &edit, refused)
+    make(rt, target, &edit, refused)
 }
 
-fn make(
+fn make(rt: &impl Abort, target: &mut Target, edit: &Edit, refused: &mut u32) -> Result<(), Fail> {
+    let before = again!(rt, refused, AllocError, target.config().try_clone());
+    make_or_leave(rt, target, &before, edit, refused)
+}
+
+// After a refusal all is as before.
+fn make_or_leave(
     rt: &impl Abort,
     target: &mut Target,
     before: &Config,
