@@ -27,10 +27,21 @@ pub fn run<R: Files + Print + AllocGlobal>(
         Ok(out) => out,
         Err(_) => return Err(ReplayFault::Memory),
     };
+    replay_script(alloc, &edits, stream, &units, &mut out)
+}
+
+// Replays the script, where it was read, and writes out all that was printed.
+fn replay_script<W: Write>(
+    alloc: Global,
+    edits: &[u8],
+    stream: Result<Vec<u8>, ReplayFault>,
+    units: &[u64],
+    out: &mut W,
+) -> Result<(), ReplayFault> {
     let result = match stream {
-        Ok(stream) => replay(alloc, &edits, &stream, &units, &mut out),
+        Ok(stream) => replay(alloc, edits, &stream, units, out),
         // A fault of the edits comes before the script's.
-        Err(fault) => match replay(alloc, &edits, &[], &units, &mut out) {
+        Err(fault) => match replay(alloc, edits, &[], units, out) {
             Ok(()) => Err(fault),
             Err(first) => Err(first),
         },
