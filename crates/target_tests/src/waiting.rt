@@ -21,21 +21,20 @@ fn is_read(sent: &[u8], cid: u8) -> bool {
     response[..5].copy_from_slice(&[0x05, 0x00, 0x18, 0x00, 0x18]);
     response[16] = cid;
     response[20] = cid;
-    sent.len() == READ
-        && sent[..24] == header[..]
-        && is_page(&sent[24..32_792])
-        && sent[32_792..] == response[..]
+    let is_read = sent.starts_with(&header) && sent.ends_with(&response);
+    match sent.get(24..32_792) {
+        Some(data) => is_read && sent.len() == READ && is_page(data),
+        None => false,
+    }
 }
 
 // Whether this is the page, and zeros behind it.
 fn is_page(data: &[u8]) -> bool {
-    let mut header = [0u8; 1024];
-    header[0] = 2;
-    header[8] = 1;
-    data.len() == 32_768
-        && data[..1024] == header[..]
-        && data[1024..2048] == record()[..]
-        && data[2048..].iter().all(|byte| *byte == 0)
+    let mut page = [0u8; 2048];
+    page[0] = 2;
+    page[8] = 1;
+    page[1024..].copy_from_slice(&record());
+    data.starts_with(&page) && data.iter().skip(2048).all(|byte| *byte == 0)
 }
 
 // Whether the output begins, after `at` bytes, with what the reads from CID 3 to `last` are sent, and
