@@ -14,4 +14,3 @@ pub use buffer::RxBuf;
 pub use cut::Cut;
 pub use side::Side;
 pub use view::PduView;
-

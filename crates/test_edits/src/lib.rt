@@ -4,10 +4,9 @@
 
 mod same;
 
-pub use same::is_same;
-
 use nvt_config::{Access, Config, Edit, EditFault, Family, Text};
 use nvt_fields::Nqn;
+pub use same::is_same;
 use std::alloc::{AllocError, Global};
 
 /// An edit with its names and texts lent. The names are well-formed.
