@@ -4,8 +4,8 @@ use clap::error::ErrorKind;
 use clap::{Arg, Command, Error, value_parser};
 use nvt_replay::ReplayFault;
 use std::alloc::{AllocError, Global};
-use std::env;
 use std::rt::Env;
+use std::{env, io};
 
 const DISKS_MAX: i64 = 256;
 
@@ -41,12 +41,25 @@ pub struct Arguments {
 /// Reads the arguments of the process, and prints the help where they ask for it.
 pub fn read<R: Env + Print + AllocGlobal>(rt: &R) -> Result<Usage, ReplayFault> {
     let alloc = rt.alloc();
-    let Ok(words) = env::args(rt) else {
-        return Ok(Usage::Bad);
+    let given = match env::args(rt) {
+        Ok(given) => given,
+        Err(error) if error.kind() == io::ErrorKind::OutOfMemory => return Err(ReplayFault::Memory),
+        Err(_) => return Ok(Usage::Bad),
     };
-    let words: Vec<String> = words.collect(alloc)?;
+    // `collect` would ask for room by a hint, and pass over its refusal.
+    let mut words = Vec::new(alloc);
+    for word in given {
+        if words.push(word).is_err() {
+            return Err(ReplayFault::Memory);
+        }
+    }
+    read_words(rt, &words)
+}
+
+fn read_words<R: Print + AllocGlobal>(rt: &R, words: &[String]) -> Result<Usage, ReplayFault> {
+    let alloc = rt.alloc();
     let command = command(alloc)?;
-    match command.try_get_matches_from(words.as_slice()) {
+    match command.try_get_matches_from(words) {
         Ok(matches) => {
             let Some(replay) = matches.subcommand_matches("replay") else {
                 return Ok(Usage::Bad);

@@ -6,19 +6,27 @@ use std::process::Abort;
 use std::test::Fail;
 use test_edits::Line;
 
+fn put(bytes: &mut [u8], at: usize, value: &[u8]) {
+    for (place, byte) in bytes.iter_mut().skip(at).zip(value) {
+        *place = *byte;
+    }
+}
+
 // The page of one record of A on port 1, with this GENCTR and this ADRFAM, service and address.
-fn one_record(generation: u8, family: u8, service: &[u8; 6], address: &[u8; 9]) -> [u8; 2048] {
+fn one_record(generation: u8, family: u8, service: &[u8], address: &[u8]) -> [u8; 2048] {
     let mut page = [0u8; 2048];
-    page[0] = generation;
-    page[8] = 1;
-    page[1024..1034].copy_from_slice(&[
-        0x03, family, 0x02, 0x00, 0x01, 0x00, 0xFF, 0xFF, 0x20, 0x00,
-    ]);
-    page[1056..1088].fill(b' ');
-    page[1056..1062].copy_from_slice(service);
-    page[1280..1298].copy_from_slice(b"nqn.2026-01.test:a");
-    page[1536..1792].fill(b' ');
-    page[1536..1545].copy_from_slice(address);
+    put(&mut page, 0, &[generation]);
+    put(&mut page, 8, &[1]);
+    put(
+        &mut page,
+        1024,
+        &[0x03, family, 0x02, 0x00, 0x01, 0x00, 0xFF, 0xFF, 0x20, 0x00],
+    );
+    put(&mut page, 1056, &[b' '; 32]);
+    put(&mut page, 1056, service);
+    put(&mut page, 1280, b"nqn.2026-01.test:a");
+    put(&mut page, 1536, &[b' '; 256]);
+    put(&mut page, 1536, address);
     page
 }
 
@@ -46,7 +54,7 @@ fn assert_shows(
 
 #[test]
 fn a_record_has_the_bytes_of_the_standard(rt: HostRuntime) -> Result<(), Fail> {
-    let wanted = one_record(1, 0x01, b"4420  ", b"127.0.0.1");
+    let wanted = one_record(1, 0x01, b"4420", b"127.0.0.1");
     assert_page(&rt, rt.alloc(), &ONE_RECORD, &wanted)
 }
 
@@ -61,7 +69,7 @@ const MOVED: [Line<'static>; 5] = [
 
 #[test]
 fn a_record_follows_its_port(rt: HostRuntime) -> Result<(), Fail> {
-    let wanted = one_record(2, 0x02, b"65535 ", b"::1      ");
+    let wanted = one_record(2, 0x02, b"65535", b"::1");
     assert_page(&rt, rt.alloc(), &MOVED, &wanted)
 }
 
