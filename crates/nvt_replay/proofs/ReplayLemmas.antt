@@ -1,5 +1,5 @@
 -- The lines of a file, taken in turn.
-use Rattle.std.proofs.Common.{◌≡◌, ℕ, ◌+◌, ◌-◌, ◌<◌, List, [], ◌∷◌, ◌++◌, length, suc, get_or, get_or-drop, take, drop, length-drop, refl, sym, ap, subst, ◌∙◌, arith, true, inl, inr, Ok}
+use Rattle.std.proofs.Common.{◌≡◌, ℕ, ◌+◌, ◌-◌, ◌<◌, List, [], ◌∷◌, ◌++◌, length, suc, get_or, get_or-drop, take, drop, length-drop, refl, sym, ap, subst, ◌∙◌, arith, true, inl, inr, Result, Ok, Err}
 use Rattle.std.specs.List.{All}
 use Rattle.std.proofs.lemmas.List.{drop-drop, take_all, take_more}
 use Rattle.std.proofs.lemmas.List.Elements.{All-push}
@@ -8,10 +8,11 @@ use Rattle.nvt_config.specs.Accept.{accept}
 use Rattle.nvt_config.specs.Configuration.{Configuration, are_disks, disks_alone}
 use Rattle.config_text.specs.EditLine.{IsLineOf}
 use Rattle.config_text.specs.Lines.{lines_of}
-use Rattle.nvt_replay.specs.Replay.{AcceptsAll, Configures, EndsScript, Explains, IsFirstMalformed, RefusesEdits, RefusesLine, RefusesLines, Refuses}
+use Rattle.nvt_replay.specs.Replay.{AcceptsAll, Configures, EndsScript, Explains, IsFirstMalformed, MakesEdit, RefusesEdit, RefusesEdits, RefusesLine, RefusesLines, Refuses, TakesLine}
 use Rattle.nvt_replay.specs.StreamLine.{IsStreamLine, Says}
 use Rattle.nvt_replay.specs.declared.stream_line.StreamLine.{StreamLine}
 use Rattle.nvt_replay.specs.declared.stream_line.StreamLine.TheVariants as stream
+use Rattle.nvt_replay.specs.declared.playback.Reply.TheVariants as reply
 use Rattle.nvt_replay.specs.declared.playback.ReplayFault.{ReplayFault}
 use Rattle.nvt_replay.specs.declared.playback.ReplayFault.TheVariants as fault
 
@@ -51,6 +52,19 @@ pub before_more : (all : List (List ℕ)) (n : ℕ) (line : List ℕ) (rest : Li
 before_more all n line rest old mid new e before taken =
     subst (λ lines. Configures lines old new) (sym (next_line all n line rest e).more)
     (Configures-push (take n all) old mid new line taken.0 before taken.1 taken.2)
+
+refused_line : (f : ReplayFault) (c : Configuration) (line : List ℕ) (edit : Edit) (n : ℕ) → IsLineOf line edit → RefusesEdit f c edit n → RefusesLine f c line n
+refused_line (fault.EditLine m (reply.Line f)) c line edit n is refuses = absurd refuses.1
+refused_line (fault.EditLine m (reply.Edit f)) c line edit n is refuses = (refuses.0, (edit, is, refuses.1))
+refused_line (fault.StreamLine m) c line edit n is refuses = refuses
+refused_line fault.Memory c line edit n is refuses = tt
+refused_line fault.Io c line edit n is refuses = refuses
+refused_line fault.Disks c line edit n is refuses = refuses
+
+-- a line is taken as its edit is
+pub line_taken : (r : Result (Unit {0}) ReplayFault) (old new : Configuration) (line : List ℕ) (edit : Edit) (n : ℕ) → IsLineOf line edit → MakesEdit old edit n r new → TakesLine old line n r new
+line_taken (Ok done) old new line edit n is made = (edit, is, made)
+line_taken (Err f) old new line edit n is made = refused_line f old line edit n is made
 
 -- a line that is refused is the first
 pub refused_at : (f : ReplayFault) (edits : List ℕ) (n : ℕ) (line : List ℕ) (rest : List (List ℕ)) (old c : Configuration) → drop n (lines_of edits) ≡ line ∷ rest

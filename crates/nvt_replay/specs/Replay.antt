@@ -90,6 +90,23 @@ abbrev pub TakesLine : Configuration → List ℕ → ℕ → Result (Unit {0}) 
 TakesLine old line n (Ok done) new = (edit : Edit) × IsLineOf line edit × (accept old edit ≡ Ok new)
 TakesLine old line n (Err fault) new = RefusesLine fault old line n
 
+-- the reply to an edit: why the configuration refuses it
+abbrev pub IsReplyTo : Reply → Configuration → Edit → Type 0
+IsReplyTo (reply.Line fault) c edit = ⊥
+IsReplyTo (reply.Edit fault) c edit = accept c edit ≡ Err fault
+
+-- the edit that the nth line says: refused with the reply, or without memory
+abbrev pub RefusesEdit : ReplayFault → Configuration → Edit → ℕ → Type 0
+RefusesEdit (EditLine m reply) c edit n = (m ≡ n) × IsReplyTo reply c edit
+RefusesEdit (StreamLine m) c edit n = ⊥
+RefusesEdit Memory c edit n = Unit {0}
+RefusesEdit Io c edit n = ⊥
+RefusesEdit Disks c edit n = ⊥
+
+abbrev pub MakesEdit : Configuration → Edit → ℕ → Result (Unit {0}) ReplayFault → Configuration → Type 0
+MakesEdit old edit n (Ok done) new = accept old edit ≡ Ok new
+MakesEdit old edit n (Err fault) new = RefusesEdit fault old edit n
+
 -- a fault of the edits or the disks: no line of the script has run
 abbrev pub IsBeforeScript : ReplayFault → Type 0
 IsBeforeScript (EditLine n reply) = Unit {0}

@@ -4,13 +4,13 @@ ghost use Rattle.std.specs.Prelude.{◌≡◌, ◌+◌, ◌<◌, ◌≤◌, ◌^
 ghost use Rattle.std.specs.Bool.{OnFalse};
 ghost use Rattle.nvt_config.specs.Configuration.{are_disks, disks_alone};
 ghost use Rattle.config_text.specs.Lines.{lines_of};
-ghost use Rattle.nvt_replay.specs.Replay.{AcceptsAll, Configures, EndsScript, Explains, IsBeforeScript, IsFirstRefused, IsOfRun, RefusesEdits, RefusesLines, TakesLine};
+ghost use Rattle.nvt_replay.specs.Replay.{AcceptsAll, Configures, EndsScript, Explains, IsBeforeScript, IsFirstRefused, IsOfRun, MakesEdit, RefusesEdits, RefusesLines, TakesLine};
 ghost use Rattle.nvt_replay.specs.StreamLine.{IsStreamLine};
 
 use crate::print::Printer;
 use crate::stream_line::{StreamLine, read_stream_line};
 use config_text::{LineFault, Lines, ReadEditFault, read_edit};
-use nvt_config::{EditFault, NewFault};
+use nvt_config::{Edit, EditFault, NewFault};
 use std::alloc::{AllocError, Global};
 use std::io::Write;
 use target_core::{OpenFault, StepFault, Stepped, Target};
@@ -123,19 +123,28 @@ fn take_edit(
 ) -> Result<(), ReplayFault>
     ensures { TakesLine target.old.config line.now number result target.new.config }
 {
-    let reply = match read_edit(alloc, line) {
-        Ok(edit) => match target.edit(&edit) {
-            Ok(()) => return Ok(()),
-            Err(EditFault::Memory) => return Err(ReplayFault::Memory),
-            Err(fault) => Reply::Edit(fault),
-        },
-        Err(ReadEditFault::Memory) => return Err(ReplayFault::Memory),
-        Err(ReadEditFault::Line(fault)) => Reply::Line(fault),
-    };
-    Err(ReplayFault::EditLine {
-        line: number,
-        reply,
-    })
+    match read_edit(alloc, line) {
+        Ok(edit) => make_edit(target, number, &edit),
+        Err(ReadEditFault::Memory) => Err(ReplayFault::Memory),
+        Err(ReadEditFault::Line(fault)) => Err(ReplayFault::EditLine {
+            line: number,
+            reply: Reply::Line(fault),
+        }),
+    }
+}
+
+// Makes the edit that the line of this number says.
+fn make_edit(target: &mut Target, number: usize, edit: &Edit) -> Result<(), ReplayFault>
+    ensures { MakesEdit target.old.config edit.now number result target.new.config }
+{
+    match target.edit(edit) {
+        Ok(()) => Ok(()),
+        Err(EditFault::Memory) => Err(ReplayFault::Memory),
+        Err(fault) => Err(ReplayFault::EditLine {
+            line: number,
+            reply: Reply::Edit(fault),
+        }),
+    }
 }
 
 // A target whose script runs.
