@@ -69,11 +69,10 @@ impl DiscoveryView {
         ensures kept { self.new.shown ≡ self.old.shown }
     {
         let mut next = config.try_clone()?;
+        let change = next.prepare(edit)?;
+        next.commit(change);
         self.past.reserve(1)?;
-        match next.apply(edit) {
-            Ok(()) => Ok(Plan { next }),
-            Err(_) => Err(AllocError),
-        }
+        Ok(Plan { next })
     }
 
     /// Goes over to what was prepared last. Takes no memory.

@@ -9,6 +9,9 @@ use Rattle.nvt_config.specs.Port.{is_port, is_port_number, is_address}
 use Rattle.nvt_config.specs.Subsystem.{is_discovery, is_serial}
 use Rattle.nvt_config.specs.Configuration.{Configuration, IsValid, has_subsystem, with_subsystem, with_access, without_subsystem, has_port, with_port, with_port_set, without_port, has_link, is_port_linked, is_subsystem_linked, with_link, without_link, has_host, has_live_host, with_live, with_host, without_host}
 use Rattle.nvt_config.specs.Accept.{accept, refuse}
+use Rattle.nvt_config.specs.declared.plan.Change.{Change}
+use Rattle.nvt_config.specs.declared.plan.Plan.{Plan}
+use Rattle.nvt_config.specs.Plan.{HasRoom, IsPlanOf, changed_by, made}
 use Rattle.nvt_config.proofs.Valid.{IsValid-accept}
 
 -- what an accepted edit leaves
@@ -77,6 +80,19 @@ pub IsValid-made : (c d v : Configuration) (edit : Edit) → c ≡ v → IsOk (a
 IsValid-made c d v edit same ok made valid =
     let accepted : accept c edit ≡ Ok d = ap (λ w. accept w edit) same ∙ accept-made c d v edit same ok made in
     subst (λ r. IfOk r IsValid) accepted (IsValid-accept c edit valid)
+
+-- a plan of a change that makes the effect of an accepted edit, and has room for it, is one of that edit
+pub is_plan : (c v : Configuration) (edit : Edit) (plan : Plan) (change : Change) → c ≡ v → IsOk (accept v edit) → plan.change ≡ change → changed_by change c ≡ effect c edit → HasRoom change c → IsValid c → IsPlanOf v edit plan
+is_plan c v edit plan change same ok is makes room valid =
+    let accepted : IsOk (accept c edit) = subst (λ w. IsOk (accept w edit)) (sym same) ok in
+    let effects : made plan c ≡ effect c edit = ap (λ x. changed_by x c) is ∙ makes in
+    subst (λ w. IsPlanOf w edit plan) same (record {
+      makes = accept-made c (made plan c) c edit refl accepted effects;
+      ready = record {
+        room = subst (λ x. HasRoom x c) (sym is) room;
+        valid = IsValid-made c (made plan c) c edit refl accepted effects valid;
+      };
+    })
 
 -- what no refusal of a missing entry stops is there
 there : {T E : Type 0} (test : Bool) (fault : E) (next : Result T E) → IsOk (refuse (not test) fault next) → test ≡ true

@@ -3,6 +3,7 @@ pub mod Configuration
 pub mod Fault
 pub mod Lists
 pub mod Permission
+pub mod Plan
 pub mod Port
 pub mod Subsystem
 pub mod Text

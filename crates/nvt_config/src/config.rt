@@ -1,19 +1,22 @@
 //! The configuration, and the edits applied to it.
-ghost use Rattle.std.specs.Prelude.{◌≡◌, ◌==◌, ◌^◌, IfErr, IfOk, IsOkUnless, OnErr, OnOk, find, nat_le};
+ghost use Rattle.std.specs.Prelude.{◌≡◌, ◌==◌, ◌^◌, IfErr, IfOk, IsOk, IsOkUnless, OnErr, OnOk, find, nat_le};
 ghost use Rattle.std.specs.Bool.{OnFalse, OnTrue};
 ghost use Rattle.std.specs.List.{list_all};
 ghost use Rattle.std.specs.Option.{option_copied};
 ghost use Rattle.std.specs.Str.{bytes_eq};
 ghost use Rattle.nvt_config.specs.Accept.{AcceptedStaysValid, accept, verdict};
 ghost use Rattle.nvt_config.specs.Configuration.{IsValid, are_disks, disks_alone};
+ghost use Rattle.nvt_config.specs.Plan.{IsPlanOf, IsReady, made};
 
 mod changes;
 mod checks;
+mod plans;
 
 use crate::edit::Edit;
 use crate::fault::{EditFault, NewFault};
 use crate::host::{Host, clone_hosts};
 use crate::link::{Link, clone_links};
+use crate::plan::{Change, Plan};
 use crate::port::{Port, clone_ports};
 use crate::subsystem::{Subsystem, clone_subsystems};
 use std::alloc::{AllocError, Global};
@@ -157,6 +160,62 @@ impl Config {
         }
     }
 
+    /// Takes all the memory that an accepted edit wants: `commit` then makes it.
+    pub fn prepare<'e>(&self, edit: &'e Edit) -> Result<Plan<'e>, AllocError>
+        requires { IsOk (accept self.now edit.now) }
+        ensures { IfOk result (IsPlanOf self.now edit.now) }
+    {
+        // What is known of each configuration is known of this one.
+        let _ = &self.units;
+        match edit {
+            Edit::SubsystemAdd {
+                nqn,
+                serial,
+                access,
+            } => self.plan_subsystem(nqn, serial, *access),
+            Edit::SubsystemSet { nqn, access } => Ok(Plan::new(Change::SetAccess(nqn, *access))),
+            Edit::SubsystemDel { nqn } => Ok(Plan::new(Change::RemoveSubsystem(nqn))),
+            Edit::PortAdd {
+                id,
+                family,
+                address,
+                service,
+            } => self.plan_port(*id, *family, address, *service),
+            Edit::PortSet {
+                id,
+                family,
+                address,
+                service,
+            } => self.plan_port_set(*id, *family, address, *service),
+            Edit::PortDel { id } => Ok(Plan::new(Change::RemovePort(*id))),
+            Edit::LinkAdd { port, subsystem } => self.plan_link(*port, subsystem),
+            Edit::LinkDel { port, subsystem } => Ok(Plan::new(Change::RemoveLink(
+                *port, subsystem,
+            ))),
+            Edit::HostAdd { nqn } => self.plan_host(nqn),
+            Edit::HostDel { nqn } => Ok(Plan::new(Change::SetLive(nqn, false))),
+        }
+    }
+
+    /// Makes what was prepared. Takes no memory.
+    pub fn commit(&mut self, plan: Plan<'_>)
+        requires { IsReady plan self.old }
+        ensures { self.new ≡ made plan.entry self.old }
+    {
+        match plan.change {
+            Change::AddSubsystem(addition) => self.add_subsystem(addition),
+            Change::SetAccess(nqn, access) => self.set_access(nqn, access),
+            Change::RemoveSubsystem(nqn) => self.remove_subsystem(nqn),
+            Change::AddPort(addition) => self.add_port(addition),
+            Change::ReplacePort(port) => self.replace_port(port),
+            Change::RemovePort(id) => self.remove_port(id),
+            Change::AddLink(addition) => self.add_link(addition),
+            Change::RemoveLink(port, subsystem) => self.remove_link(port, subsystem),
+            Change::AddHost(addition) => self.add_host(addition),
+            Change::SetLive(nqn, live) => self.set_live(nqn, live),
+        }
+    }
+
     /// Makes the edit. After a refusal, `Memory` included, the configuration is as it was.
     pub fn apply(&mut self, edit: &Edit) -> Result<(), EditFault>
         ensures ok { OnOk result (accept self.old edit.now ≡ Ok self.new) }
@@ -165,10 +224,9 @@ impl Config {
         ensures err { OnErr result (self.new ≡ self.old) }
     {
         self.check(edit)?;
-        match self.change(edit) {
-            Ok(()) => Ok(()),
-            Err(AllocError) => Err(EditFault::Memory),
-        }
+        let plan = self.prepare(edit)?;
+        self.commit(plan);
+        Ok(())
     }
 
     /// An equal configuration, with an allocation for each list, each name and each text.

@@ -2,6 +2,7 @@
 ghost use Rattle.std.specs.Prelude.{Some};
 ghost use Rattle.nvt_config.specs.Fault.{word_of_entry, word_of_value};
 
+use std::alloc::AllocError;
 use std::fmt;
 use thiserror::Error;
 
@@ -35,6 +36,17 @@ pub enum EditFault {
     /// No memory was there for the change.
     #[error("memory")]
     Memory,
+}
+
+impl From<AllocError> for EditFault {
+    ghost use Rattle.nvt_config.specs.declared.fault.EditFault.TheVariants.{Memory};
+    ghost use Rattle.std.specs.Prelude.{◌≡◌};
+
+    ghost from_gives = { λ _ fault. fault ≡ Memory };
+
+    fn from(_: AllocError) -> EditFault {
+        EditFault::Memory
+    }
 }
 
 /// A value of an edit.

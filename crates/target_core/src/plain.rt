@@ -176,9 +176,8 @@ impl World {
             return Err(WalkFault::NoHistory);
         }
         let plan = self.view.prepare(&self.config, edit)?;
-        if self.config.apply(edit).is_err() {
-            return Err(WalkFault::Memory);
-        }
+        let change = self.config.prepare(edit)?;
+        self.config.commit(change);
         self.view.commit(plan);
         end_on_port(&mut self.known, edit);
         Ok(())

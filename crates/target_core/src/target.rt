@@ -173,10 +173,9 @@ impl Target {
         ensures err { OnErr result (self.new ≡ self.old) }
     {
         self.config.check(edit)?;
-        let Ok(plan) = self.view.prepare(&self.config, edit) else {
-            return Err(EditFault::Memory);
-        };
-        self.config.apply(edit)?;
+        let plan = self.view.prepare(&self.config, edit)?;
+        let change = self.config.prepare(edit)?;
+        self.config.commit(change);
         self.view.commit(plan);
         edit_connections(&mut self.connections, edit);
         Ok(())

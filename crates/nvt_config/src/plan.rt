@@ -1,0 +1,72 @@
+//! What an edit is going to change, with all the memory for it.
+ghost use Rattle.std.specs.Prelude.{◌≡◌, ◌<◌, ◌∷◌, ◌++◌, [], IfOk, vec_capacity, vec_len};
+
+use crate::host::Host;
+use crate::link::Link;
+use crate::port::Port;
+use crate::subsystem::{Access, Subsystem};
+use nvt_fields::Nqn;
+use std::alloc::{AllocError, Global};
+
+/// What an edit makes of the configuration that prepared it. It holds all the memory that this takes.
+#[derive(Drop)]
+pub struct Plan<'e> {
+    pub(crate) change: Change<'e>,
+}
+
+impl<'e> Plan<'e> {
+    pub(crate) fn new(change: Change<'e>) -> Plan<'e>
+        ensures { result.change ≡ change.entry }
+    {
+        Plan { change }
+    }
+}
+
+/// A change of one of the lists.
+#[derive(Drop)]
+pub(crate) enum Change<'e> {
+    AddSubsystem(Addition<Subsystem>),
+    SetAccess(&'e Nqn, Access),
+    RemoveSubsystem(&'e Nqn),
+    AddPort(Addition<Port>),
+    ReplacePort(Port),
+    RemovePort(u64),
+    AddLink(Addition<Link>),
+    RemoveLink(u64, &'e Nqn),
+    AddHost(Addition<Host>),
+    SetLive(&'e Nqn, bool),
+}
+
+/// An entry that is to be added to a list, and room for the list with it.
+#[derive(Drop)]
+pub(crate) struct Addition<T> {
+    entry: T,
+    // Holds nothing yet.
+    list: Vec<T>,
+    ghost empty: { vec_len list ≡ 0 },
+}
+
+impl<T: Drop> Addition<T> {
+    /// An addition to a list that holds `there` entries.
+    pub(crate) fn new(alloc: Global, entry: T, there: usize) -> Result<Addition<T>, AllocError>
+        requires { there < usize.MAX }
+        ensures same { IfOk result (λ addition. addition.entry ≡ entry) }
+        ensures room { IfOk result (λ addition. there < vec_capacity addition.list) }
+    {
+        let list = Vec::with_capacity(alloc, there + 1)?;
+        Ok(Addition { entry, list })
+    }
+
+    /// Adds the entry after those that are there. Takes no memory.
+    pub(crate) fn add_to(self, entries: &mut Vec<T>)
+        requires { vec_len entries.old < vec_capacity self.list }
+        ensures { entries.new.items ≡ entries.old.items ++ self.entry ∷ [] }
+    {
+        let Addition { entry, mut list } = self;
+        let Ok(()) = list.append(entries) else {
+            unreachable!()
+        };
+        list.push_reserved(entry);
+        *entries = list;
+    }
+}
