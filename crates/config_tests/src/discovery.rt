@@ -1,6 +1,4 @@
 //! The discovery view while edits are made.
-ghost use Rattle.std.specs.Prelude.{◌≡◌};
-
 mod counts;
 mod pages;
 mod random;
@@ -27,7 +25,6 @@ const UNITS: [u64; 1] = [2048];
 struct Followed {
     config: Config,
     view: DiscoveryView,
-    ghost in_step: { view.shown.now ≡ config },
 }
 
 fn start(alloc: Global) -> Result<Followed, Fail> {

@@ -3,7 +3,7 @@ ghost use Rattle.std.specs.Prelude.{◌≡◌, ◌≤◌, ◌<◌, IsOk, IfOk, O
 ghost use Rattle.nvt_config.specs.Accept.{accept};
 ghost use Rattle.nvt_fields.specs.Window.{window};
 ghost use Rattle.discovery_view.specs.Listing.{RecordsAreListed};
-ghost use Rattle.discovery_view.specs.View.{count_in, first_shown, page_in, shown_next};
+ghost use Rattle.discovery_view.specs.View.{ShowsFirst, ShowsNext, count_in, page_in};
 
 use crate::listing::Listing;
 use crate::page::{page_len, write_page};
@@ -50,8 +50,9 @@ impl Model for Plan {
 
 impl DiscoveryView {
     /// The view of a configuration that no edit has changed yet.
+    #[tactic(auto, using(crate::proofs::Counts::shows_first))]
     pub fn new(alloc: Global, config: &Config) -> Result<DiscoveryView, AllocError>
-        ensures { IfOk result (λ view. view.shown ≡ first_shown config.now) }
+        ensures { IfOk result (λ view. ShowsFirst config.now view.shown) }
     {
         Ok(DiscoveryView {
             latest: config.try_clone()?,
@@ -59,11 +60,10 @@ impl DiscoveryView {
         })
     }
 
-    /// Makes all growths that an edit of the view's configuration asks for. Every answer is as before,
-    /// also after want of memory.
+    /// Takes all the memory to go over to the configuration that an edit makes of this one. Every answer is
+    /// as before, also after want of memory.
     pub fn prepare(&mut self, config: &Config, edit: &Edit) -> Result<Plan, AllocError>
-        requires current { self.old.shown.now ≡ config.now }
-        requires accepted { IsOk (accept config.now edit.now) }
+        requires { IsOk (accept config.now edit.now) }
         ensures plan { IfOk result (λ plan. accept config.now edit.now ≡ Ok plan) }
         ensures room { OnOk result (1 ≤ self.new.room) }
         ensures kept { self.new.shown ≡ self.old.shown }
@@ -76,9 +76,10 @@ impl DiscoveryView {
     }
 
     /// Goes over to what was prepared last. Takes no memory.
+    #[tactic(auto, using(crate::proofs::Counts::shows_next), unfolding(crate::specs::View::records_in, crate::specs::View::count_in))]
     pub fn commit(&mut self, plan: Plan)
         requires { 1 ≤ self.old.room }
-        ensures { self.new.shown ≡ shown_next plan self.old.shown }
+        ensures { ShowsNext plan self.old.shown self.new.shown }
     {
         let Plan { next } = plan;
         let before = mem::replace(&mut self.latest, next);
@@ -86,6 +87,7 @@ impl DiscoveryView {
     }
 
     /// Fills `out` with the host's page from an offset on, and with zeros past the page's end.
+    #[tactic(auto, unfolding(crate::specs::View::records_in))]
     pub fn window(&self, host: &[u8], offset: u64, out: &mut [u8])
         ensures { out.new ≡ window (page_in self.now.shown host.now) offset (length out.old) }
     {
@@ -94,6 +96,7 @@ impl DiscoveryView {
     }
 
     /// The length of the host's page in bytes.
+    #[tactic(auto, unfolding(crate::specs::View::records_in))]
     pub fn len(&self, host: &[u8]) -> u64
         ensures { result ≡ length (page_in self.now.shown host.now) }
     {
@@ -109,6 +112,7 @@ impl DiscoveryView {
     }
 
     /// The host's generation counter (GENCTR): how many edits have changed its records.
+    #[tactic(auto, unfolding(crate::specs::View::count_in))]
     pub fn count(&self, host: &[u8]) -> u64
         ensures { result ≡ count_in self.now.shown host.now }
     {

@@ -1,6 +1,4 @@
 //! The discovery view: it is made, and prepares for each kind of edit.
-ghost use Rattle.std.specs.Prelude.{◌≡◌};
-
 use super::rows::{EDITS, HOST, UNITS, tell};
 use discovery_view::DiscoveryView;
 use nvt_config::{Config, Edit, EditFault, NewFault};
@@ -14,7 +12,6 @@ use test_edits::{Line, edit};
 struct Followed {
     config: Config,
     view: DiscoveryView,
-    ghost in_step: { view.shown.now ≡ config },
 }
 
 // The host's page up to its first record, as the view shows it: its length, GENCTR and bytes.

@@ -2,14 +2,15 @@
 use Rattle.std.proofs.Common.{◌≡◌, ℕ, ◌+◌, ◌%◌, ◌^◌, ◌<◌, Bool, true, false, List, [], ◌∷◌, ◌++◌, length, take, drop, Option, Some, None, Ok, refl, sym, ap, ◌∙◌, append_assoc, take-append-drop}
 use Rattle.std.proofs.lemmas.Bool.{eqb-true}
 use Rattle.std.proofs.lemmas.List.{length-map}
-use Rattle.std.proofs.Math.Nat.{add-mod-mod}
 use Rattle.std.specs.Prelude.{if◌then◌else◌, ◌==◌, ◌||◌}
 use Rattle.std.specs.Option.{option_map}
-use Rattle.discovery_view.specs.View.{Shown, changes_records, changes_until, count_in, shown_next}
+use Rattle.discovery_view.specs.Records.{records_of}
+use Rattle.discovery_view.specs.View.{Shown, ShowsNext, count_in, records_in}
+use Rattle.discovery_view.proofs.Counts.{count_goes_on}
 use Rattle.number_table.proofs.Tables.{least_free-Some, place_within, place-with_value, place-without, place-map, place-replicate, length-with_value, length-without}
 use Rattle.nvt_config.specs.declared.edit.Edit.{Edit}
 use Rattle.nvt_config.specs.Accept.{accept}
-use Rattle.nvt_config.specs.Configuration.{Configuration}
+use Rattle.nvt_config.specs.Configuration.{Configuration, disks_alone}
 use Rattle.pdu_cut.specs.declared.side.Side.TheVariants.{Target}
 use Rattle.pdu_cut.specs.Front.{Front, incomplete, whole, faulty, front}
 use Rattle.pdu_cut.specs.Stream.{BeginsWith}
@@ -23,26 +24,21 @@ use Rattle.target_core.specs.Decision.{decision_at, host_in, sent_by, session_af
 use Rattle.target_core.specs.Event.{Event, edited, opened, took}
 use Rattle.target_core.specs.History.{Conversation, Taken, answer, around_of, config_of, conversation_of, generation_of, has_ended, owed, sent, session_of, with_edit, with_taken}
 use Rattle.target_core.specs.Surroundings.{Surroundings}
-use Rattle.target_core.specs.Target.{TargetState, around_at, connection_at, edited_target, free_number, new_target, with_connection, without_connection}
+use Rattle.target_core.specs.Target.{IsNewTarget, TargetState, around_at, connection_at, edited_connections, free_number, with_connection, without_connection}
 use Rattle.target_core.proofs.Around.{around_agrees}
 use Rattle.target_core.proofs.Sessions.{session_decides, session_ends, session_moves}
 
 -- ---- an edit
 
--- one more change, counted round
-count_more : (x a b : ℕ) → a % 2 ^ 64 ≡ b % 2 ^ 64 → (x + a) % 2 ^ 64 ≡ (x + b) % 2 ^ 64
-count_more x a b h =
-    sym (add-mod-mod x a (2 ^ 64)) ∙ ap (λ (y : ℕ). (x + y) % 2 ^ 64) h ∙ add-mod-mod x b (2 ^ 64)
-
 -- a host's count after an edit that makes this configuration
-pub edited_count : (shown : Shown) (units : List ℕ) (events : List Event) (edit : Edit) (c : Configuration) (host : List ℕ)
-    → c ≡ config_of units (edited edit ∷ events) → shown.now ≡ config_of units events
-    → count_in shown host ≡ generation_of units events host % 2 ^ 64
-    → count_in (shown_next c shown) host ≡ generation_of units (edited edit ∷ events) host % 2 ^ 64
-edited_count shown units events edit c host config now counts =
-    let change = changes_records (config_of units events) (config_of units (edited edit ∷ events)) host in
-    rw (config, now)
-    (count_more change (changes_until (config_of units events) shown.past host) (generation_of units events host) (rw now at counts))
+pub edited_count : (old new : Shown) (units : List ℕ) (events : List Event) (edit : Edit) (c : Configuration) (host : List ℕ)
+    → ShowsNext c old new → c ≡ config_of units (edited edit ∷ events)
+    → records_in old host ≡ records_of (config_of units events) host
+    → count_in old host ≡ generation_of units events host % 2 ^ 64
+    → count_in new host ≡ generation_of units (edited edit ∷ events) host % 2 ^ 64
+edited_count old new units events edit c host shows config records counts =
+    shows.counts host ∙ rw (shows.records host, records, counts, config)
+    (sym (count_goes_on (config_of units events) (config_of units (edited edit ∷ events)) host (generation_of units events host)))
 
 edited_at_by : (edit : Edit) (c : ConnectionState) (v : Conversation) (s r t : List ℕ) (deletes : Bool)
     → deletes_port edit v.port ≡ deletes → ConnectionAgrees c v s r t
@@ -71,24 +67,21 @@ edited_at edit (Some c) (Some v) s r t h =
     let test : deletes_port edit c.port ≡ deletes_port edit v.port = ap (deletes_port edit) h.port in
     rw test (edited_at_by edit c v s r t (deletes_port edit v.port) refl h)
 
-pub edit_agrees : (old new : TargetState) (edit : Edit) → accept old.config edit ≡ Ok new.config
-    → new ≡ edited_target old edit new.config → AgreesAfter (edited edit) old new
-edit_agrees old new edit accepted rest =
-    let connections = ap (λ (t : TargetState). t.connections) rest in
-    let shown = ap (λ (t : TargetState). t.shown) rest in
-    record {
-      keeps = λ units events received taken agrees.
-          let config : new.config ≡ config_of units (edited edit ∷ events) = rw (← agrees.config, accepted) refl in
-          record {
-            config = config;
-            shown = ap (λ (x : Shown). x.now) shown ∙ config;
-            counts = λ host. ap (λ (x : Shown). count_in x host) shown ∙ edited_count old.shown units events edit new.config host config agrees.shown (agrees.counts host);
-            places = ap (λ (x : List (Option ConnectionState)). length x) connections
-                ∙ length-map old.connections (option_map (edited_by edit)) ∙ agrees.places;
-            each = λ k. rw (connections, place-map (edited_by edit) old.connections k)
-                (edited_at edit (connection_at old k) (conversation_of units events k) (sent units events k) (received k) (taken k) (agrees.each k));
-          };
-    }
+pub edit_agrees : (old new : TargetState) (edit : Edit) → accept old.config edit ≡ Ok new.config → ShowsNext new.config old.shown new.shown
+    → new.connections ≡ edited_connections edit old.connections → AgreesAfter (edited edit) old new
+edit_agrees old new edit accepted shows connections = record {
+  keeps = λ units events received taken agrees.
+      let config : new.config ≡ config_of units (edited edit ∷ events) = rw (← agrees.config, accepted) refl in
+      record {
+        config = config;
+        shown = λ host. shows.records host ∙ ap (λ (c : Configuration). records_of c host) config;
+        counts = λ host. edited_count old.shown new.shown units events edit new.config host shows config (agrees.shown host) (agrees.counts host);
+        places = ap (λ (x : List (Option ConnectionState)). length x) connections
+            ∙ length-map old.connections (option_map (edited_by edit)) ∙ agrees.places;
+        each = λ k. rw (connections, place-map (edited_by edit) old.connections k)
+            (edited_at edit (connection_at old k) (conversation_of units events k) (sent units events k) (received k) (taken k) (agrees.each k));
+      };
+}
 
 -- ---- the connection of one number, and the others
 
@@ -104,7 +97,7 @@ changes_one : (old : TargetState) (k : ℕ) (c : ConnectionState) (units : List 
     (more_received j) (more_taken j)) → Agrees (with_connection old k c) units longer more_received more_taken
 changes_one old k c units events longer received taken more_received more_taken within agrees config counts each = record {
   config = agrees.config ∙ sym config;
-  shown = agrees.shown ∙ sym config;
+  shown = λ host. agrees.shown host ∙ ap (λ (c : Configuration). records_of c host) (sym config);
   counts = λ host. agrees.counts host ∙ ap (λ (n : ℕ). n % 2 ^ 64) (sym (counts host));
   places = length-with_value old.connections k c ∙ agrees.places;
   each = λ j. rw (place-with_value old.connections k c j within) (each j);
@@ -314,11 +307,11 @@ same_agrees old new same = record { keeps = λ units events received taken agree
 
 -- ---- a new target
 
-pub new_agrees : (target : TargetState) (units : List ℕ) → target ≡ new_target units → Agrees target units [] nothing nothing
-new_agrees target units same = rw same (record {
-  config = refl;
-  shown = refl;
-  counts = λ host. refl;
-  places = refl;
-  each = λ k. rw (place-replicate 64 k) (refl, refl);
-})
+pub new_agrees : (target : TargetState) (units : List ℕ) → IsNewTarget (disks_alone units) target → Agrees target units [] nothing nothing
+new_agrees target units fresh = record {
+  config = fresh.config;
+  shown = fresh.shown.records;
+  counts = fresh.shown.counts;
+  places = ap (λ (x : List (Option ConnectionState)). length x) fresh.connections;
+  each = λ k. rw (fresh.connections, place-replicate 64 k) (refl, refl);
+}

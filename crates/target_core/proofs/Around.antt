@@ -62,7 +62,7 @@ sessions_agree t units events received taken agrees k =
 
 pub page_agrees : (t : TargetState) (units : List ℕ) (events : List Event) (received taken : ℕ → List ℕ)
     → Agrees t units events received taken → (host : List ℕ) → page_in t.shown host ≡ page_of units events host
-page_agrees t units events received taken agrees host = rw (agrees.counts host, agrees.shown) refl
+page_agrees t units events received taken agrees host = rw (agrees.counts host, agrees.shown host) refl
 
 queue_here : (o : Option ConnectionState) (v : Option Conversation) (c : ConnectionState) (s r t : List ℕ) → o ≡ Some c → AgreesAt o v s r t
     → queue_in c.session ≡ queue_at v

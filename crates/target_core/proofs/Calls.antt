@@ -4,6 +4,7 @@ use Rattle.std.specs.Prelude.{if◌then◌else◌, ◌||◌}
 use Rattle.number_table.proofs.Tables.{without_None}
 use Rattle.nvt_config.specs.declared.edit.Edit.{Edit}
 use Rattle.nvt_config.specs.declared.fault.EditFault.{EditFault}
+use Rattle.discovery_view.specs.View.{ShowsNext}
 use Rattle.nvt_config.specs.Accept.{accept}
 use Rattle.target_core.specs.declared.fault.NoConn.{NoConn}
 use Rattle.target_core.specs.declared.fault.OpenFault.{OpenFault}
@@ -14,16 +15,16 @@ use Rattle.target_core.specs.declared.session.Session.TheVariants as session
 use Rattle.target_core.specs.Agreement.{AgreesAfterEnd, AgreesAt, AgreesByStep, AgreesStill, AgreesWithTaken, EditAgrees, EndAgrees, EndedAgrees, OpenAgrees, ReceiveAgrees, StepAgrees, TakenAgrees, has_ended_by}
 use Rattle.target_core.specs.Connection.{ConnectionState, Steps, ends, opened_on, room_of}
 use Rattle.target_core.specs.History.{Conversation, Taken, conversation_of, has_ended, sent, session_of}
-use Rattle.target_core.specs.Target.{ReceivesAt, StepsAt, TakenAt, TargetState, around_at, connection_at, edited_target, free_number, is_ended_at, with_connection, without_connection}
+use Rattle.target_core.specs.Target.{ReceivesAt, StepsAt, TakenAt, TargetState, around_at, connection_at, edited_connections, free_number, is_ended_at, with_connection, without_connection}
 use Rattle.target_core.proofs.Agreements.{edit_agrees, end_agrees, open_agrees, receive_agrees, same_agrees, step_agrees, taken_agrees}
 use Rattle.target_core.proofs.Sessions.{session_ends}
 use Rattle.target_core.proofs.Stepping.{with_same}
 
 pub edit_keeps : (old new : TargetState) (edit : Edit) (result : Result (Unit {0}) EditFault)
-    → OnOk result (accept old.config edit ≡ Ok new.config) → OnOk result (new ≡ edited_target old edit new.config)
-    → OnErr result (new ≡ old) → EditAgrees edit old result new
-edit_keeps old new edit (Ok done) ok rest err = edit_agrees old new edit ok rest
-edit_keeps old new edit (Err fault) ok rest err = same_agrees old new err
+    → OnOk result (accept old.config edit ≡ Ok new.config) → OnOk result (ShowsNext new.config old.shown new.shown)
+    → OnOk result (new.connections ≡ edited_connections edit old.connections) → OnErr result (new ≡ old) → EditAgrees edit old result new
+edit_keeps old new edit (Ok done) ok shown connections err = edit_agrees old new edit ok shown connections
+edit_keeps old new edit (Err fault) ok shown connections err = same_agrees old new err
 
 pub open_keeps : (old new : TargetState) (port : ℕ) (result : Result ℕ OpenFault)
     → IfOk result (λ k. (free_number old ≡ Some k) × (new ≡ with_connection old k (opened_on port)))

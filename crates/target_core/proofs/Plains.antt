@@ -4,10 +4,10 @@ use Rattle.std.proofs.lemmas.Bool.{eqb-true}
 use Rattle.std.specs.Prelude.{◌==◌, ◌||◌, if◌then◌else◌}
 use Rattle.std.specs.Option.{option_map}
 use Rattle.std.proofs.lemmas.List.{take_min}
-use Rattle.discovery_view.specs.View.{page_in, shown_next}
+use Rattle.discovery_view.specs.Records.{records_of}
+use Rattle.discovery_view.specs.View.{page_in}
 use Rattle.number_table.specs.Table.{place, with_value, without}
 use Rattle.number_table.proofs.Tables.{place_within, place-with_value, place-without, place-map, place-replicate, with_value-without}
-use Rattle.nvt_config.specs.Accept.{accept}
 use Rattle.nvt_config.specs.Configuration.{Configuration}
 use Rattle.nvt_config.specs.declared.edit.Edit.{Edit}
 use Rattle.pdu_cut.specs.declared.side.Side.TheVariants.{Target}
@@ -24,7 +24,7 @@ use Rattle.target_core.specs.Controllers.{free_cntlid}
 use Rattle.target_core.specs.Decision.{decision_at, host_in, sent_by, session_after}
 use Rattle.target_core.specs.Event.{Event, edited, opened, took, given_up}
 use Rattle.target_core.specs.History.{Conversation, Taken, answer, around_of, config_of, conversation_of, has_ended, is_end, owed, page_of, queue_at, sent, session_in, session_of, with_edit, with_taken}
-use Rattle.target_core.specs.Plain.{IsKnown, IsNew, IsWorld, KnownAgrees, Moves, MovesAt, WorldState, edited_known, event_of, new_world, next_session, owed_in, sent_on, world_around}
+use Rattle.target_core.specs.Plain.{IsEdited, IsKnown, IsNew, IsNewWorld, IsWorld, KnownAgrees, Moves, MovesAt, WorldState, edited_known, event_of, next_session, owed_in, sent_on, world_around}
 use Rattle.target_core.specs.Surroundings.{Surroundings}
 use Rattle.target_core.proofs.Around.{free_same, surroundings_same}
 use Rattle.target_core.proofs.Agreements.{edited_count}
@@ -83,7 +83,7 @@ known_queue (Some other) (Some v) known s found h =
 
 world_page : (w : WorldState) (units : List ℕ) (events : List Event) → IsWorld w units events
     → (host : List ℕ) → page_in w.shown host ≡ page_of units events host
-world_page w units events agrees host = rw (agrees.counts host, agrees.shown) refl
+world_page w units events agrees host = rw (agrees.counts host, agrees.shown host) refl
 
 around_known : (w : WorldState) (units : List ℕ) (events : List Event) (k : ℕ) (known : Known) → place w.known k ≡ Some known
     → IsWorld w units events → world_around w known.session ≡ around_of units events k
@@ -114,19 +114,17 @@ known_edited edit (Some known) (Some v) s h =
     let test : deletes_port edit known.port ≡ deletes_port edit v.port = ap (deletes_port edit) h.port in
     rw test (known_edited_by edit known v s (deletes_port edit v.port) refl h)
 
-pub world_edited : (old new : WorldState) (edit : Edit) (c : Configuration) (units : List ℕ) (events : List Event)
-    → accept old.config edit ≡ Ok c
-    → new ≡ record { config = c; shown = shown_next c old.shown; known = map (option_map (edited_known edit)) old.known }
+pub world_edited : (old new : WorldState) (edit : Edit) (units : List ℕ) (events : List Event) → IsEdited edit old new
     → IsWorld old units events → IsWorld new units (edited edit ∷ events)
-world_edited old new edit c units events accepted is agrees =
-    let config : c ≡ config_of units (edited edit ∷ events) = rw (← agrees.config, accepted) refl in
-    rw is (record {
+world_edited old new edit units events edits agrees =
+    let config : new.config ≡ config_of units (edited edit ∷ events) = rw (← agrees.config, edits.config) refl in
+    record {
       config = config;
-      shown = config;
-      counts = λ host. edited_count old.shown units events edit c host config agrees.shown (agrees.counts host);
-      each = λ k. rw (place-map (edited_known edit) old.known k)
+      shown = λ host. edits.shown.records host ∙ ap (λ (c : Configuration). records_of c host) config;
+      counts = λ host. edited_count old.shown new.shown units events edit new.config host edits.shown config (agrees.shown host) (agrees.counts host);
+      each = λ k. rw (edits.known, place-map (edited_known edit) old.known k)
           (known_edited edit (place old.known k) (conversation_of units events k) (sent units events k) (agrees.each k));
-    })
+    }
 
 known_opened : (same : Bool) (port : ℕ) (known : Known) (o : Option Known) (v : Option Conversation) (s : List ℕ) → IsNew port known
     → IsKnown o v s
@@ -256,10 +254,8 @@ world_took old new n found units events moves agrees = took_at old new n (place 
 
 -- .. where the call that follows the event succeeds
 pub lives_edited : {E : Type 0} (r : Result (Unit {0}) E) (old new : WorldState) (edit : Edit) (units : List ℕ) (events : List Event)
-    → OnOk r ((c : Configuration) × (accept old.config edit ≡ Ok c)
-    × (new ≡ record { config = c; shown = shown_next c old.shown; known = map (option_map (edited_known edit)) old.known }))
-    → IsWorld old units events → OnOk r (IsWorld new units (edited edit ∷ events))
-lives_edited (Ok done) old new edit units events h agrees = world_edited old new edit h.0 units events h.1 h.2 agrees
+    → OnOk r (IsEdited edit old new) → IsWorld old units events → OnOk r (IsWorld new units (edited edit ∷ events))
+lives_edited (Ok done) old new edit units events h agrees = world_edited old new edit units events h agrees
 lives_edited (Err fault) old new edit units events h agrees = tt
 
 pub lives_took : {E : Type 0} (r : Result (Unit {0}) E) (old new : WorldState) (n : ℕ) (found : Front) (units : List ℕ) (events : List Event)
@@ -267,20 +263,20 @@ pub lives_took : {E : Type 0} (r : Result (Unit {0}) E) (old new : WorldState) (
 lives_took (Ok done) old new n found units events h agrees = world_took old new n found units events h agrees
 lives_took (Err fault) old new n found units events h agrees = tt
 
-pub world_begins : (w : WorldState) (units : List ℕ) → w ≡ new_world units → IsWorld w units []
-world_begins w units is = rw is (record {
-  config = refl;
-  shown = refl;
-  counts = λ host. refl;
-  each = λ k. rw (place-replicate 64 k) refl;
-})
+pub world_begins : (w : WorldState) (units : List ℕ) → IsNewWorld units w → IsWorld w units []
+world_begins w units fresh = record {
+  config = fresh.config;
+  shown = fresh.shown.records;
+  counts = fresh.shown.counts;
+  each = λ k. rw (fresh.known, place-replicate 64 k) refl;
+}
 
 pub no_events : (events : List plain.Event) → length events ≡ 0 → map event_of events ≡ []
 no_events [] none = refl
 no_events (event ∷ events) none = cc
 
 pub walk_begins : {E : Type 0} (r : Result WorldState E) (units : List ℕ) (events : List Event) → events ≡ []
-    → IfOk r (λ w. w ≡ new_world units) → IfOk r (λ w. IsWorld w units events)
+    → IfOk r (IsNewWorld units) → IfOk r (λ w. IsWorld w units events)
 walk_begins (Ok w) units events none is = rw none (world_begins w units is)
 walk_begins (Err fault) units events none is = tt
 

@@ -1,7 +1,8 @@
 -- What it means that a target agrees with a history, and with the bytes that each connection received
 -- and that were taken from it.
 use Rattle.std.specs.Prelude.{◌≡◌, ℕ, ◌%◌, ◌^◌, Bool, false, ◌==◌, List, [], ◌∷◌, ◌++◌, length, Option, Some, None, Result, MatchOption, MatchResult, if◌then◌else◌, take}
-use Rattle.discovery_view.specs.View.{count_in}
+use Rattle.discovery_view.specs.Records.{records_of}
+use Rattle.discovery_view.specs.View.{count_in, records_in}
 use Rattle.pdu_cut.specs.declared.side.Side.TheVariants.{Target}
 use Rattle.pdu_cut.specs.Front.{Front, incomplete, whole, faulty, front}
 use Rattle.pdu_cut.specs.Pdu.{Pdu}
@@ -62,7 +63,7 @@ AgreesAt None (Some v) was_sent received taken = ⊥
 -- configuration, and counts the edits that changed them; it has places for 64 connections.
 pub record Agrees (t : TargetState) (units : List ℕ) (events : List Event) (received taken : ℕ → List ℕ) : Type 0 where
   pub config : t.config ≡ config_of units events
-  pub shown : t.shown.now ≡ config_of units events
+  pub shown : (host : List ℕ) → records_in t.shown host ≡ records_of (config_of units events) host
   pub counts : (host : List ℕ) → count_in t.shown host ≡ generation_of units events host % 2 ^ 64
   pub places : length t.connections ≡ 64
   pub each : (k : ℕ) → AgreesAt (connection_at t k) (conversation_of units events k) (sent units events k) (received k) (taken k)

@@ -1,8 +1,10 @@
 -- What the plain walk over a list of events computes of all connections.
-use Rattle.std.specs.Prelude.{◌≡◌, ℕ, ◌%◌, ◌^◌, List, [], ◌++◌, take, replicate, Option, Some, None, if◌then◌else◌}
+use Rattle.std.specs.Prelude.{◌≡◌, ℕ, ◌%◌, ◌^◌, List, [], ◌++◌, map, take, replicate, Option, Some, None, Ok, if◌then◌else◌}
 use Rattle.std.specs.Option.{option_map}
-use Rattle.discovery_view.specs.View.{Shown, count_in, first_shown}
+use Rattle.discovery_view.specs.Records.{records_of}
+use Rattle.discovery_view.specs.View.{Shown, ShowsFirst, ShowsNext, count_in, records_in}
 use Rattle.number_table.specs.Table.{place, with_value}
+use Rattle.nvt_config.specs.Accept.{accept}
 use Rattle.nvt_config.specs.Configuration.{Configuration, disks_alone}
 use Rattle.nvt_config.specs.declared.edit.Edit.{Edit}
 use Rattle.pdu_cut.specs.declared.side.Side.TheVariants.{Target}
@@ -31,15 +33,18 @@ pub record WorldState : Type 0 where
   pub shown : Shown
   pub known : List (Option Known)
 
-abbrev pub new_world : List ℕ → WorldState
-new_world units = record {
-  config = disks_alone units;
-  shown = first_shown (disks_alone units);
-  known = replicate 64 None;
-}
+pub record IsNewWorld (units : List ℕ) (w : WorldState) : Type 0 where
+  pub config : w.config ≡ disks_alone units
+  pub shown : ShowsFirst (disks_alone units) w.shown
+  pub known : w.known ≡ replicate 64 None
 
 abbrev pub edited_known : Edit → Known → Known
 edited_known edit known = if deletes_port edit known.port then record known { session = session.Ended } else known
+
+pub record IsEdited (edit : Edit) (old new : WorldState) : Type 0 where
+  pub config : accept old.config edit ≡ Ok new.config
+  pub shown : ShowsNext new.config old.shown new.shown
+  pub known : new.known ≡ map (option_map (edited_known edit)) old.known
 
 -- what is around a connection in this session
 abbrev pub world_around : WorldState → Session → Surroundings
@@ -91,6 +96,6 @@ sent_on (Some known) = known.sent.items
 -- what the walk has computed is what the definitions say of the events
 pub record IsWorld (w : WorldState) (units : List ℕ) (events : List Event) : Type 0 where
   pub config : w.config ≡ config_of units events
-  pub shown : w.shown.now ≡ config_of units events
+  pub shown : (host : List ℕ) → records_in w.shown host ≡ records_of (config_of units events) host
   pub counts : (host : List ℕ) → count_in w.shown host ≡ generation_of units events host % 2 ^ 64
   pub each : (k : ℕ) → IsKnown (place w.known k) (conversation_of units events k) (sent units events k)

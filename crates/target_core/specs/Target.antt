@@ -1,9 +1,9 @@
 -- A target, as its calls see it.
 use Rattle.std.specs.Prelude.{◌≡◌, ℕ, ◌==◌, Bool, false, List, [], Option, Some, None, is_none, find, position, replicate, Result, Ok, Err, IsErr, IsTrue, MatchResult, ◌++◌, map, min, length, take, drop, if◌then◌else◌}
 use Rattle.std.specs.Option.{option_map}
-use Rattle.discovery_view.specs.View.{Shown, first_shown, shown_next}
+use Rattle.discovery_view.specs.View.{Shown, ShowsFirst}
 use Rattle.number_table.specs.Table.{place, with_value, without}
-use Rattle.nvt_config.specs.Configuration.{Configuration, disks_alone}
+use Rattle.nvt_config.specs.Configuration.{Configuration}
 use Rattle.nvt_config.specs.declared.edit.Edit.{Edit}
 use Rattle.nvt_config.specs.declared.port.Port.{Port}
 use Rattle.pdu_cut.specs.declared.side.Side.TheVariants.{Target as target_side}
@@ -25,13 +25,11 @@ pub record TargetState : Type 0 where
   pub shown : Shown
   pub connections : List (Option ConnectionState)
 
--- the disks alone, and no connection of the 64 that there may be
-abbrev pub new_target : List ℕ → TargetState
-new_target units = record {
-  config = disks_alone units;
-  shown = first_shown (disks_alone units);
-  connections = replicate 64 None;
-}
+-- this configuration, whose pages none has seen change, and no connection of the 64 that there may be
+pub record IsNewTarget (c : Configuration) (t : TargetState) : Type 0 where
+  pub config : t.config ≡ c
+  pub shown : ShowsFirst c t.shown
+  pub connections : t.connections ≡ replicate 64 None
 
 -- the known connection of this number
 abbrev pub connection_at : TargetState → ℕ → Option ConnectionState
@@ -46,13 +44,9 @@ with_connection t k c = record t { connections = with_value t.connections k c }
 abbrev pub without_connection : TargetState → ℕ → TargetState
 without_connection t k = record t { connections = without t.connections k }
 
--- after an edit, with the configuration that it makes: the connections of a port that it deletes are ended
-abbrev pub edited_target : TargetState → Edit → Configuration → TargetState
-edited_target t edit c = record {
-  config = c;
-  shown = shown_next c t.shown;
-  connections = map (option_map (edited_by edit)) t.connections;
-}
+-- after an edit the connections of a port that it deletes are ended
+abbrev pub edited_connections : Edit → List (Option ConnectionState) → List (Option ConnectionState)
+edited_connections edit connections = map (option_map (edited_by edit)) connections
 
 -- the configuration's port of this number
 abbrev pub port_of : Configuration → ℕ → Option Port

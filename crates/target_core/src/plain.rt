@@ -2,10 +2,8 @@
 //! beginning. It keeps no stream, no taken output and no target: a second opinion for tests.
 ghost use Rattle.std.specs.Prelude.{◌≡◌, ◌<◌, ◌≤◌, ◌++◌, ◌∷◌, List, ℕ, Ok, IfOk, OnOk, length, map, take};
 ghost use Rattle.std.specs.Option.{option_map};
-ghost use Rattle.discovery_view.specs.View.{page_in, shown_next};
+ghost use Rattle.discovery_view.specs.View.{page_in};
 ghost use Rattle.number_table.specs.Table.{place, with_value, without};
-ghost use Rattle.nvt_config.specs.Accept.{accept};
-ghost use Rattle.nvt_config.specs.Configuration.{Configuration};
 ghost use Rattle.pdu_cut.specs.declared.side.Side.TheVariants as side;
 ghost use Rattle.pdu_cut.specs.Front.{front};
 ghost use Rattle.target_core.specs.AdminQueue.{host_of};
@@ -13,7 +11,7 @@ ghost use Rattle.target_core.specs.Connection.{queue_in, seen};
 ghost use Rattle.target_core.specs.Decision.{data_of, decision_at, host_in, sent_by, session_after, wire_of};
 ghost use Rattle.target_core.specs.Event as history;
 ghost use Rattle.target_core.specs.History.{sent};
-ghost use Rattle.target_core.specs.Plain.{IsNew, IsWorld, MovesAt, edited_known, event_of, new_world, next_session, owed_in, sent_on};
+ghost use Rattle.target_core.specs.Plain.{IsEdited, IsNew, IsNewWorld, IsWorld, MovesAt, edited_known, event_of, next_session, owed_in, sent_on};
 
 use crate::capsule::host_name;
 use crate::connection::{deletes_port, perform};
@@ -88,14 +86,11 @@ struct World {
 }
 
 impl Model for World {
-    ghost use Rattle.std.specs.Prelude.{◌≡◌};
     ghost use Rattle.target_core.specs.Plain.{WorldState};
 
     ghost Value = { WorldState };
 
     ghost view = { λ w. record { config = w.config; shown = w.view.shown; known = w.known } };
-
-    ghost invariant = { λ w. w.view.shown.now ≡ w.config };
 }
 
 /// The bytes of all PDUs that the connection of this number was sent since it was opened, by the events
@@ -137,7 +132,7 @@ fn walk(alloc: Global, units: &[u64], events: &[Event]) -> Result<World, WalkFau
 
 impl World {
     fn new(alloc: Global, units: &[u64]) -> Result<World, WalkFault>
-        ensures { IfOk result (λ world. world ≡ new_world units.now) }
+        ensures { IfOk result (IsNewWorld units.now) }
     {
         let Ok(config) = Config::new(alloc, units) else {
             return Err(WalkFault::NoHistory);
@@ -166,11 +161,7 @@ impl World {
     }
 
     fn edited(&mut self, edit: &Edit) -> Result<(), WalkFault>
-        ensures { OnOk result ((c : Configuration) × (accept self.old.config edit.now ≡ Ok c) × (self.new ≡ record {
-          config = c;
-          shown = shown_next c self.old.shown;
-          known = map (option_map (edited_known edit.now)) self.old.known;
-        })) }
+        ensures { OnOk result (IsEdited edit.now self.old self.new) }
     {
         if self.config.check(edit).is_err() {
             return Err(WalkFault::NoHistory);

@@ -2,13 +2,13 @@
 ghost use Rattle.std.specs.Prelude.{◌≡◌, ◌≤◌, IfOk, IfErr, IsOkUnless, OnErr, OnOk, MatchOption, Some, None, [], length, map, replicate};
 ghost use Rattle.std.specs.Bool.{OnFalse, OnTrue};
 ghost use Rattle.std.specs.Option.{option_map};
-ghost use Rattle.discovery_view.specs.View.{first_shown};
+ghost use Rattle.discovery_view.specs.View.{ShowsNext};
 ghost use Rattle.nvt_config.specs.Accept.{accept};
-ghost use Rattle.nvt_config.specs.Configuration.{are_disks};
+ghost use Rattle.nvt_config.specs.Configuration.{are_disks, disks_alone};
 ghost use Rattle.target_core.specs.Connection.{edited_by, opened_on};
 ghost use Rattle.target_core.specs.Controllers.{free_cntlid};
 ghost use Rattle.target_core.specs.Agreement.{Agrees, EditAgrees, EndAgrees, EndedAgrees, OpenAgrees, ReceiveAgrees, StepAgrees, TakenAgrees, nothing};
-ghost use Rattle.target_core.specs.Target.{connection_at, edited_target, free_number, new_target, with_connection, open_fault, room_at, output_at, is_ended_at, session_at, without_connection, FreeFor, ReceivesAt, StepsAt, TakenAt};
+ghost use Rattle.target_core.specs.Target.{connection_at, edited_connections, free_number, with_connection, open_fault, room_at, output_at, is_ended_at, session_at, without_connection, FreeFor, IsNewTarget, ReceivesAt, StepsAt, TakenAt};
 
 use crate::connection::Connection;
 use crate::controllers::{CONNECTIONS_MAX, InSession, free_cntlid};
@@ -29,14 +29,11 @@ pub struct Target {
 }
 
 impl Model for Target {
-    ghost use Rattle.std.specs.Prelude.{◌≡◌};
     ghost use Rattle.target_core.specs.Target.{TargetState};
 
     ghost Value = { TargetState };
 
     ghost view = { λ t. record { config = t.config; shown = t.view.shown; connections = t.connections } };
-
-    ghost invariant = { λ t. t.view.shown.now ≡ t.config };
 }
 
 // What each call promises is in two parts: what becomes of the target's own state, exactly, and that
@@ -45,7 +42,7 @@ impl Target {
     /// A target with disks of these sizes, in units of 512 bytes, and no port and no connection.
     /// Answers `Disks` for more than 256 disks or one of more than 2^40 units, and then `Memory`.
     pub fn new(alloc: Global, units: &[u64]) -> Result<Target, NewFault>
-        ensures ok { IfOk result (λ target. target ≡ new_target units.now) }
+        ensures ok { IfOk result (IsNewTarget (disks_alone units.now)) }
         ensures accepted { OnTrue (are_disks units.now) (IsOkUnless result NewFault.Memory) }
         ensures refused { OnFalse (are_disks units.now) (result ≡ Err NewFault.Disks) }
         ensures agrees { IfOk result (λ target. Agrees target units.now [] nothing nothing) }
@@ -66,7 +63,8 @@ impl Target {
     /// Makes the edit, or says why not. After a refusal, `Memory` included, the target is as it was.
     pub fn edit(&mut self, edit: &Edit) -> Result<(), EditFault>
         ensures ok { OnOk result (accept self.old.config edit.now ≡ Ok self.new.config) }
-        ensures rest { OnOk result (self.new ≡ edited_target self.old edit.now self.new.config) }
+        ensures shown { OnOk result (ShowsNext self.new.config self.old.shown self.new.shown) }
+        ensures connections { OnOk result (self.new.connections ≡ edited_connections edit.now self.old.connections) }
         ensures accepted { OnOk (accept self.old.config edit.now) (IsOkUnless result EditFault.Memory) }
         ensures refused { IfErr (accept self.old.config edit.now) (λ fault. result ≡ Err fault) }
         ensures err { OnErr result (self.new ≡ self.old) }
@@ -154,8 +152,7 @@ impl Target {
     }
 
     fn over(alloc: Global, config: Config) -> Result<Target, AllocError>
-        ensures { IfOk result (λ target.
-            target ≡ record { config = config; shown = first_shown config; connections = replicate 64 None }) }
+        ensures { IfOk result (IsNewTarget config) }
     {
         Ok(Target {
             alloc,
@@ -167,7 +164,8 @@ impl Target {
 
     fn make_edit(&mut self, edit: &Edit) -> Result<(), EditFault>
         ensures ok { OnOk result (accept self.old.config edit.now ≡ Ok self.new.config) }
-        ensures rest { OnOk result (self.new ≡ edited_target self.old edit.now self.new.config) }
+        ensures shown { OnOk result (ShowsNext self.new.config self.old.shown self.new.shown) }
+        ensures connections { OnOk result (self.new.connections ≡ edited_connections edit.now self.old.connections) }
         ensures accepted { OnOk (accept self.old.config edit.now) (IsOkUnless result EditFault.Memory) }
         ensures refused { IfErr (accept self.old.config edit.now) (λ fault. result ≡ Err fault) }
         ensures err { OnErr result (self.new ≡ self.old) }
