@@ -1,100 +1,227 @@
--- What each call does keeps the agreement: from the exact clauses of a call to what its answer says.
-use Rattle.std.proofs.Common.{◌≡◌, ℕ, Bool, true, false, List, length, take, min, Option, Some, None, Result, Ok, Err, OnOk, OnErr, IfOk, MatchOption, refl, ap, ◌∙◌}
-use Rattle.std.specs.Prelude.{if◌then◌else◌, ◌||◌}
-use Rattle.number_table.proofs.Tables.{without_None}
+-- Each call keeps the agreement: from the exact clauses of a call to what its answer says.
+use Rattle.std.proofs.Common.{◌≡◌, ℕ, ◌<◌, Bool, true, false, ◌&&◌, List, [], ◌++◌, length, take, drop, min, replicate, Option, Some, None, Result, Ok, Err, OnOk, OnErr, IfOk, MatchOption, refl, sym, ap, ◌∙◌, append_assoc, take-append-drop}
+use Rattle.std.specs.Prelude.{if◌then◌else◌, ◌==◌, is_none}
+use Rattle.std.specs.Option.{option_map}
+use Rattle.std.proofs.lemmas.Bool.{eqb-true}
+use Rattle.number_table.specs.Table.{place, with_value, without}
+use Rattle.number_table.proofs.Tables.{place_within, place-with_value, without_None}
 use Rattle.nvt_config.specs.declared.edit.Edit.{Edit}
 use Rattle.nvt_config.specs.declared.fault.EditFault.{EditFault}
-use Rattle.discovery_view.specs.View.{ShowsNext}
-use Rattle.nvt_config.specs.Accept.{accept}
+use Rattle.pdu_cut.specs.declared.side.Side.TheVariants.{Target}
+use Rattle.pdu_cut.specs.Front.{Front, incomplete, whole, faulty, front}
+use Rattle.pdu_cut.specs.Pdu.{Pdu}
+use Rattle.pdu_cut.proofs.Fronts.{front_faulty-append}
+use Rattle.pdu_cut.proofs.Streams.{begins_with-append}
 use Rattle.target_core.specs.declared.fault.NoConn.{NoConn}
 use Rattle.target_core.specs.declared.fault.OpenFault.{OpenFault}
 use Rattle.target_core.specs.declared.fault.StepFault.{StepFault}
 use Rattle.target_core.specs.declared.fault.Stepped.{Stepped}
 use Rattle.target_core.specs.declared.fault.Stepped.TheVariants.{Idle, One, Ended}
-use Rattle.target_core.specs.declared.session.Session.TheVariants as session
-use Rattle.target_core.specs.Agreement.{AgreesAfterEnd, AgreesAt, AgreesByStep, AgreesStill, AgreesWithTaken, EditAgrees, EndAgrees, EndedAgrees, OpenAgrees, ReceiveAgrees, StepAgrees, TakenAgrees, has_ended_by}
-use Rattle.target_core.specs.Connection.{ConnectionState, Steps, ends, opened_on, room_of}
-use Rattle.target_core.specs.History.{Conversation, Taken, conversation_of, has_ended, sent, session_of}
-use Rattle.target_core.specs.Target.{ReceivesAt, StepsAt, TakenAt, TargetState, around_at, connection_at, edited_connections, free_number, is_ended_at, with_connection, without_connection}
-use Rattle.target_core.proofs.Agreements.{edit_agrees, end_agrees, open_agrees, receive_agrees, same_agrees, step_agrees, taken_agrees}
-use Rattle.target_core.proofs.Sessions.{session_ends}
-use Rattle.target_core.proofs.Stepping.{with_same}
+use Rattle.target_core.specs.Agreement.{AgreesAfter, AgreesByStep, AgreesStill, AgreesWithReceived, AgreesWithTaken, EditAgrees, EndAgrees, EndedAgrees, OpenAgrees, OutputAgrees, ReceiveAgrees, StandsAt, StepAgrees, StreamAgrees, TakenAgrees, extended}
+use Rattle.target_core.specs.Connection.{ConnectionState}
+use Rattle.target_core.specs.Moves.{Moves, StepsAt, StepsBy}
+use Rattle.target_core.specs.Target.{IsTarget, ReceivesAt, TakenAt, TargetState, conversation_at, free_number, is_ended_at, room_of, with_connection, with_stream, without_connection}
+use Rattle.target_decision.specs.declared.session.Conversation.{Conversation}
+use Rattle.target_decision.specs.declared.session.Session.{Session}
+use Rattle.target_decision.specs.declared.session.Session.TheVariants as session
+use Rattle.target_decision.specs.Session.{is_ended}
+use Rattle.target_history.specs.Event.{edited, given_up, opened, took}
+use Rattle.target_history.specs.Happening.{Happening}
+use Rattle.target_history.specs.History.{Beginning, beginning_of, conversation_of, happened, has_ended, is_initialized, is_known, last_front, pdus_of, port_of, registers_of, responses_since, sent, session_of, session_with}
+use Rattle.target_core.proofs.Agreements.{moves_agree, same_agrees}
+use Rattle.target_core.proofs.Moving.{end_moves}
+
+-- ---- events
 
 pub edit_keeps : (old new : TargetState) (edit : Edit) (result : Result (Unit {0}) EditFault)
-    → OnOk result (accept old.config edit ≡ Ok new.config) → OnOk result (ShowsNext new.config old.shown new.shown)
-    → OnOk result (new.connections ≡ edited_connections edit old.connections) → OnErr result (new ≡ old) → EditAgrees edit old result new
-edit_keeps old new edit (Ok done) ok shown connections err = edit_agrees old new edit ok shown connections
-edit_keeps old new edit (Err fault) ok shown connections err = same_agrees old new err
+    → OnOk result (Moves (edited edit) old new) → OnErr result (new ≡ old) → EditAgrees edit old result new
+edit_keeps old new edit (Ok done) moves err = moves_agree (edited edit) old new moves
+edit_keeps old new edit (Err fault) moves err = same_agrees old new err
 
 pub open_keeps : (old new : TargetState) (port : ℕ) (result : Result ℕ OpenFault)
-    → IfOk result (λ k. (free_number old ≡ Some k) × (new ≡ with_connection old k (opened_on port)))
+    → IfOk result (λ k. (free_number old ≡ Some k) × Moves (opened port k) old new)
     → OnErr result (new ≡ old) → OpenAgrees port old result new
-open_keeps old new port (Ok k) opens err = open_agrees old new port k opens.0 opens.1
+open_keeps old new port (Ok k) opens err = moves_agree (opened port k) old new opens.1
 open_keeps old new port (Err fault) opens err = same_agrees old new err
 
-receive_keeps_at : (old new : TargetState) (k : ℕ) (o : Option ConnectionState) (piece : List ℕ) (result : Result ℕ NoConn)
-    → connection_at old k ≡ o → ReceivesAt k o old piece result new → ReceiveAgrees k piece old result new
-receive_keeps_at old new k None piece (Ok n) known h = cc
-receive_keeps_at old new k None piece (Err fault) known h = same_agrees old new h.1
-receive_keeps_at old new k (Some c) piece result known h =
-    rw h.0 (receive_agrees old new k c (take (min (room_of c) (length piece)) piece) known h.1)
+step_keeps_by : (old new : TargetState) (k : ℕ) (held : List ℕ) (c : ConnectionState) (s : Stepped) → place old.streams k ≡ Some held
+    → StepsBy k held c s old new → AgreesByStep k s old new
+step_keeps_by old new k held c Idle known h = same_agrees old new h.1
+step_keeps_by old new k held c One known h = rw known (moves_agree (took k (front Target held)) old new h.1)
+step_keeps_by old new k held c Ended known h = rw known (moves_agree (took k (front Target held)) old new h.1)
 
-pub receive_keeps : (old new : TargetState) (k : ℕ) (piece : List ℕ) (result : Result ℕ NoConn)
-    → ReceivesAt k (connection_at old k) old piece result new → ReceiveAgrees k piece old result new
-receive_keeps old new k piece result h = receive_keeps_at old new k (connection_at old k) piece result refl h
-
-step_keeps_by : (old new : TargetState) (k : ℕ) (c after : ConnectionState) (s : Stepped)
-    → connection_at old k ≡ Some c → Steps (around_at old c) c s after → new ≡ with_connection old k after → AgreesByStep k s old new
-step_keeps_by old new k c after Idle known h steps =
-    same_agrees old new (steps ∙ ap (with_connection old k) h.1 ∙ with_same old k c known)
-step_keeps_by old new k c after One known h steps = rw known (step_agrees old new k c after known h.0 steps)
-step_keeps_by old new k c after Ended known h steps = rw known (step_agrees old new k c after known h.0 steps)
-
-step_keeps_at : (old new : TargetState) (k : ℕ) (o : Option ConnectionState) (result : Result Stepped StepFault)
-    → connection_at old k ≡ o → StepsAt k o old result new → StepAgrees k old result new
-step_keeps_at old new k None result known h = rw h.0 (same_agrees old new h.1)
-step_keeps_at old new k (Some c) (Ok s) known h = step_keeps_by old new k c h.0 s known h.1 h.2
-step_keeps_at old new k (Some c) (Err fault) known h = same_agrees old new h.1
+step_keeps_at : (old new : TargetState) (k : ℕ) (s : Option (List ℕ)) (o : Option ConnectionState) (result : Result Stepped StepFault)
+    → place old.streams k ≡ s → StepsAt k s o old result new → StepAgrees k old result new
+step_keeps_at old new k None o result known h = rw h.0 (same_agrees old new h.1)
+step_keeps_at old new k (Some held) None result known h = rw h.0 (same_agrees old new h.1)
+step_keeps_at old new k (Some held) (Some c) (Ok s) known h = step_keeps_by old new k held c s known h
+step_keeps_at old new k (Some held) (Some c) (Err fault) known h = same_agrees old new h.1
 
 pub step_keeps : (old new : TargetState) (k : ℕ) (result : Result Stepped StepFault)
-    → StepsAt k (connection_at old k) old result new → StepAgrees k old result new
-step_keeps old new k result h = step_keeps_at old new k (connection_at old k) result refl h
+    → StepsAt k (place old.streams k) (place old.connections k) old result new → StepAgrees k old result new
+step_keeps old new k result h = step_keeps_at old new k (place old.streams k) (place old.connections k) result refl h
 
-taken_keeps_at : (old new : TargetState) (k len : ℕ) (o : Option ConnectionState) → connection_at old k ≡ o → TakenAt k o old len new
+-- what is given up and was not known leaves all as it was
+without_unknown : (t : TargetState) (k : ℕ) → place t.streams k ≡ None → place t.connections k ≡ None → without_connection t k ≡ t
+without_unknown t k stream known =
+    ap (λ (x : List (Option (List ℕ))). let s : TargetState = record t { streams = x; connections = without t.connections k } in s)
+    (without_None t.streams k stream)
+    ∙ ap (λ (x : List (Option ConnectionState)). let s : TargetState = record t { connections = x } in s) (without_None t.connections k known)
+
+none_alike : (s : Option (List ℕ)) → is_none s ≡ true → s ≡ None
+none_alike None h = refl
+none_alike (Some held) h = cc
+
+gives_up_at : (old new : TargetState) (k : ℕ) (o : Option ConnectionState) → IsTarget old → place old.connections k ≡ o
+    → new ≡ without_connection old k → MatchOption o (new ≡ old) (λ c. Moves (given_up k) old new)
+gives_up_at old new k None is known h =
+    let stream : place old.streams k ≡ None = none_alike (place old.streams k) (is.alike k ∙ ap is_none known) in
+    h ∙ without_unknown old k stream known
+gives_up_at old new k (Some c) is known h =
+    end_moves old new k (ap (λ (t : TargetState). t.config) h) (ap (λ (t : TargetState). t.shown) h)
+    (ap (λ (t : TargetState). t.streams) h) (ap (λ (t : TargetState). t.connections) h)
+
+pub gives_up : (old new : TargetState) (k : ℕ) → IsTarget old → new ≡ without_connection old k
+    → MatchOption (place old.connections k) (new ≡ old) (λ c. Moves (given_up k) old new)
+gives_up old new k is h = gives_up_at old new k (place old.connections k) is refl h
+
+end_keeps_at : (old new : TargetState) (k : ℕ) (o : Option ConnectionState) → MatchOption o (new ≡ old) (λ c. Moves (given_up k) old new)
+    → MatchOption o (AgreesStill old new) (λ c. AgreesAfter (given_up k) old new)
+end_keeps_at old new k None h = same_agrees old new h
+end_keeps_at old new k (Some c) h = moves_agree (given_up k) old new h
+
+pub end_keeps : (old new : TargetState) (k : ℕ) → MatchOption (place old.connections k) (new ≡ old) (λ c. Moves (given_up k) old new)
+    → EndAgrees k old new
+end_keeps old new k h = end_keeps_at old new k (place old.connections k) h
+
+-- ---- received bytes
+
+stands_at-append : (found : Front) (held bytes : List ℕ) → StandsAt found held → StandsAt found (held ++ bytes)
+stands_at-append (whole pdu) held bytes h = tt
+stands_at-append incomplete held bytes h = tt
+stands_at-append (faulty fault head) held bytes h = front_faulty-append Target held bytes fault head h
+
+received_at : (same : Bool) (held bytes : List ℕ) (o : Option (List ℕ)) (pdus : List Pdu) (last : Front) (received : List ℕ)
+    → (same ≡ true → o ≡ Some held) → StreamAgrees o pdus last received
+    → StreamAgrees (if same then Some (held ++ bytes) else o) pdus last (if same then received ++ bytes else received)
+received_at true held bytes None pdus last received known agrees = let found = known refl in cc
+received_at true held bytes (Some other) pdus last received known agrees =
+    let found = known refl in
+    let same : other ≡ held = cc in
+    let here : StreamAgrees (Some held) pdus last received = rw same at agrees in
+    (begins_with-append Target received bytes pdus held here.0, stands_at-append last held bytes here.1)
+received_at false held bytes o pdus last received known agrees = agrees
+
+receive_agrees : (old new : TargetState) (k : ℕ) (held bytes : List ℕ) → place old.streams k ≡ Some held
+    → new ≡ with_stream old k (held ++ bytes) → AgreesWithReceived k bytes old new
+receive_agrees old new k held bytes known receives =
+    let within = place_within old.streams k held known in
+    record {
+      keeps = λ units events received taken agrees. rw receives (record {
+        config = agrees.config;
+        shown = agrees.shown;
+        counts = agrees.counts;
+        conversation = agrees.conversation;
+        stream = λ j. rw (place-with_value old.streams k (held ++ bytes) j within)
+            (received_at (j == k) held bytes (place old.streams j) (pdus_of (happened units events) j) (last_front (happened units events) j) (received j)
+            (λ is. ap (place old.streams) (eqb-true j k is) ∙ known) (agrees.stream j));
+        output = agrees.output;
+      });
+    }
+
+receive_keeps_at : (old new : TargetState) (k : ℕ) (s : Option (List ℕ)) (o : Option ConnectionState) (piece : List ℕ) (result : Result ℕ NoConn)
+    → place old.streams k ≡ s → ReceivesAt k s o old piece result new → ReceiveAgrees k piece old result new
+receive_keeps_at old new k None o piece (Ok n) known h = cc
+receive_keeps_at old new k None o piece (Err fault) known h = same_agrees old new h.1
+receive_keeps_at old new k (Some held) None piece (Ok n) known h = cc
+receive_keeps_at old new k (Some held) None piece (Err fault) known h = same_agrees old new h.1
+receive_keeps_at old new k (Some held) (Some c) piece result known h =
+    rw h.0 (receive_agrees old new k held (take (min (room_of held c) (length piece)) piece) known h.1)
+
+pub receive_keeps : (old new : TargetState) (k : ℕ) (piece : List ℕ) (result : Result ℕ NoConn)
+    → ReceivesAt k (place old.streams k) (place old.connections k) old piece result new → ReceiveAgrees k piece old result new
+receive_keeps old new k piece result h =
+    receive_keeps_at old new k (place old.streams k) (place old.connections k) piece result refl h
+
+-- ---- output that is taken
+
+taken_at : (same : Bool) (c : ConnectionState) (n : ℕ) (o : Option ConnectionState) (sent taken : List ℕ) → (same ≡ true → o ≡ Some c)
+    → OutputAgrees o sent taken
+    → OutputAgrees (if same then Some (record { conversation = c.conversation; output = drop n c.output }) else o) sent
+    (if same then taken ++ take n c.output else taken)
+taken_at true c n None sent taken known agrees = let found = known refl in cc
+taken_at true c n (Some d) sent taken known agrees =
+    let found = known refl in
+    let same : d ≡ c = cc in
+    let here : sent ≡ taken ++ c.output = agrees ∙ ap (λ (x : ConnectionState). taken ++ x.output) same in
+    here ∙ ap (λ (x : List ℕ). taken ++ x) (sym (take-append-drop n c.output)) ∙ sym (append_assoc taken (take n c.output) (drop n c.output))
+taken_at false c n o sent taken known agrees = agrees
+
+conversation_stays : (same : Bool) (c : ConnectionState) (n : ℕ) (o : Option ConnectionState) → (same ≡ true → o ≡ Some c)
+    → option_map (λ (a : ConnectionState). a.conversation)
+    (if same then Some (record { conversation = c.conversation; output = drop n c.output }) else o)
+    ≡ option_map (λ (a : ConnectionState). a.conversation) o
+conversation_stays true c n o known = rw (known refl) refl
+conversation_stays false c n o known = refl
+
+taken_agrees : (old new : TargetState) (k : ℕ) (c : ConnectionState) (n : ℕ) → place old.connections k ≡ Some c
+    → new ≡ with_connection old k (record { conversation = c.conversation; output = drop n c.output })
+    → AgreesWithTaken k (take n c.output) old new
+taken_agrees old new k c n known takes =
+    let within = place_within old.connections k c known in
+    let after : ConnectionState = record { conversation = c.conversation; output = drop n c.output } in
+    record {
+      keeps = λ units events received taken agrees. rw takes (record {
+        config = agrees.config;
+        shown = agrees.shown;
+        counts = agrees.counts;
+        conversation = λ j. rw (place-with_value old.connections k after j within)
+            (conversation_stays (j == k) c n (place old.connections j) (λ is. ap (place old.connections) (eqb-true j k is) ∙ known)
+            ∙ agrees.conversation j);
+        stream = agrees.stream;
+        output = λ j. rw (place-with_value old.connections k after j within)
+            (taken_at (j == k) c n (place old.connections j) (sent (happened units events) j) (taken j)
+            (λ is. ap (place old.connections) (eqb-true j k is) ∙ known) (agrees.output j));
+      });
+    }
+
+taken_keeps_at : (old new : TargetState) (k len : ℕ) (o : Option ConnectionState) → place old.connections k ≡ o → TakenAt k o old len new
     → MatchOption o (AgreesStill old new) (λ c. AgreesWithTaken k (take len c.output) old new)
 taken_keeps_at old new k len None known h = same_agrees old new h
 taken_keeps_at old new k len (Some c) known h = taken_agrees old new k c len known h
 
-pub taken_keeps : (old new : TargetState) (k len : ℕ) → TakenAt k (connection_at old k) old len new → TakenAgrees k len old new
-taken_keeps old new k len h = taken_keeps_at old new k len (connection_at old k) refl h
+pub taken_keeps : (old new : TargetState) (k len : ℕ) → TakenAt k (place old.connections k) old len new → TakenAgrees k len old new
+taken_keeps old new k len h = taken_keeps_at old new k len (place old.connections k) refl h
 
-without_none : (t : TargetState) (k : ℕ) → connection_at t k ≡ None → without_connection t k ≡ t
-without_none t k known =
-    ap (λ (x : List (Option ConnectionState)). let s : TargetState = record t { connections = x } in s)
-    (without_None t.connections k known)
+-- ---- whether a connection is ended
 
-end_keeps_at : (old new : TargetState) (k : ℕ) (o : Option ConnectionState) → connection_at old k ≡ o
-    → new ≡ without_connection old k → MatchOption o (AgreesStill old new) (λ c. AgreesAfterEnd k old new)
-end_keeps_at old new k None known h = same_agrees old new (h ∙ without_none old k known)
-end_keeps_at old new k (Some c) known h = end_agrees old new k h
+lasts_with : (b : Option Beginning) (i : Bool) (h : List Happening) (k : ℕ) → is_ended (session_with b i (registers_of h k) (responses_since h k)) ≡ false
+lasts_with None false h k = refl
+lasts_with None true h k = refl
+lasts_with (Some b) i h k = refl
 
-pub end_keeps : (old new : TargetState) (k : ℕ) → new ≡ without_connection old k → EndAgrees k old new
-end_keeps old new k h = end_keeps_at old new k (connection_at old k) refl h
+ended_of : (h : List Happening) (k : ℕ) → is_ended (session_of h k) ≡ has_ended h k
+ended_of h k = by (has_ended h k) where
+  by : (ended : Bool) → is_ended (if ended then session.Ended else
+      session_with (beginning_of h k) (is_initialized h k) (registers_of h k) (responses_since h k)) ≡ ended
+  by true = refl
+  by false = lasts_with (beginning_of h k) (is_initialized h k) h k
 
--- a session that is ended is that of a conversation that is over
-ends_over : (closed : Bool) (taken : List Taken) → ends (if closed then session.Ended else session_of taken) ≡ (closed || has_ended taken)
-ends_over true taken = refl
-ends_over false taken = session_ends taken
+ended_at : (h : List Happening) (k : ℕ) (o : Option ConnectionState)
+    → option_map (λ (c : ConnectionState). c.conversation) o ≡ conversation_of h k → is_ended_at o ≡ (is_known h k && has_ended h k)
+ended_at h k o agrees = by o (is_known h k) agrees where
+  by : (o : Option ConnectionState) (known : Bool)
+      → option_map (λ (c : ConnectionState). c.conversation) o
+      ≡ (if known then Some (record { port = port_of h k; session = session_of h k }) else None)
+      → is_ended_at o ≡ (known && has_ended h k)
+  by None true agrees = cc
+  by None false agrees = refl
+  by (Some c) false agrees = cc
+  by (Some c) true agrees =
+      let same : c.conversation ≡ record { port = port_of h k; session = session_of h k } = cc in
+      ap (λ (v : Conversation). is_ended v.session) same ∙ ended_of h k
 
-ended_at : (o : Option ConnectionState) (v : Option Conversation) (s r t : List ℕ) → AgreesAt o v s r t
-    → is_ended_at o ≡ has_ended_by v
-ended_at None None s r t h = refl
-ended_at (Some c) None s r t h = absurd h
-ended_at None (Some v) s r t h = absurd h
-ended_at (Some c) (Some v) s r t h = ap ends h.session ∙ ends_over v.closed v.taken
-
-pub ended_tells : (t : TargetState) (k : ℕ) (ended : Bool) → ended ≡ is_ended_at (connection_at t k) → EndedAgrees k t ended
+pub ended_tells : (t : TargetState) (k : ℕ) (ended : Bool) → ended ≡ is_ended_at (place t.connections k) → EndedAgrees k t ended
 ended_tells t k ended h = record {
-  tells = λ units events received taken agrees. h ∙ ended_at (connection_at t k) (conversation_of units events k) (sent units events k)
-      (received k) (taken k) (agrees.each k);
+  tells = λ units events received taken agrees. h ∙ ended_at (happened units events) k (place t.connections k) (agrees.conversation k);
 }

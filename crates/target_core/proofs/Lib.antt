@@ -1,7 +1,5 @@
 pub mod Agreements
-pub mod Around
 pub mod Calls
-pub mod Heads
-pub mod Plains
-pub mod Sessions
-pub mod Stepping
+pub mod Fronts
+pub mod Moving
+pub mod Places

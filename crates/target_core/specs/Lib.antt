@@ -1,15 +1,4 @@
-pub mod AdminQueue
 pub mod Agreement
-pub mod Capsule
-pub mod Connect
 pub mod Connection
-pub mod Controllers
-pub mod Decision
-pub mod Event
-pub mod History
-pub mod LogPage
-pub mod Outcome
-pub mod Plain
-pub mod Registers
-pub mod Surroundings
+pub mod Moves
 pub mod Target

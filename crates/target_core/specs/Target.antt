@@ -1,52 +1,71 @@
 -- A target, as its calls see it.
-use Rattle.std.specs.Prelude.{◌≡◌, ℕ, ◌==◌, Bool, false, List, [], Option, Some, None, is_none, find, position, replicate, Result, Ok, Err, IsErr, IsTrue, MatchResult, ◌++◌, map, min, length, take, drop, if◌then◌else◌}
+use Rattle.std.specs.Prelude.{◌≡◌, ℕ, ◌-◌, ◌==◌, Bool, true, false, ◌||◌, List, [], Option, Some, None, is_none, find, position, replicate, Result, Ok, IsErr, ◌++◌, min, length, take, drop, if◌then◌else◌}
 use Rattle.std.specs.Option.{option_map}
-use Rattle.discovery_view.specs.View.{Shown, ShowsFirst}
+use Rattle.discovery_view.specs.View.{Shown, first_shown, page_in}
 use Rattle.number_table.specs.Table.{place, with_value, without}
-use Rattle.nvt_config.specs.Configuration.{Configuration}
-use Rattle.nvt_config.specs.declared.edit.Edit.{Edit}
+use Rattle.nvt_config.specs.Configuration.{Configuration, disks_alone}
 use Rattle.nvt_config.specs.declared.port.Port.{Port}
-use Rattle.pdu_cut.specs.declared.side.Side.TheVariants.{Target as target_side}
-use Rattle.pdu_cut.specs.Front.{Front, incomplete, front}
+use Rattle.pdu_cut.specs.declared.side.Side.TheVariants.{Target}
+use Rattle.pdu_cut.specs.Front.{Front, incomplete, whole, faulty, front}
 use Rattle.target_core.specs.declared.fault.NoConn.{NoConn}
 use Rattle.target_core.specs.declared.fault.OpenFault.{OpenFault}
 use Rattle.target_core.specs.declared.fault.OpenFault.TheVariants.{NoSuchPort, Full}
-use Rattle.target_core.specs.declared.fault.StepFault.{StepFault}
-use Rattle.target_core.specs.declared.fault.StepFault.TheVariants as step
-use Rattle.target_core.specs.declared.fault.Stepped.{Stepped}
-use Rattle.target_core.specs.declared.session.Session.{Session}
-use Rattle.target_core.specs.Connection.{ConnectionState, Steps, awaits_connect, edited_by, ends, room_of, seen}
-use Rattle.target_core.specs.Controllers.{free_cntlid}
-use Rattle.target_core.specs.Surroundings.{Surroundings}
+use Rattle.target_core.specs.Connection.{ConnectionState}
+use Rattle.target_decision.specs.declared.session.Conversation.{Conversation}
+use Rattle.target_decision.specs.Session.{is_ended}
+use Rattle.target_decision.specs.World.{Pages, World}
+use Rattle.target_history.specs.Event.{Event}
+use Rattle.target_history.specs.Happening.{Happening}
 
--- the configuration, what its discovery view shows, and the connection of each number that is known
+-- the configuration, what its discovery view shows, and of each connection that is known the bytes
+-- received and not taken, and what else is known of it
 pub record TargetState : Type 0 where
   pub config : Configuration
   pub shown : Shown
+  pub streams : List (Option (List ℕ))
   pub connections : List (Option ConnectionState)
 
--- this configuration, whose pages none has seen change, and no connection of the 64 that there may be
-pub record IsNewTarget (c : Configuration) (t : TargetState) : Type 0 where
-  pub config : t.config ≡ c
-  pub shown : ShowsFirst c t.shown
-  pub connections : t.connections ≡ replicate 64 None
+-- the disks alone, and no connection of the 64 that there may be
+abbrev pub new_target : List ℕ → TargetState
+new_target units = record {
+  config = disks_alone units;
+  shown = first_shown (disks_alone units);
+  streams = replicate 64 None;
+  connections = replicate 64 None;
+}
 
--- the known connection of this number
-abbrev pub connection_at : TargetState → ℕ → Option ConnectionState
-connection_at t k = place t.connections k
+-- what holds of each target: it shows its own configuration, and has a stream for each connection
+-- that is known, of the 64 that there may be
+pub record IsTarget (t : TargetState) : Type 0 where
+  pub shows : t.shown.now ≡ t.config
+  pub places : length t.connections ≡ 64
+  pub alike : (k : ℕ) → is_none (place t.streams k) ≡ is_none (place t.connections k)
+  pub streams : length t.streams ≡ 64
 
-abbrev pub session_at : TargetState → ℕ → Option Session
-session_at t k = option_map (λ c. c.session) (connection_at t k)
+-- ---- what a decision may look at
+
+abbrev pub conversation_at : TargetState → ℕ → Option Conversation
+conversation_at t k = option_map (λ (c : ConnectionState). c.conversation) (place t.connections k)
+
+abbrev pub pages_at : TargetState → Pages
+pages_at t = record { discovery = page_in t.shown }
+
+abbrev pub world_at : TargetState → World
+world_at t = record { pages = pages_at t; conversation = conversation_at t }
+
+abbrev pub meets : TargetState → Event → Happening
+meets t event = record { event = event; world = world_at t }
+
+-- ---- the calls
+
+abbrev pub with_stream : TargetState → ℕ → List ℕ → TargetState
+with_stream t k held = record t { streams = with_value t.streams k held }
 
 abbrev pub with_connection : TargetState → ℕ → ConnectionState → TargetState
 with_connection t k c = record t { connections = with_value t.connections k c }
 
 abbrev pub without_connection : TargetState → ℕ → TargetState
-without_connection t k = record t { connections = without t.connections k }
-
--- after an edit the connections of a port that it deletes are ended
-abbrev pub edited_connections : Edit → List (Option ConnectionState) → List (Option ConnectionState)
-edited_connections edit connections = map (option_map (edited_by edit)) connections
+without_connection t k = record t { streams = without t.streams k; connections = without t.connections k }
 
 -- the configuration's port of this number
 abbrev pub port_of : Configuration → ℕ → Option Port
@@ -62,48 +81,42 @@ open_fault t port =
     if is_none (port_of t.config port) then Some NoSuchPort else
     if is_none (free_number t) then Some Full else None
 
-abbrev pub room_at : Option ConnectionState → ℕ
-room_at None = 0
-room_at (Some c) = room_of c
+abbrev pub is_ended_at : Option ConnectionState → Bool
+is_ended_at None = false
+is_ended_at (Some c) = is_ended c.conversation.session
+
+-- how many bytes a connection may receive: none once it is ended
+abbrev pub room_of : List ℕ → ConnectionState → ℕ
+room_of held c = if is_ended c.conversation.session then 0 else 32768 - length held
+
+abbrev pub room_at : Option (List ℕ) → Option ConnectionState → ℕ
+room_at None o = 0
+room_at (Some held) None = 0
+room_at (Some held) (Some c) = room_of held c
 
 abbrev pub output_at : Option ConnectionState → List ℕ
 output_at None = []
 output_at (Some c) = c.output
 
--- what stands at the front of its stream
-abbrev pub front_at : Option ConnectionState → Front
-front_at None = incomplete
-front_at (Some c) = front target_side c.held
-
-abbrev pub is_ended_at : Option ConnectionState → Bool
-is_ended_at None = false
-is_ended_at (Some c) = ends c.session
-
--- what a connection has around it
-abbrev pub around_at : TargetState → ConnectionState → Surroundings
-around_at t c = seen (free_cntlid (session_at t)) t.shown c.session
-
--- an identifier that is free, where it is looked for
-abbrev pub FreeFor : Option ConnectionState → Option ℕ → Option ℕ → Type 0
-FreeFor None free found = Unit {0}
-FreeFor (Some c) free found = IsTrue (awaits_connect c.session) → found ≡ free
-
--- a step of connection k: NoConn where none is known, and else its own, which memory alone refuses
-abbrev pub StepsAt : ℕ → Option ConnectionState → TargetState → Result Stepped StepFault → TargetState → Type 0
-StepsAt k None old result new = (result ≡ Err step.NoConn) × (new ≡ old)
-StepsAt k (Some c) old result new =
-    MatchResult result
-    (λ stepped. (after : ConnectionState) × Steps (around_at old c) c stepped after × (new ≡ with_connection old k after))
-    (λ fault. (fault ≡ step.Memory) × (new ≡ old))
-
 -- a connection receives as much of a piece as it has room for
-abbrev pub ReceivesAt : ℕ → Option ConnectionState → TargetState → List ℕ → Result ℕ NoConn → TargetState → Type 0
-ReceivesAt k None old piece result new = IsErr result × (new ≡ old)
-ReceivesAt k (Some c) old piece result new =
-    let taken = min (room_of c) (length piece) in
-    (result ≡ Ok taken) × (new ≡ with_connection old k (record c { held = c.held ++ take taken piece }))
+abbrev pub ReceivesAt : ℕ → Option (List ℕ) → Option ConnectionState → TargetState → List ℕ → Result ℕ NoConn → TargetState → Type 0
+ReceivesAt k None o old piece result new = IsErr result × (new ≡ old)
+ReceivesAt k (Some held) None old piece result new = IsErr result × (new ≡ old)
+ReceivesAt k (Some held) (Some c) old piece result new =
+    let taken = min (room_of held c) (length piece) in
+    (result ≡ Ok taken) × (new ≡ with_stream old k (held ++ take taken piece))
 
 -- the first bytes of a connection's output are taken away
 abbrev pub TakenAt : ℕ → Option ConnectionState → TargetState → ℕ → TargetState → Type 0
 TakenAt k None old len new = new ≡ old
-TakenAt k (Some c) old len new = new ≡ with_connection old k (record c { output = drop len c.output })
+TakenAt k (Some c) old len new =
+    new ≡ with_connection old k (record { conversation = c.conversation; output = drop len c.output })
+
+abbrev pub is_incomplete : Front → Bool
+is_incomplete incomplete = true
+is_incomplete (whole pdu) = false
+is_incomplete (faulty fault head) = false
+
+-- whether a step has nothing to do: no whole PDU and no fault is there, or the connection is ended
+abbrev pub is_idle : List ℕ → ConnectionState → Bool
+is_idle held c = is_ended c.conversation.session || is_incomplete (front Target held)

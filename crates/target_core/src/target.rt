@@ -1,23 +1,32 @@
 //! The target: a configuration and the connections that hosts made.
-ghost use Rattle.std.specs.Prelude.{◌≡◌, ◌≤◌, IfOk, IfErr, IsOkUnless, OnErr, OnOk, MatchOption, Some, None, [], length, map, replicate};
+ghost use Rattle.std.specs.Prelude.{◌≡◌, ◌≤◌, IfOk, IfErr, IsOkUnless, OnErr, OnOk, MatchOption, Some, None, [], drop, length, replicate};
 ghost use Rattle.std.specs.Bool.{OnFalse, OnTrue};
-ghost use Rattle.std.specs.Option.{option_map};
-ghost use Rattle.discovery_view.specs.View.{ShowsNext};
+ghost use Rattle.std.specs.Option.{option_copied};
+ghost use Rattle.discovery_view.specs.View.{first_shown};
+ghost use Rattle.number_table.specs.Table.{place};
 ghost use Rattle.nvt_config.specs.Accept.{accept};
-ghost use Rattle.nvt_config.specs.Configuration.{are_disks, disks_alone};
-ghost use Rattle.target_core.specs.Connection.{edited_by, opened_on};
-ghost use Rattle.target_core.specs.Controllers.{free_cntlid};
+ghost use Rattle.nvt_config.specs.Configuration.{are_disks};
 ghost use Rattle.target_core.specs.Agreement.{Agrees, EditAgrees, EndAgrees, EndedAgrees, OpenAgrees, ReceiveAgrees, StepAgrees, TakenAgrees, nothing};
-ghost use Rattle.target_core.specs.Target.{connection_at, edited_connections, free_number, with_connection, open_fault, room_at, output_at, is_ended_at, session_at, without_connection, FreeFor, IsNewTarget, ReceivesAt, StepsAt, TakenAt};
+ghost use Rattle.pdu_cut.specs.Cut.{front_shown};
+ghost use Rattle.target_core.specs.Connection.{acted};
+ghost use Rattle.target_core.specs.Moves.{ActedAt, CanConsume, Moves, StepsAt, stepped_by};
+ghost use Rattle.target_decision.specs.Decision.{head_of, is_end};
+ghost use Rattle.target_decision.specs.World.{pages_in};
+ghost use Rattle.target_core.specs.Target.{free_number, is_ended_at, new_target, open_fault, output_at, room_at, without_connection, ReceivesAt, TakenAt};
+ghost use Rattle.target_history.specs.Event.{edited, given_up, opened};
 
 use crate::connection::Connection;
-use crate::controllers::{CONNECTIONS_MAX, InSession, free_cntlid};
 use crate::fault::{NoConn, OpenFault, StepFault, Stepped};
+use crate::settle::end_connections;
+use crate::stream::Stream;
 use discovery_view::DiscoveryView;
 use number_table::NumberTable;
 use nvt_config::{Config, Edit, EditFault, NewFault};
+use pdu_cut::Cut;
 use std::alloc::{AllocError, Global};
 use std::marker::Model;
+use target_decision::{CONNECTIONS_MAX, Converses, Decision, Pages, World, decide, taken_of};
+use target_history::Ending;
 
 /// A target. It serves up to 64 connections, each by the least number that was free when it was opened.
 #[derive(Drop)]
@@ -25,15 +34,18 @@ pub struct Target {
     alloc: Global,
     config: Config,
     view: DiscoveryView,
+    streams: NumberTable<Stream>,
     connections: NumberTable<Connection>,
 }
 
 impl Model for Target {
-    ghost use Rattle.target_core.specs.Target.{TargetState};
+    ghost use Rattle.target_core.specs.Target.{IsTarget, TargetState};
 
     ghost Value = { TargetState };
 
-    ghost view = { λ t. record { config = t.config; shown = t.view.shown; connections = t.connections } };
+    ghost view = { λ t. record { config = t.config; shown = t.view.shown; streams = t.streams; connections = t.connections } };
+
+    ghost invariant = { λ t. IsTarget (record { config = t.config; shown = t.view.shown; streams = t.streams; connections = t.connections }) };
 }
 
 // What each call promises is in two parts: what becomes of the target's own state, exactly, and that
@@ -42,7 +54,7 @@ impl Target {
     /// A target with disks of these sizes, in units of 512 bytes, and no port and no connection.
     /// Answers `Disks` for more than 256 disks or one of more than 2^40 units, and then `Memory`.
     pub fn new(alloc: Global, units: &[u64]) -> Result<Target, NewFault>
-        ensures ok { IfOk result (IsNewTarget (disks_alone units.now)) }
+        ensures ok { IfOk result (λ target. target ≡ new_target units.now) }
         ensures accepted { OnTrue (are_disks units.now) (IsOkUnless result NewFault.Memory) }
         ensures refused { OnFalse (are_disks units.now) (result ≡ Err NewFault.Disks) }
         ensures agrees { IfOk result (λ target. Agrees target units.now [] nothing nothing) }
@@ -63,8 +75,7 @@ impl Target {
     /// Makes the edit, or says why not. After a refusal, `Memory` included, the target is as it was.
     pub fn edit(&mut self, edit: &Edit) -> Result<(), EditFault>
         ensures ok { OnOk result (accept self.old.config edit.now ≡ Ok self.new.config) }
-        ensures shown { OnOk result (ShowsNext self.new.config self.old.shown self.new.shown) }
-        ensures connections { OnOk result (self.new.connections ≡ edited_connections edit.now self.old.connections) }
+        ensures moves { OnOk result (Moves (edited edit.now) self.old self.new) }
         ensures accepted { OnOk (accept self.old.config edit.now) (IsOkUnless result EditFault.Memory) }
         ensures refused { IfErr (accept self.old.config edit.now) (λ fault. result ≡ Err fault) }
         ensures err { OnErr result (self.new ≡ self.old) }
@@ -77,8 +88,7 @@ impl Target {
     /// `Memory` included, the target is as it was.
     pub fn open(&mut self, port: u16) -> Result<usize, OpenFault>
         ensures refused { MatchOption (open_fault self.old port) (IsOkUnless result OpenFault.Memory) (λ fault. result ≡ Err fault) }
-        ensures opened { IfOk result (λ k. (free_number self.old ≡ Some k)
-            × (self.new ≡ with_connection self.old k (opened_on port))) }
+        ensures opened { IfOk result (λ k. (free_number self.old ≡ Some k) × Moves (opened port k) self.old self.new) }
         ensures err { OnErr result (self.new ≡ self.old) }
         ensures agrees { OpenAgrees port self.old result self.new }
     {
@@ -88,18 +98,15 @@ impl Target {
     /// How many bytes the connection may receive: 32,768 less those it holds, and none where it is
     /// ended or not known.
     pub fn room(&self, k: usize) -> usize
-        ensures { result ≡ room_at (connection_at self.now k) }
+        ensures { result ≡ room_at (place self.now.streams k) (place self.now.connections k) }
     {
-        match self.connections.get(k) {
-            Some(connection) => connection.room(),
-            None => 0,
-        }
+        room_of(self.streams.get(k), self.connections.get(k))
     }
 
     /// Takes as many of the piece's first bytes as there is room for, and returns their number. A
     /// number that is not known is refused, and changes nothing.
     pub fn receive(&mut self, k: usize, piece: &[u8]) -> Result<usize, NoConn>
-        ensures receives { ReceivesAt k (connection_at self.old k) self.old piece.now result self.new }
+        ensures receives { ReceivesAt k (place self.old.streams k) (place self.old.connections k) self.old piece.now result self.new }
         ensures agrees { ReceiveAgrees k piece.now self.old result self.new }
     {
         self.take_in(k, piece)
@@ -108,7 +115,7 @@ impl Target {
     /// Takes one PDU of the connection's stream, or the fault in its place. After a refusal, `Memory`
     /// included, and after Idle, the target is as it was.
     pub fn step(&mut self, k: usize) -> Result<Stepped, StepFault>
-        ensures steps { StepsAt k (connection_at self.old k) self.old result self.new }
+        ensures steps { StepsAt k (place self.old.streams k) (place self.old.connections k) self.old result self.new }
         ensures agrees { StepAgrees k self.old result self.new }
     {
         self.take_one(k)
@@ -116,7 +123,7 @@ impl Target {
 
     /// What the connection has to send and was not taken; nothing where it is not known.
     pub fn output(&self, k: usize) -> &[u8]
-        ensures { result.now ≡ output_at (connection_at self.now k) }
+        ensures { result.now ≡ output_at (place self.now.connections k) }
     {
         match self.connections.get(k) {
             Some(connection) => connection.output(),
@@ -125,9 +132,10 @@ impl Target {
     }
 
     /// Takes the first `len` bytes of the connection's output away.
+    #[tactic(auto, using(crate::proofs::Calls::taken_keeps))]
     pub fn taken(&mut self, k: usize, len: usize)
-        requires { len ≤ length (output_at (connection_at self.old k)) }
-        ensures taken { TakenAt k (connection_at self.old k) self.old len self.new }
+        requires { len ≤ length (output_at (place self.old.connections k)) }
+        ensures taken { TakenAt k (place self.old.connections k) self.old len self.new }
         ensures agrees { TakenAgrees k len self.old self.new }
     {
         self.take_out(k, len);
@@ -136,7 +144,7 @@ impl Target {
     /// Whether the connection is known and ended: nothing more is taken of its stream or added to its
     /// output.
     pub fn ended(&self, k: usize) -> bool
-        ensures value { result ≡ is_ended_at (connection_at self.now k) }
+        ensures value { result ≡ is_ended_at (place self.now.connections k) }
         ensures agrees { EndedAgrees k self.now result }
     {
         self.is_ended(k)
@@ -144,43 +152,49 @@ impl Target {
 
     /// Gives the connection up, with all that is its own. Its number is free again. A number that is
     /// not known changes nothing.
+    #[tactic(auto, using(crate::proofs::Calls::end_keeps))]
     pub fn end(&mut self, k: usize)
         ensures without { self.new ≡ without_connection self.old k }
+        ensures moves { MatchOption (place self.old.connections k) (self.new ≡ self.old) (λ c. Moves (given_up k) self.old self.new) }
         ensures agrees { EndAgrees k self.old self.new }
     {
         self.give_up(k);
     }
 
+    #[tactic(auto, using(crate::proofs::Places::new_is_target))]
     fn over(alloc: Global, config: Config) -> Result<Target, AllocError>
-        ensures { IfOk result (IsNewTarget config) }
+        ensures { IfOk result (λ target. target ≡ record {
+            config = config; shown = first_shown config; streams = replicate 64 None; connections = replicate 64 None }) }
     {
         Ok(Target {
             alloc,
             view: DiscoveryView::new(alloc, &config)?,
+            streams: NumberTable::new(alloc, CONNECTIONS_MAX)?,
             connections: NumberTable::new(alloc, CONNECTIONS_MAX)?,
             config,
         })
     }
 
+    #[tactic(auto, using(crate::proofs::Places::map_is_target, crate::proofs::Moving::edit_moves))]
     fn make_edit(&mut self, edit: &Edit) -> Result<(), EditFault>
         ensures ok { OnOk result (accept self.old.config edit.now ≡ Ok self.new.config) }
-        ensures shown { OnOk result (ShowsNext self.new.config self.old.shown self.new.shown) }
-        ensures connections { OnOk result (self.new.connections ≡ edited_connections edit.now self.old.connections) }
+        ensures moves { OnOk result (Moves (edited edit.now) self.old self.new) }
         ensures accepted { OnOk (accept self.old.config edit.now) (IsOkUnless result EditFault.Memory) }
         ensures refused { IfErr (accept self.old.config edit.now) (λ fault. result ≡ Err fault) }
         ensures err { OnErr result (self.new ≡ self.old) }
     {
         self.config.check(edit)?;
-        let plan = self.view.prepare(&self.config, edit)?;
-        let change = self.config.prepare(edit)?;
-        self.config.commit(change);
+        let Ok(plan) = self.view.prepare(&self.config, edit) else {
+            return Err(EditFault::Memory);
+        };
+        self.config.apply(edit)?;
         self.view.commit(plan);
-        edit_connections(&mut self.connections, edit);
+        end_connections(&mut self.connections, &Ending::of_edit(edit));
         Ok(())
     }
 
     fn is_ended(&self, k: usize) -> bool
-        ensures { result ≡ is_ended_at (connection_at self.now k) }
+        ensures { result ≡ is_ended_at (place self.now.connections k) }
     {
         match self.connections.get(k) {
             Some(connection) => connection.is_ended(),
@@ -188,11 +202,10 @@ impl Target {
         }
     }
 
-    #[tactic(auto, using(number_table::proofs::Tables::laws))]
+    #[tactic(auto, using(crate::proofs::Places::stream_free, crate::proofs::Places::open_is_target, number_table::proofs::Tables::laws, crate::proofs::Moving::open_moves))]
     fn open_on(&mut self, port: u16) -> Result<usize, OpenFault>
         ensures refused { MatchOption (open_fault self.old port) (IsOkUnless result OpenFault.Memory) (λ fault. result ≡ Err fault) }
-        ensures opened { IfOk result (λ k. (free_number self.old ≡ Some k)
-            × (self.new ≡ with_connection self.old k (opened_on port))) }
+        ensures opened { IfOk result (λ k. (free_number self.old ≡ Some k) × Moves (opened port k) self.old self.new) }
         ensures err { OnErr result (self.new ≡ self.old) }
     {
         if self.config.port(port).is_none() {
@@ -201,74 +214,130 @@ impl Target {
         let Some(k) = self.connections.least_free() else {
             return Err(OpenFault::Full);
         };
-        match Connection::new(self.alloc, port) {
-            Ok(connection) => {
-                self.connections.put(k, connection);
+        match Stream::new(self.alloc) {
+            Ok(stream) => {
+                self.streams.put(k, stream);
+                self.connections.put(k, Connection::new(self.alloc, port));
                 Ok(k)
             }
             Err(AllocError) => Err(OpenFault::Memory),
         }
     }
 
+    #[tactic(auto, using(crate::proofs::Places::stream_is_target))]
     fn take_in(&mut self, k: usize, piece: &[u8]) -> Result<usize, NoConn>
-        ensures { ReceivesAt k (connection_at self.old k) self.old piece.now result self.new }
+        ensures { ReceivesAt k (place self.old.streams k) (place self.old.connections k) self.old piece.now result self.new }
     {
-        match self.connections.get_mut(k) {
-            Some(connection) => Ok(connection.receive(piece)),
-            None => Err(NoConn),
+        let Some(connection) = self.connections.get(k) else {
+            return Err(NoConn);
+        };
+        let Some(stream) = self.streams.get_mut(k) else {
+            return Err(NoConn);
+        };
+        if connection.is_ended() {
+            return Ok(0);
         }
+        Ok(stream.receive(piece))
     }
 
     fn take_one(&mut self, k: usize) -> Result<Stepped, StepFault>
-        ensures { StepsAt k (connection_at self.old k) self.old result self.new }
+        ensures { StepsAt k (place self.old.streams k) (place self.old.connections k) self.old result self.new }
     {
-        let free = self.free_for(k);
-        match self.connections.get_mut(k) {
-            Some(connection) => match connection.step(self.alloc, &self.view, free) {
-                Ok(stepped) => Ok(stepped),
-                Err(AllocError) => Err(StepFault::Memory),
-            },
-            None => Err(StepFault::NoConn),
+        let Some(stream) = self.streams.get(k) else {
+            return Err(StepFault::NoConn);
+        };
+        let Some(connection) = self.connections.get(k) else {
+            return Err(StepFault::NoConn);
+        };
+        if connection.is_ended() {
+            return Ok(Stepped::Idle);
         }
-    }
-
-    // The identifier that is free, where the connection's next PDU may make a controller: else it is not
-    // looked for.
-    fn free_for(&self, k: usize) -> Option<u16>
-        ensures { FreeFor (connection_at self.now k) (free_cntlid (session_at self.now)) result }
-    {
-        match self.connections.get(k) {
-            Some(connection) if connection.session().awaits_connect() => {
-                free_cntlid(&self.connections)
+        let front = stream.peek();
+        if let Cut::More = front {
+            return Ok(Stepped::Idle);
+        }
+        let pages = Pages {
+            discovery: &self.view,
+        };
+        let world = World {
+            pages: &pages,
+            connections: &self.connections,
+        };
+        let decision = decide(&world, connection.conversation(), &front);
+        match act(&mut self.connections, k, self.alloc, &pages, &decision, &front) {
+            Ok(()) => {
+                let len = taken_of(&front);
+                consume(&mut self.streams, k, len);
+                Ok(stepped(&decision))
             }
-            _ => None,
+            Err(AllocError) => Err(StepFault::Memory),
         }
     }
 
+    #[tactic(auto, using(crate::proofs::Places::connection_is_target))]
     fn take_out(&mut self, k: usize, len: usize)
-        requires { len ≤ length (output_at (connection_at self.old k)) }
-        ensures { TakenAt k (connection_at self.old k) self.old len self.new }
+        requires { len ≤ length (output_at (place self.old.connections k)) }
+        ensures { TakenAt k (place self.old.connections k) self.old len self.new }
     {
         if let Some(connection) = self.connections.get_mut(k) {
             connection.taken(len);
         }
     }
 
+    #[tactic(auto, using(crate::proofs::Places::end_is_target, crate::proofs::Calls::gives_up))]
     fn give_up(&mut self, k: usize)
-        ensures { self.new ≡ without_connection self.old k }
+        ensures without { self.new ≡ without_connection self.old k }
+        ensures moves { MatchOption (place self.old.connections k) (self.new ≡ self.old) (λ c. Moves (given_up k) self.old self.new) }
     {
+        drop(self.streams.remove(k));
         drop(self.connections.remove(k));
     }
 }
 
-// Ends the connections of a port that the edit deletes.
-#[tactic(auto, using(number_table::proofs::Walks::walks))]
-fn edit_connections(connections: &mut NumberTable<Connection>, edit: &Edit)
-    ensures { connections.new ≡ map (option_map (edited_by edit.now)) connections.old }
+fn room_of(stream: Option<&Stream>, connection: Option<&Connection>) -> usize
+    ensures { result ≡ room_at (option_copied stream.entry) (option_copied connection.entry) }
 {
-    for k in 0..connections.places() {
-        if let Some(connection) = connections.get_mut(k) {
-            connection.edited(edit);
-        }
+    match (stream, connection) {
+        (Some(stream), Some(connection)) if !connection.is_ended() => stream.room(),
+        _ => 0,
+    }
+}
+
+// Does what was decided to its own connection, where that is known.
+fn act(
+    connections: &mut NumberTable<Connection>,
+    k: usize,
+    alloc: Global,
+    pages: &Pages<'_>,
+    decision: &Decision,
+    front: &Cut<'_>,
+) -> Result<(), AllocError>
+    requires { length (head_of (front_shown front.now)) ≤ 128 }
+    ensures acted { OnOk result (ActedAt k (acted (pages_in pages.now) decision.now (front_shown front.now)) (place connections.old k) connections.old connections.new) }
+    ensures err { OnErr result (connections.new ≡ connections.old) }
+{
+    match connections.get_mut(k) {
+        Some(connection) => connection.act(alloc, pages, decision, front),
+        None => Ok(()),
+    }
+}
+
+// Takes the first `len` bytes of its own stream, where that is known.
+fn consume(streams: &mut NumberTable<Stream>, k: usize, len: usize)
+    requires { CanConsume len (place streams.old k) }
+    ensures { ActedAt k (drop len) (place streams.old k) streams.old streams.new }
+{
+    if let Some(stream) = streams.get_mut(k) {
+        stream.consume(len);
+    }
+}
+
+fn stepped(decision: &Decision) -> Stepped
+    ensures { result ≡ stepped_by (is_end decision.now) }
+{
+    if decision.is_end() {
+        Stepped::Ended
+    } else {
+        Stepped::One
     }
 }

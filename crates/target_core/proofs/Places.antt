@@ -1,0 +1,116 @@
+-- A target has a stream for each connection that is known: what keeps that.
+use Rattle.std.proofs.Common.{◌≡◌, ℕ, ◌<◌, Bool, true, false, List, [], length, map, replicate, Option, Some, None, refl, sym, ap, ◌∙◌, arith}
+use Rattle.std.specs.Prelude.{if◌then◌else◌, ◌==◌, is_none, position}
+use Rattle.std.specs.Option.{option_map}
+use Rattle.std.proofs.lemmas.Bool.{eqb-true}
+use Rattle.number_table.specs.Table.{place, with_value, without}
+use Rattle.number_table.proofs.Tables.{least_free-Some, length-with_value, length-without, place_within, place-map, place-replicate, place-with_value, place-without}
+use Rattle.nvt_config.specs.Configuration.{Configuration}
+use Rattle.discovery_view.specs.View.{Shown, first_shown}
+use Rattle.std.proofs.lemmas.List.{length-map}
+use Rattle.target_core.specs.Connection.{ConnectionState}
+use Rattle.target_core.specs.Target.{IsTarget, TargetState}
+
+-- the fact of the tables alone
+abbrev pub Alike : {A B : Type 0} → List (Option A) → List (Option B) → Type 0
+Alike streams connections = (k : ℕ) → is_none (place streams k) ≡ is_none (place connections k)
+
+pub new_is_target : (config : Configuration) (shown : Shown) (streams : List (Option (List ℕ))) (connections : List (Option ConnectionState))
+    → shown ≡ first_shown config → streams ≡ replicate 64 None → connections ≡ replicate 64 None
+    → IsTarget (record { config = config; shown = shown; streams = streams; connections = connections })
+new_is_target config shown streams connections first no_stream no_connection = record {
+  shows = rw first refl;
+  places = rw no_connection refl;
+  alike = λ k. ap (λ (l : List (Option (List ℕ))). is_none (place l k)) no_stream ∙ ap is_none (place-replicate 64 k)
+      ∙ sym (ap (λ (l : List (Option ConnectionState)). is_none (place l k)) no_connection ∙ ap is_none (place-replicate 64 k));
+  streams = rw no_stream refl;
+}
+
+none_alike : {A : Type 0} (o : Option A) → is_none o ≡ true → o ≡ None
+none_alike None h = refl
+none_alike (Some held) h = cc
+
+-- the least number that is free for a connection is free for its stream
+pub stream_free : (t : TargetState) (k : ℕ) → IsTarget t → position is_none t.connections ≡ Some k
+    → (place t.streams k ≡ None) × (k < length t.streams)
+stream_free t k is free =
+    let empty = least_free-Some t.connections k free in
+    (none_alike (place t.streams k) (is.alike k ∙ ap is_none empty.0), omega (arith, is.streams, is.places, empty.1))
+
+-- ---- what keeps it
+
+put_alike : {A B : Type 0} (streams : List (Option A)) (connections : List (Option B)) (k : ℕ) (a : A) (b : B) → k < length streams
+    → k < length connections → Alike streams connections → Alike (with_value streams k a) (with_value connections k b)
+put_alike streams connections k a b within_streams within alike j =
+    ap is_none (place-with_value streams k a j within_streams) ∙ here (j == k) ∙ sym (ap is_none (place-with_value connections k b j within))
+  where
+    here : (same : Bool) → is_none (if same then Some a else place streams j) ≡ is_none (if same then Some b else place connections j)
+    here true = refl
+    here false = alike j
+
+pub open_is_target : (t : TargetState) (k : ℕ) (held : List ℕ) (c : ConnectionState) → IsTarget t → position is_none t.connections ≡ Some k
+    → IsTarget (record { config = t.config; shown = t.shown; streams = with_value t.streams k held; connections = with_value t.connections k c })
+open_is_target t k held c is free =
+    let empty = least_free-Some t.connections k free in
+    record {
+      shows = is.shows;
+      places = length-with_value t.connections k c ∙ is.places;
+      alike = put_alike t.streams t.connections k held c (stream_free t k is free).1 empty.1 is.alike;
+      streams = length-with_value t.streams k held ∙ is.streams;
+    }
+
+pub end_is_target : (t : TargetState) (k : ℕ) → IsTarget t
+    → IsTarget (record { config = t.config; shown = t.shown; streams = without t.streams k; connections = without t.connections k })
+end_is_target t k is = record {
+  shows = is.shows;
+  places = length-without t.connections k ∙ is.places;
+  alike = λ j. ap is_none (place-without t.streams k j) ∙ here j (j == k) ∙ sym (ap is_none (place-without t.connections k j));
+  streams = length-without t.streams k ∙ is.streams;
+}
+  where
+    here : (j : ℕ) (same : Bool) → is_none (if same then None else place t.streams j) ≡ is_none (if same then None else place t.connections j)
+    here j true = refl
+    here j false = is.alike j
+
+value_alike : {A : Type 0} (l : List (Option A)) (k j : ℕ) (a b : A) → place l k ≡ Some b → is_none (place (with_value l k a) j) ≡ is_none (place l j)
+value_alike l k j a b known =
+    ap is_none (place-with_value l k a j (place_within l k b known)) ∙ here (j == k) refl
+  where
+    here : (same : Bool) → (j == k) ≡ same → is_none (if same then Some a else place l j) ≡ is_none (place l j)
+    here true is = sym (ap is_none (ap (place l) (eqb-true j k is) ∙ known))
+    here false is = refl
+
+-- a stream that is known changes
+pub stream_is_target : (t : TargetState) (k : ℕ) (held after : List ℕ) → IsTarget t → place t.streams k ≡ Some held
+    → IsTarget (record { config = t.config; shown = t.shown; streams = with_value t.streams k after; connections = t.connections })
+stream_is_target t k held after is known = record {
+  shows = is.shows;
+  places = is.places;
+  alike = λ j. value_alike t.streams k j after held known ∙ is.alike j;
+  streams = length-with_value t.streams k after ∙ is.streams;
+}
+
+-- a connection that is known changes
+pub connection_is_target : (t : TargetState) (k : ℕ) (c after : ConnectionState) → IsTarget t → place t.connections k ≡ Some c
+    → IsTarget (record { config = t.config; shown = t.shown; streams = t.streams; connections = with_value t.connections k after })
+connection_is_target t k c after is known = record {
+  shows = is.shows;
+  places = length-with_value t.connections k after ∙ is.places;
+  alike = λ j. is.alike j ∙ sym (value_alike t.connections k j after c known);
+  streams = is.streams;
+}
+
+mapped_none : {A : Type 0} (f : A → A) (o : Option A) → is_none (option_map f o) ≡ is_none o
+mapped_none f None = refl
+mapped_none f (Some a) = refl
+
+-- all connections change
+pub map_is_target : (t : TargetState) (config : Configuration) (shown : Shown) (f : ConnectionState → ConnectionState) → IsTarget t
+    → shown.now ≡ config
+    → IsTarget (record { config = config; shown = shown; streams = t.streams; connections = map (option_map f) t.connections })
+map_is_target t config shown f is shows = record {
+  shows = shows;
+  places = length-map t.connections (option_map f) ∙ is.places;
+  alike = λ k. is.alike k ∙ sym (ap is_none (place-map f t.connections k) ∙ mapped_none f (place t.connections k));
+  streams = is.streams;
+}

@@ -1,0 +1,91 @@
+-- What an event makes of a target, place by place.
+use Rattle.std.specs.Prelude.{◌≡◌, ◌≤◌, ℕ, Bool, length, true, false, List, [], Option, Some, None, Result, Ok, Err, MatchResult, ◌++◌, drop, if◌then◌else◌}
+use Rattle.std.specs.Option.{option_map}
+use Rattle.discovery_view.specs.View.{Shown, shown_next}
+use Rattle.number_table.specs.Table.{place, with_value}
+use Rattle.nvt_config.specs.Configuration.{Configuration}
+use Rattle.pdu_cut.specs.declared.side.Side.TheVariants.{Target}
+use Rattle.pdu_cut.specs.Front.{Front, front}
+use Rattle.target_core.specs.declared.fault.StepFault.{StepFault}
+use Rattle.target_core.specs.declared.fault.StepFault.TheVariants.{NoConn, Memory}
+use Rattle.target_core.specs.declared.fault.Stepped.{Stepped}
+use Rattle.target_core.specs.declared.fault.Stepped.TheVariants.{Idle, One, Ended}
+use Rattle.target_core.specs.Connection.{ConnectionState, fresh_on}
+use Rattle.target_core.specs.Target.{TargetState, is_idle, is_incomplete, meets}
+use Rattle.target_decision.specs.Decision.{taken_of}
+use Rattle.target_history.specs.Event.{Event, edited, front_in, gives_up, opened, opens, port_in, takes, took, given_up}
+use Rattle.target_history.specs.Happening.{Happening, conversation_moved, sends, terminates}
+use Rattle.target_history.specs.History.{config_after}
+
+-- what a view shows after an event, with the configuration after it
+abbrev pub shown_after : Event → Configuration → Shown → Shown
+shown_after (edited edit) c shown = shown_next c shown
+shown_after (opened port n) c shown = shown
+shown_after (took n found) c shown = shown
+shown_after (given_up n) c shown = shown
+
+abbrev pub connection_moved : Happening → ℕ → ConnectionState → ConnectionState
+connection_moved x k c = record { conversation = conversation_moved x k c.conversation; output = c.output ++ sends x k }
+
+abbrev pub connection_after : Happening → ℕ → Option ConnectionState → Option ConnectionState
+connection_after x k o =
+    if opens x.event k then Some (fresh_on (port_in x.event)) else
+    if gives_up x.event k then None else option_map (connection_moved x k) o
+
+abbrev pub stream_moved : Event → ℕ → List ℕ → List ℕ
+stream_moved event k held = if takes event k then drop (taken_of (front_in event)) held else held
+
+abbrev pub stream_after : Event → ℕ → Option (List ℕ) → Option (List ℕ)
+stream_after event k o =
+    if opens event k then Some [] else
+    if gives_up event k then None else option_map (stream_moved event k) o
+
+-- a step takes what stands at the front of its stream
+abbrev pub StandsIn : Front → Option (List ℕ) → Type 0
+StandsIn found None = ⊥
+StandsIn found (Some held) = (front Target held ≡ found) × (is_incomplete found ≡ false)
+
+abbrev pub Stands : Event → TargetState → Type 0
+Stands (took n found) t = StandsIn found (place t.streams n)
+Stands (edited edit) t = Unit {0}
+Stands (opened port n) t = Unit {0}
+Stands (given_up n) t = Unit {0}
+
+pub record Moves (event : Event) (old new : TargetState) : Type 0 where
+  pub stands : Stands event old
+  pub config : new.config ≡ config_after event old.config
+  pub shown : new.shown ≡ shown_after event new.config old.shown
+  pub connection : (k : ℕ) → place new.connections k ≡ connection_after (meets old event) k (place old.connections k)
+  pub stream : (k : ℕ) → place new.streams k ≡ stream_after event k (place old.streams k)
+
+-- ---- the parts of a step
+
+module _ {T : Type 0} where
+  -- what stands at k is changed so, where something does
+  abbrev pub ActedAt : ℕ → (T → T) → Option T → List (Option T) → List (Option T) → Type 0
+  ActedAt k f None old new = new ≡ old
+  ActedAt k f (Some c) old new = new ≡ with_value old k (f c)
+
+abbrev pub CanConsume : ℕ → Option (List ℕ) → Type 0
+CanConsume len None = Unit {0}
+CanConsume len (Some held) = len ≤ length held
+
+abbrev pub stepped_by : Bool → Stepped
+stepped_by ended = if ended then Ended else One
+
+-- a step of a connection that holds these bytes: its answer says whether it ended the connection
+abbrev pub StepsBy : ℕ → List ℕ → ConnectionState → Stepped → TargetState → TargetState → Type 0
+StepsBy k held c Idle old new = (is_idle held c ≡ true) × (new ≡ old)
+StepsBy k held c One old new =
+    (is_idle held c ≡ false) × Moves (took k (front Target held)) old new
+    × (terminates (meets old (took k (front Target held))) k ≡ false)
+StepsBy k held c Ended old new =
+    (is_idle held c ≡ false) × Moves (took k (front Target held)) old new
+    × (terminates (meets old (took k (front Target held))) k ≡ true)
+
+-- a step of connection k: NoConn where none is known, and else its own, which memory alone refuses
+abbrev pub StepsAt : ℕ → Option (List ℕ) → Option ConnectionState → TargetState → Result Stepped StepFault → TargetState → Type 0
+StepsAt k None o old result new = (result ≡ Err NoConn) × (new ≡ old)
+StepsAt k (Some held) None old result new = (result ≡ Err NoConn) × (new ≡ old)
+StepsAt k (Some held) (Some c) old result new =
+    MatchResult result (λ stepped. StepsBy k held c stepped old new) (λ fault. (fault ≡ Memory) × (new ≡ old))

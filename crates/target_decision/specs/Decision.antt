@@ -1,0 +1,139 @@
+-- What is owed to a PDU, and what a decision sends.
+use Rattle.std.specs.Prelude.{ℕ, ◌*◌, nat_lt, not, ◌==◌, List, slice_range, [], ◌++◌, length, Option, Some, None, Bool, true, false, if◌then◌else◌}
+use Rattle.nvt_fields.specs.FatalErrorStatus.{fatal_code_of}
+use Rattle.nvt_fields.specs.declared.pdu_type.PduType.{PduType}
+use Rattle.nvt_fields.specs.declared.pdu_type.PduType.TheVariants.{IcReq, H2cTermReq, CapsuleCmd, H2cData}
+use Rattle.nvt_fields.specs.declared.termination.FatalErrorStatus.{FatalErrorStatus}
+use Rattle.nvt_fields.specs.declared.termination.FatalErrorStatus.TheVariants.{InvalidHeaderField, SequenceError, LimitExceeded, UnsupportedParameter}
+use Rattle.nvt_fields.specs.Window.{window}
+use Rattle.pdu_codec.specs.declared.initialize.IcReq as ic_req
+use Rattle.pdu_codec.specs.C2hData.{c2h_data}
+use Rattle.pdu_codec.specs.CapsuleResp.{capsule_resp}
+use Rattle.pdu_codec.specs.Initialize.{ic_resp, ic_req_of}
+use Rattle.pdu_codec.specs.Sqe.{cid_of}
+use Rattle.pdu_codec.specs.TermReq.{c2h_term_req}
+use Rattle.pdu_cut.specs.Front.{Front, incomplete, whole, faulty}
+use Rattle.pdu_cut.specs.Pdu.{Pdu, header_part, data_part}
+use Rattle.target_decision.specs.declared.decision.Decision.{Decision}
+use Rattle.target_decision.specs.declared.decision.Decision.TheVariants as decision
+use Rattle.target_decision.specs.declared.decision.Reply.{Reply}
+use Rattle.target_decision.specs.declared.page.PagePart.{PagePart}
+use Rattle.target_decision.specs.declared.session.Conversation.{Conversation}
+use Rattle.target_decision.specs.declared.session.Session.{Session}
+use Rattle.target_decision.specs.declared.session.Session.TheVariants.{Opened, Initialized, Admin, Ended}
+use Rattle.target_decision.specs.Capsule.{command, reply_of}
+use Rattle.target_decision.specs.Connect.{host_named}
+use Rattle.target_decision.specs.Session.{host_of}
+use Rattle.target_decision.specs.World.{Pages, World, page_named}
+
+-- ---- what is owed to a PDU (TCP Transport 1.0, section 3.6; Base 2.0, sections 5 and 6)
+
+abbrev pub terminate : FatalErrorStatus → ℕ → Decision
+terminate fes fei = decision.Terminate (record { fes = fes; fei = fei })
+
+-- an ICReq that comes first: until transfers are built, no alignment of data may be asked for
+abbrev pub initialize : ic_req.IcReq → Decision
+initialize request =
+    if not (request.pfv == 0) then terminate UnsupportedParameter 8 else
+    if not (request.hpda == 0) then terminate InvalidHeaderField 10 else decision.Initialize
+
+-- the first PDU of a connection
+abbrev pub first_by : PduType → Pdu → Decision
+first_by IcReq pdu = initialize (ic_req_of (header_part pdu))
+first_by H2cTermReq pdu = decision.Close
+first_by _ pdu = terminate SequenceError 0
+
+-- the submission queue entry of a capsule
+abbrev pub entry_of : Pdu → List ℕ
+entry_of pdu = slice_range (header_part pdu) 8 72
+
+-- a capsule, with at most 8,192 bytes of data
+abbrev pub capsule : World → Session → Pdu → Decision
+capsule w session pdu =
+    if nat_lt 8192 (length (data_part pdu)) then terminate LimitExceeded 0 else
+    decision.Reply (reply_of session (cid_of (entry_of pdu)) (command w session (entry_of pdu) (data_part pdu)))
+
+-- a PDU after the first; no command that is built asks for data, so no H2CData has a known TTAG
+abbrev pub next_by : PduType → World → Session → Pdu → Decision
+next_by H2cTermReq w session pdu = decision.Close
+next_by CapsuleCmd w session pdu = capsule w session pdu
+next_by H2cData w session pdu = terminate InvalidHeaderField 10
+next_by _ w session pdu = terminate SequenceError 0
+
+-- a whole PDU
+abbrev pub decide_pdu : World → Session → Pdu → Decision
+decide_pdu w Opened pdu = first_by pdu.kind pdu
+decide_pdu w Initialized pdu = next_by pdu.kind w Initialized pdu
+decide_pdu w (Admin controller queue) pdu = next_by pdu.kind w (Admin controller queue) pdu
+decide_pdu w Ended pdu = decision.Close
+
+-- what stands at the front of a connection's stream
+abbrev pub decide : World → Conversation → Front → Decision
+decide w v incomplete = decision.Close
+decide w v (whole pdu) = decide_pdu w v.session pdu
+decide w v (faulty fault head) = terminate fault.fes fault.fei
+
+-- whether a decision ends the connection
+abbrev pub is_end : Decision → Bool
+is_end decision.Initialize = false
+is_end (decision.Reply r) = false
+is_end (decision.Terminate t) = true
+is_end decision.Close = true
+
+-- ---- what a decision sends
+
+-- the data of a reply: its part of a page
+abbrev pub part_of : Pages → List ℕ → Option PagePart → List ℕ
+part_of pages host None = []
+part_of pages host (Some part) = window (page_named part.page pages host) part.offset (4 * part.dwords)
+
+-- the data that a decision returns in a session
+abbrev pub data_of : Pages → Session → Decision → List ℕ
+data_of pages session (decision.Reply r) = part_of pages (host_of session) r.«data»
+data_of pages session decision.Initialize = []
+data_of pages session (decision.Terminate t) = []
+data_of pages session decision.Close = []
+
+-- the data of a reply, whole in one PDU, where it has data
+abbrev pub data_pdu : ℕ → Option PagePart → List ℕ → List ℕ
+data_pdu cid None payload = []
+data_pdu cid (Some part) payload = c2h_data (record { cid = cid; offset = 0; last = true; hpda = 0; payload = payload })
+
+abbrev pub response_of : Reply → List ℕ
+response_of r = capsule_resp (record { result = r.result; sqhd = r.sqhd; cid = r.cid; status = r.status })
+
+-- The bytes that a decision sends: head is the header of the PDU that was decided on, or its first
+-- bytes, and payload the data that the reply returns.
+abbrev pub wire_of : Decision → List ℕ → List ℕ → List ℕ
+wire_of decision.Initialize head payload = ic_resp (record { pfv = 0; cpda = 0; dgst = 0; maxh2cdata = 16384 })
+wire_of (decision.Reply r) head payload = data_pdu r.cid r.«data» payload ++ response_of r
+wire_of (decision.Terminate t) head payload = c2h_term_req (fatal_code_of t.fes) t.fei head
+wire_of decision.Close head payload = []
+
+-- what a termination returns of the PDU in error: its header, or the 8 bytes that are faulty
+abbrev pub head_of : Front → List ℕ
+head_of incomplete = []
+head_of (whole pdu) = header_part pdu
+head_of (faulty fault head) = head
+
+-- the bytes that a decision sends in a session, on what stands at the front
+abbrev pub sent_by : Pages → Session → Decision → Front → List ℕ
+sent_by pages session d front = wire_of d (head_of front) (data_of pages session d)
+
+-- ---- what else a step takes of the front
+
+abbrev pub is_command : PduType → Bool
+is_command CapsuleCmd = true
+is_command _ = false
+
+-- the host that a capsule names, where it is a Connect
+abbrev pub host_in : Front → List ℕ
+host_in (whole pdu) = if is_command pdu.kind then host_named (entry_of pdu) (data_part pdu) else []
+host_in incomplete = []
+host_in (faulty fault head) = []
+
+-- how many bytes a step takes: the PDU at the front
+abbrev pub taken_of : Front → ℕ
+taken_of incomplete = 0
+taken_of (whole pdu) = length pdu.bytes
+taken_of (faulty fault head) = 0

@@ -1,0 +1,18 @@
+-- The submission queue that a Connect made (Base 2.0, section 3.3.3.2).
+use Rattle.std.specs.Prelude.{ℕ, ◌+◌, nat_le, if◌then◌else◌}
+use Rattle.target_decision.specs.declared.decision.Admission.{Admission}
+use Rattle.target_decision.specs.declared.queue.Queue.{Queue}
+
+-- the queue before the response to its Connect
+abbrev pub new_queue : Admission → Queue
+new_queue a = record { sqsize = a.sqsize; head = 0 }
+
+-- the submission queue head after one more response: it goes round behind the queue's size
+abbrev pub next_head : ℕ → ℕ → ℕ
+next_head sqsize head = if nat_le sqsize head then 0 else head + 1
+
+abbrev pub next_head_of : Queue → ℕ
+next_head_of q = next_head q.sqsize q.head
+
+abbrev pub responded : Queue → Queue
+responded q = record q { head = next_head_of q }

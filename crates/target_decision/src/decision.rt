@@ -1,0 +1,140 @@
+//! What a PDU leads to, as a value: decided by looking alone, before anything changes.
+ghost use Rattle.std.specs.Prelude.{◌≡◌};
+ghost use Rattle.pdu_cut.specs.Cut.{front_shown};
+ghost use Rattle.target_decision.specs.Decision.{decide, decide_pdu, first_by, initialize, is_end, next_by, terminate};
+ghost use Rattle.target_decision.specs.World.{world_in};
+
+use crate::capsule;
+use crate::page::PagePart;
+use crate::session::{Conversation, Session};
+use crate::world::{Converses, World};
+use nvt_fields::{FatalErrorStatus, PduType, Status};
+use pdu_codec::IcReq;
+use pdu_cut::{Cut, PduView};
+
+/// What is owed to a PDU.
+#[derive(Clone, Copy, Debug, PartialEq, Eq)]
+pub enum Decision {
+    /// The connection is initialized, and an ICResp says so.
+    Initialize,
+    /// A command is answered.
+    Reply(Reply),
+    /// The connection is ended by a C2HTermReq.
+    Terminate(Termination),
+    /// The host asked for termination: the connection is ended, and nothing is sent.
+    Close,
+}
+
+impl Decision {
+    /// Whether it ends the connection.
+    pub fn is_end(&self) -> bool
+        ensures { result ≡ is_end self.now }
+    {
+        matches!(self, Decision::Terminate(_) | Decision::Close)
+    }
+}
+
+/// Why a connection is terminated (TCP Transport 1.0, section 3.6).
+#[derive(Clone, Copy, Debug, PartialEq, Eq)]
+pub struct Termination {
+    pub fes: FatalErrorStatus,
+    /// The offset of the field in error, where the status asks for one.
+    pub fei: u32,
+}
+
+/// The answer to a command, and what it changes.
+#[derive(Clone, Copy, Debug, PartialEq, Eq)]
+pub struct Reply {
+    pub cid: u16,
+    /// Submission queue head.
+    pub sqhd: u16,
+    pub status: Status,
+    pub result: u64,
+    pub data: Option<PagePart>,
+    pub change: Change,
+}
+
+/// What a reply changes beside the count of responses.
+#[derive(Clone, Copy, Debug, PartialEq, Eq)]
+pub enum Change {
+    Stay,
+    /// A Connect makes a controller and its queue.
+    Begin(Admission),
+    /// A Property Set gives this value to Controller Configuration.
+    Configure(u32),
+}
+
+/// The controller and the queue that a Connect gets.
+#[derive(Clone, Copy, Debug, PartialEq, Eq)]
+pub struct Admission {
+    pub cntlid: u16,
+    /// The size of the submission queue, 0's based: 1 to 63.
+    pub sqsize: u16,
+}
+
+/// What is owed to what stands at the front of a connection's stream.
+pub fn decide<T: Converses>(
+    world: &World<'_, T>,
+    conversation: &Conversation,
+    front: &Cut<'_>,
+) -> Decision
+    ensures { result ≡ decide (world_in T.conversation_of world.now.pages.now world.now.connections.now) conversation.now (front_shown front.now) }
+{
+    match front {
+        Cut::More => Decision::Close,
+        Cut::Pdu(pdu) => decide_pdu(world, &conversation.session, pdu),
+        Cut::Fault { fes, fei, .. } => terminate(*fes, *fei),
+    }
+}
+
+fn decide_pdu<T: Converses>(world: &World<'_, T>, session: &Session, pdu: &PduView<'_>) -> Decision
+    ensures { result ≡ decide_pdu (world_in T.conversation_of world.now.pages.now world.now.connections.now) session.now pdu.now }
+{
+    match session {
+        Session::Opened => first(pdu),
+        Session::Initialized | Session::Admin { .. } => next(world, session, pdu),
+        Session::Ended => Decision::Close,
+    }
+}
+
+// The first PDU: an ICReq, or the host gives up.
+fn first(pdu: &PduView<'_>) -> Decision
+    ensures { result ≡ first_by pdu.now.kind pdu.now }
+{
+    match pdu.kind() {
+        PduType::IcReq => initialize(&IcReq::read(pdu.header())),
+        PduType::H2cTermReq => Decision::Close,
+        _ => terminate(FatalErrorStatus::SequenceError, 0),
+    }
+}
+
+fn next<T: Converses>(world: &World<'_, T>, session: &Session, pdu: &PduView<'_>) -> Decision
+    ensures { result ≡ next_by pdu.now.kind (world_in T.conversation_of world.now.pages.now world.now.connections.now) session.now pdu.now }
+{
+    match pdu.kind() {
+        PduType::H2cTermReq => Decision::Close,
+        PduType::CapsuleCmd => capsule::decide(world, session, pdu),
+        // No command of an admin queue asks for data by R2T, so no TTAG is known.
+        PduType::H2cData => terminate(FatalErrorStatus::InvalidHeaderField, 10),
+        _ => terminate(FatalErrorStatus::SequenceError, 0),
+    }
+}
+
+// Until transfers are built, a host may ask for no alignment of data.
+fn initialize(request: &IcReq) -> Decision
+    ensures { result ≡ initialize request.now }
+{
+    if request.pfv != 0 {
+        return terminate(FatalErrorStatus::UnsupportedParameter, 8);
+    }
+    if request.hpda != 0 {
+        return terminate(FatalErrorStatus::InvalidHeaderField, 10);
+    }
+    Decision::Initialize
+}
+
+pub(crate) fn terminate(fes: FatalErrorStatus, fei: u32) -> Decision
+    ensures { result ≡ terminate fes fei }
+{
+    Decision::Terminate(Termination { fes, fei })
+}

@@ -1,0 +1,4 @@
+pub mod Ending
+pub mod Event
+pub mod Happening
+pub mod History

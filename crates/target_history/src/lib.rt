@@ -1,0 +1,9 @@
+//! What happens to a target, and what a history of events makes of it: definitions that look back
+//! over all that happened, in `specs/`, and laws of them. What ends connections from elsewhere is a
+//! type that the target's code shares.
+#![tactic(auto)]
+
+mod ending;
+pub mod laws;
+
+pub use ending::Ending;
