@@ -1,12 +1,13 @@
 -- A target that moves by an event agrees with the history that is longer by it.
 use Rattle.std.proofs.Common.{◌≡◌, ℕ, ◌+◌, ◌%◌, ◌^◌, ◌<◌, Bool, true, false, ◌||◌, ◌&&◌, List, [], ◌∷◌, ◌++◌, length, take, drop, Option, Some, None, Result, Ok, Err, refl, sym, ap, ◌∙◌, append_assoc, take-append-drop}
 use Rattle.std.proofs.Math.Path.{fun_ext}
-use Rattle.std.proofs.Math.Nat.{add-mod-mod}
 use Rattle.std.proofs.lemmas.Bool.{eqb-true}
 use Rattle.std.specs.Prelude.{if◌then◌else◌, ◌==◌, MatchOption, MatchResult}
 use Rattle.std.specs.Option.{option_map}
-use Rattle.discovery_view.specs.View.{Shown, changes_records, changes_until, count_in, page_in, shown_next}
-use Rattle.nvt_config.specs.Configuration.{Configuration}
+use Rattle.discovery_view.specs.Records.{records_of}
+use Rattle.discovery_view.specs.View.{Shown, ShowsNext, count_in, page_in, records_in}
+use Rattle.discovery_view.proofs.Counts.{count_goes_on}
+use Rattle.nvt_config.specs.Configuration.{Configuration, disks_alone}
 use Rattle.nvt_config.specs.declared.edit.Edit.{Edit}
 use Rattle.nvt_config.specs.declared.fault.EditFault.{EditFault}
 use Rattle.number_table.specs.Table.{place}
@@ -20,8 +21,8 @@ use Rattle.pdu_cut.proofs.Streams.{begins_with_none, begins_with-append, begins_
 use Rattle.target_core.specs.Agreement.{Agrees, AgreesAfter, AgreesStill, AgreesWith, OutputAgrees, StandsAt, StreamAgrees, left, nothing}
 use Rattle.target_core.specs.Connection.{ConnectionState, fresh_on}
 use Rattle.target_decision.specs.Session.{opened_on}
-use Rattle.target_core.specs.Moves.{Moves, Stands, StandsIn, connection_after, connection_moved, shown_after, stream_after}
-use Rattle.target_core.specs.Target.{TargetState, conversation_at, is_incomplete, meets, new_target, world_at}
+use Rattle.target_core.specs.Moves.{Moves, Stands, StandsIn, connection_after, connection_moved, ShowsAfter, stream_after}
+use Rattle.target_core.specs.Target.{TargetState, conversation_at, is_incomplete, meets, IsNewTarget, world_at}
 use Rattle.target_decision.specs.declared.session.Conversation.{Conversation}
 use Rattle.target_decision.specs.Decision.{taken_of}
 use Rattle.target_decision.specs.World.{Pages, World}
@@ -43,31 +44,25 @@ worlds_same v w pages conversations =
 pub world_agrees : (t : TargetState) (units : List ℕ) (before : List Happening) (received taken : ℕ → List ℕ)
     → AgreesWith t units before received taken → world_at t ≡ world_of units before
 world_agrees t units before received taken agrees =
-    worlds_same (world_at t) (world_of units before) (λ host. rw (agrees.counts host, agrees.shown) refl) agrees.conversation
+    worlds_same (world_at t) (world_of units before) (λ host. rw (agrees.counts host, agrees.records host) refl) agrees.conversation
 
 -- ---- the discovery view
 
--- one more change, counted round
-count_more : (x a b : ℕ) → a % 2 ^ 64 ≡ b % 2 ^ 64 → (x + a) % 2 ^ 64 ≡ (x + b) % 2 ^ 64
-count_more x a b h =
-    sym (add-mod-mod x a (2 ^ 64)) ∙ ap (λ (y : ℕ). (x + y) % 2 ^ 64) h ∙ add-mod-mod x b (2 ^ 64)
+counts_step : (event : Event) (old new : Shown) (c : Configuration) (n : ℕ) (host : List ℕ) → ShowsAfter event (config_after event c) old new
+    → records_in old host ≡ records_of c host → count_in old host ≡ n % 2 ^ 64
+    → count_in new host ≡ generation_after event c host n % 2 ^ 64
+counts_step (edited edit) old new c n host shows records counts =
+    shows.counts host ∙ rw (shows.records host, records, counts) (sym (count_goes_on c (config_after (edited edit) c) host n))
+counts_step (opened port k) old new c n host shows records counts = rw shows counts
+counts_step (took k found) old new c n host shows records counts = rw shows counts
+counts_step (given_up k) old new c n host shows records counts = rw shows counts
 
-counts_step : (event : Event) (shown : Shown) (c : Configuration) (n : ℕ) (host : List ℕ) → shown.now ≡ c
-    → count_in shown host ≡ n % 2 ^ 64
-    → count_in (shown_after event (config_after event c) shown) host ≡ generation_after event c host n % 2 ^ 64
-counts_step (edited edit) shown c n host now counts =
-    let next = config_after (edited edit) c in
-    rw now (count_more (changes_records c next host) (changes_until c shown.past host) n (rw now at counts))
-counts_step (opened port k) shown c n host now counts = counts
-counts_step (took k found) shown c n host now counts = counts
-counts_step (given_up k) shown c n host now counts = counts
-
-now_step : (event : Event) (shown : Shown) (c : Configuration) → shown.now ≡ c
-    → (shown_after event (config_after event c) shown).now ≡ config_after event c
-now_step (edited edit) shown c now = refl
-now_step (opened port k) shown c now = now
-now_step (took k found) shown c now = now
-now_step (given_up k) shown c now = now
+records_step : (event : Event) (old new : Shown) (c : Configuration) (host : List ℕ) → ShowsAfter event (config_after event c) old new
+    → records_in old host ≡ records_of c host → records_in new host ≡ records_of (config_after event c) host
+records_step (edited edit) old new c host shows records = shows.records host
+records_step (opened port k) old new c host shows records = rw shows records
+records_step (took k found) old new c host shows records = rw shows records
+records_step (given_up k) old new c host shows records = rw shows records
 
 -- ---- connections
 
@@ -147,13 +142,12 @@ moves_agree event old new moves = record {
       let met : meets old event ≡ x = ap (λ (w : World). let y : Happening = record { event = event; world = w } in y)
           (world_agrees old units before received taken agrees) in
       let config : new.config ≡ config_after event (config_of units before) = moves.config ∙ ap (config_after event) agrees.config in
-      let shown : new.shown ≡ shown_after event (config_after event (config_of units before)) old.shown =
-          moves.shown ∙ ap (λ (c : Configuration). shown_after event c old.shown) config in
+      let shows : ShowsAfter event (config_after event (config_of units before)) old.shown new.shown = rw config at moves.shown in
       record {
         config = config;
-        shown = ap (λ (s : Shown). s.now) shown ∙ now_step event old.shown (config_of units before) agrees.shown;
-        counts = λ host. ap (λ (s : Shown). count_in s host) shown
-            ∙ counts_step event old.shown (config_of units before) (generation_of units before host) host agrees.shown (agrees.counts host);
+        records = λ host. records_step event old.shown new.shown (config_of units before) host shows (agrees.records host);
+        counts = λ host. counts_step event old.shown new.shown (config_of units before) (generation_of units before host) host shows
+            (agrees.records host) (agrees.counts host);
         conversation = λ k. ap (option_map (λ (c : ConnectionState). c.conversation))
             (moves.connection k ∙ ap (λ (y : Happening). connection_after y k (place old.connections k)) met)
             ∙ moved_here x k (place old.connections k) ∙ ap (conversation_after x k) (agrees.conversation k)
@@ -170,12 +164,12 @@ moves_agree event old new moves = record {
 pub same_agrees : (old new : TargetState) → new ≡ old → AgreesStill old new
 same_agrees old new same = record { keeps = λ units events received taken agrees. rw same agrees }
 
-pub new_agrees : (target : TargetState) (units : List ℕ) → target ≡ new_target units → Agrees target units [] nothing nothing
-new_agrees target units same = rw same (record {
-  config = refl;
-  shown = refl;
-  counts = λ host. refl;
-  conversation = λ k. rw (place-replicate 64 k) refl;
-  stream = λ k. rw (place-replicate 64 k) refl;
-  output = λ k. rw (place-replicate 64 k) (refl, refl);
-})
+pub new_agrees : (target : TargetState) (units : List ℕ) → IsNewTarget (disks_alone units) target → Agrees target units [] nothing nothing
+new_agrees target units fresh = record {
+  config = fresh.config;
+  records = fresh.shown.records;
+  counts = fresh.shown.counts;
+  conversation = λ k. rw (fresh.connections, place-replicate 64 k) refl;
+  stream = λ k. rw (fresh.streams, place-replicate 64 k) refl;
+  output = λ k. rw (fresh.connections, place-replicate 64 k) (refl, refl);
+}

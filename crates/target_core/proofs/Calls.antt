@@ -119,7 +119,7 @@ receive_agrees old new k held bytes known receives =
     record {
       keeps = λ units events received taken agrees. rw receives (record {
         config = agrees.config;
-        shown = agrees.shown;
+        records = agrees.records;
         counts = agrees.counts;
         conversation = agrees.conversation;
         stream = λ j. rw (place-with_value old.streams k (held ++ bytes) j within)
@@ -173,7 +173,7 @@ taken_agrees old new k c n known takes =
     record {
       keeps = λ units events received taken agrees. rw takes (record {
         config = agrees.config;
-        shown = agrees.shown;
+        records = agrees.records;
         counts = agrees.counts;
         conversation = λ j. rw (place-with_value old.connections k after j within)
             (conversation_stays (j == k) c n (place old.connections j) (λ is. ap (place old.connections) (eqb-true j k is) ∙ known)

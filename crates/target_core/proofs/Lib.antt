@@ -3,3 +3,4 @@ pub mod Calls
 pub mod Fronts
 pub mod Moving
 pub mod Places
+pub mod Stepping

@@ -1,14 +1,15 @@
 -- What the calls make of a target, place by place.
-use Rattle.std.proofs.Common.{◌≡◌, ℕ, ◌<◌, ◌≤◌, Bool, true, false, List, [], length, map, drop, ◌++◌, Option, Some, None, Result, Ok, Err, refl, sym, ap, ◌∙◌, append-nil}
+use Rattle.std.proofs.Common.{◌≡◌, ℕ, ◌<◌, ◌≤◌, Bool, true, false, List, [], ◌∷◌, length, map, drop, ◌++◌, Option, Some, None, Result, Ok, Err, refl, sym, ap, ◌∙◌, append-nil}
 use Rattle.std.specs.Prelude.{if◌then◌else◌, ◌==◌, is_none, position}
 use Rattle.std.specs.Option.{option_map}
 use Rattle.std.proofs.Math.Dec.{T, eqb_refl}
 use Rattle.std.proofs.lemmas.Bool.{eqb-true}
-use Rattle.discovery_view.specs.View.{shown_next}
+use Rattle.discovery_view.specs.View.{Shown, ShowsNext}
 use Rattle.number_table.specs.Table.{place, with_value, without}
 use Rattle.number_table.proofs.Tables.{least_free-Some, length-with_value, length-without, place_within, place-map, place-with_value, place-without, without_None}
 use Rattle.nvt_config.specs.declared.edit.Edit.{Edit}
 use Rattle.nvt_config.specs.Accept.{accept}
+use Rattle.nvt_config.specs.Configuration.{Configuration}
 use Rattle.pdu_cut.specs.declared.side.Side.TheVariants.{Target}
 use Rattle.pdu_cut.specs.Front.{Front, front}
 use Rattle.target_core.specs.Connection.{ConnectionState, acted, fresh_on, settled}
@@ -64,13 +65,25 @@ same_at : (o : Option ConnectionState) → o ≡ option_map (settled ending.Noth
 same_at None = refl
 same_at (Some c) = refl
 
+-- where nothing ends, all stays
+pub nothing_settles : (l : List (Option ConnectionState)) → map (option_map (settled ending.Nothing)) l ≡ l
+nothing_settles [] = refl
+nothing_settles (o ∷ l) = rw (← same_at o, nothing_settles l) refl
+
 stream_stays : (o : Option (List ℕ)) → o ≡ option_map (λ held. held) o
 stream_stays None = refl
 stream_stays (Some held) = refl
 
 -- ---- an edit
 
-pub edit_moves : (old new : TargetState) (edit : Edit) → accept old.config edit ≡ Ok new.config → new.shown ≡ shown_next new.config old.shown
+-- a view that went over to what was planned shows the configuration that the edit made
+pub shows_made : (edit : Edit) (c planned made : Configuration) (old kept new : Shown) → accept c edit ≡ Ok planned → accept c edit ≡ Ok made
+    → kept ≡ old → ShowsNext planned kept new → ShowsNext made old new
+shows_made edit c planned made old kept new plans makes keeps shows =
+    let same : planned ≡ made = cc in
+    rw (← same, ← keeps) shows
+
+pub edit_moves : (old new : TargetState) (edit : Edit) → accept old.config edit ≡ Ok new.config → ShowsNext new.config old.shown new.shown
     → new.connections ≡ map (option_map (settled (ending_edited edit))) old.connections → new.streams ≡ old.streams
     → Moves (edited edit) old new
 edit_moves old new edit accepted shown connections streams = record {

@@ -6,7 +6,7 @@ use Rattle.std.proofs.lemmas.Bool.{eqb-true}
 use Rattle.number_table.specs.Table.{place, with_value, without}
 use Rattle.number_table.proofs.Tables.{least_free-Some, length-with_value, length-without, place_within, place-map, place-replicate, place-with_value, place-without}
 use Rattle.nvt_config.specs.Configuration.{Configuration}
-use Rattle.discovery_view.specs.View.{Shown, first_shown}
+use Rattle.discovery_view.specs.View.{Shown}
 use Rattle.std.proofs.lemmas.List.{length-map}
 use Rattle.target_core.specs.Connection.{ConnectionState}
 use Rattle.target_core.specs.Target.{IsTarget, TargetState}
@@ -16,10 +16,9 @@ abbrev pub Alike : {A B : Type 0} → List (Option A) → List (Option B) → Ty
 Alike streams connections = (k : ℕ) → is_none (place streams k) ≡ is_none (place connections k)
 
 pub new_is_target : (config : Configuration) (shown : Shown) (streams : List (Option (List ℕ))) (connections : List (Option ConnectionState))
-    → shown ≡ first_shown config → streams ≡ replicate 64 None → connections ≡ replicate 64 None
+    → streams ≡ replicate 64 None → connections ≡ replicate 64 None
     → IsTarget (record { config = config; shown = shown; streams = streams; connections = connections })
-new_is_target config shown streams connections first no_stream no_connection = record {
-  shows = rw first refl;
+new_is_target config shown streams connections no_stream no_connection = record {
   places = rw no_connection refl;
   alike = λ k. ap (λ (l : List (Option (List ℕ))). is_none (place l k)) no_stream ∙ ap is_none (place-replicate 64 k)
       ∙ sym (ap (λ (l : List (Option ConnectionState)). is_none (place l k)) no_connection ∙ ap is_none (place-replicate 64 k));
@@ -53,8 +52,7 @@ pub open_is_target : (t : TargetState) (k : ℕ) (held : List ℕ) (c : Connecti
 open_is_target t k held c is free =
     let empty = least_free-Some t.connections k free in
     record {
-      shows = is.shows;
-      places = length-with_value t.connections k c ∙ is.places;
+          places = length-with_value t.connections k c ∙ is.places;
       alike = put_alike t.streams t.connections k held c (stream_free t k is free).1 empty.1 is.alike;
       streams = length-with_value t.streams k held ∙ is.streams;
     }
@@ -62,7 +60,6 @@ open_is_target t k held c is free =
 pub end_is_target : (t : TargetState) (k : ℕ) → IsTarget t
     → IsTarget (record { config = t.config; shown = t.shown; streams = without t.streams k; connections = without t.connections k })
 end_is_target t k is = record {
-  shows = is.shows;
   places = length-without t.connections k ∙ is.places;
   alike = λ j. ap is_none (place-without t.streams k j) ∙ here j (j == k) ∙ sym (ap is_none (place-without t.connections k j));
   streams = length-without t.streams k ∙ is.streams;
@@ -84,7 +81,6 @@ value_alike l k j a b known =
 pub stream_is_target : (t : TargetState) (k : ℕ) (held after : List ℕ) → IsTarget t → place t.streams k ≡ Some held
     → IsTarget (record { config = t.config; shown = t.shown; streams = with_value t.streams k after; connections = t.connections })
 stream_is_target t k held after is known = record {
-  shows = is.shows;
   places = is.places;
   alike = λ j. value_alike t.streams k j after held known ∙ is.alike j;
   streams = length-with_value t.streams k after ∙ is.streams;
@@ -94,7 +90,6 @@ stream_is_target t k held after is known = record {
 pub connection_is_target : (t : TargetState) (k : ℕ) (c after : ConnectionState) → IsTarget t → place t.connections k ≡ Some c
     → IsTarget (record { config = t.config; shown = t.shown; streams = t.streams; connections = with_value t.connections k after })
 connection_is_target t k c after is known = record {
-  shows = is.shows;
   places = length-with_value t.connections k after ∙ is.places;
   alike = λ j. is.alike j ∙ sym (value_alike t.connections k j after c known);
   streams = is.streams;
@@ -106,10 +101,8 @@ mapped_none f (Some a) = refl
 
 -- all connections change
 pub map_is_target : (t : TargetState) (config : Configuration) (shown : Shown) (f : ConnectionState → ConnectionState) → IsTarget t
-    → shown.now ≡ config
     → IsTarget (record { config = config; shown = shown; streams = t.streams; connections = map (option_map f) t.connections })
-map_is_target t config shown f is shows = record {
-  shows = shows;
+map_is_target t config shown f is = record {
   places = length-map t.connections (option_map f) ∙ is.places;
   alike = λ k. is.alike k ∙ sym (ap is_none (place-map f t.connections k) ∙ mapped_none f (place t.connections k));
   streams = is.streams;

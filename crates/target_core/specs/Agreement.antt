@@ -1,7 +1,8 @@
 -- What it means that a target agrees with a history, and with the bytes that each connection received
 -- and that were taken from it.
 use Rattle.std.specs.Prelude.{◌≡◌, ℕ, ◌%◌, ◌^◌, Bool, ◌==◌, ◌||◌, ◌&&◌, List, [], ◌∷◌, ◌++◌, Option, Some, None, Result, MatchOption, MatchResult, if◌then◌else◌, take}
-use Rattle.discovery_view.specs.View.{count_in}
+use Rattle.discovery_view.specs.Records.{records_of}
+use Rattle.discovery_view.specs.View.{count_in, records_in}
 use Rattle.number_table.specs.Table.{place}
 use Rattle.nvt_config.specs.declared.edit.Edit.{Edit}
 use Rattle.nvt_config.specs.declared.fault.EditFault.{EditFault}
@@ -43,7 +44,7 @@ OutputAgrees (Some c) was_sent taken = was_sent ≡ taken ++ c.output
 -- as far as it says.
 pub record AgreesWith (t : TargetState) (units : List ℕ) (happened : List Happening) (received taken : ℕ → List ℕ) : Type 0 where
   pub config : t.config ≡ config_of units happened
-  pub shown : t.shown.now ≡ config_of units happened
+  pub records : (host : List ℕ) → records_in t.shown host ≡ records_of (config_of units happened) host
   pub counts : (host : List ℕ) → count_in t.shown host ≡ generation_of units happened host % 2 ^ 64
   pub conversation : (k : ℕ) → conversation_at t k ≡ conversation_of happened k
   pub stream : (k : ℕ) → StreamAgrees (place t.streams k) (pdus_of happened k) (last_front happened k) (received k)

@@ -1,9 +1,9 @@
 -- A target, as its calls see it.
 use Rattle.std.specs.Prelude.{◌≡◌, ℕ, ◌-◌, ◌==◌, Bool, true, false, ◌||◌, List, [], Option, Some, None, is_none, find, position, replicate, Result, Ok, IsErr, ◌++◌, min, length, take, drop, if◌then◌else◌}
 use Rattle.std.specs.Option.{option_map}
-use Rattle.discovery_view.specs.View.{Shown, first_shown, page_in}
+use Rattle.discovery_view.specs.View.{Shown, ShowsFirst, page_in}
 use Rattle.number_table.specs.Table.{place, with_value, without}
-use Rattle.nvt_config.specs.Configuration.{Configuration, disks_alone}
+use Rattle.nvt_config.specs.Configuration.{Configuration}
 use Rattle.nvt_config.specs.declared.port.Port.{Port}
 use Rattle.pdu_cut.specs.declared.side.Side.TheVariants.{Target}
 use Rattle.pdu_cut.specs.Front.{Front, incomplete, whole, faulty, front}
@@ -25,19 +25,15 @@ pub record TargetState : Type 0 where
   pub streams : List (Option (List ℕ))
   pub connections : List (Option ConnectionState)
 
--- the disks alone, and no connection of the 64 that there may be
-abbrev pub new_target : List ℕ → TargetState
-new_target units = record {
-  config = disks_alone units;
-  shown = first_shown (disks_alone units);
-  streams = replicate 64 None;
-  connections = replicate 64 None;
-}
+-- this configuration, unchanged so far, and no connection of the 64 that there may be
+pub record IsNewTarget (c : Configuration) (t : TargetState) : Type 0 where
+  pub config : t.config ≡ c
+  pub shown : ShowsFirst c t.shown
+  pub streams : t.streams ≡ replicate 64 None
+  pub connections : t.connections ≡ replicate 64 None
 
--- what holds of each target: it shows its own configuration, and has a stream for each connection
--- that is known, of the 64 that there may be
+-- what holds of each target: it has a stream for each connection that is known, of the 64 that there may be
 pub record IsTarget (t : TargetState) : Type 0 where
-  pub shows : t.shown.now ≡ t.config
   pub places : length t.connections ≡ 64
   pub alike : (k : ℕ) → is_none (place t.streams k) ≡ is_none (place t.connections k)
   pub streams : length t.streams ≡ 64

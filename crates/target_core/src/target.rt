@@ -2,17 +2,16 @@
 ghost use Rattle.std.specs.Prelude.{◌≡◌, ◌≤◌, IfOk, IfErr, IsOkUnless, OnErr, OnOk, MatchOption, Some, None, [], drop, length, replicate};
 ghost use Rattle.std.specs.Bool.{OnFalse, OnTrue};
 ghost use Rattle.std.specs.Option.{option_copied};
-ghost use Rattle.discovery_view.specs.View.{first_shown};
 ghost use Rattle.number_table.specs.Table.{place};
 ghost use Rattle.nvt_config.specs.Accept.{accept};
-ghost use Rattle.nvt_config.specs.Configuration.{are_disks};
+ghost use Rattle.nvt_config.specs.Configuration.{are_disks, disks_alone};
 ghost use Rattle.target_core.specs.Agreement.{Agrees, EditAgrees, EndAgrees, EndedAgrees, OpenAgrees, ReceiveAgrees, StepAgrees, TakenAgrees, nothing};
 ghost use Rattle.pdu_cut.specs.Cut.{front_shown};
 ghost use Rattle.target_core.specs.Connection.{acted};
 ghost use Rattle.target_core.specs.Moves.{ActedAt, CanConsume, Moves, StepsAt, stepped_by};
 ghost use Rattle.target_decision.specs.Decision.{head_of, is_end};
 ghost use Rattle.target_decision.specs.World.{pages_in};
-ghost use Rattle.target_core.specs.Target.{free_number, is_ended_at, new_target, open_fault, output_at, room_at, without_connection, ReceivesAt, TakenAt};
+ghost use Rattle.target_core.specs.Target.{free_number, is_ended_at, is_incomplete, open_fault, output_at, room_at, without_connection, IsNewTarget, ReceivesAt, TakenAt};
 ghost use Rattle.target_history.specs.Event.{edited, given_up, opened};
 
 use crate::connection::Connection;
@@ -54,7 +53,7 @@ impl Target {
     /// A target with disks of these sizes, in units of 512 bytes, and no port and no connection.
     /// Answers `Disks` for more than 256 disks or one of more than 2^40 units, and then `Memory`.
     pub fn new(alloc: Global, units: &[u64]) -> Result<Target, NewFault>
-        ensures ok { IfOk result (λ target. target ≡ new_target units.now) }
+        ensures ok { IfOk result (IsNewTarget (disks_alone units.now)) }
         ensures accepted { OnTrue (are_disks units.now) (IsOkUnless result NewFault.Memory) }
         ensures refused { OnFalse (are_disks units.now) (result ≡ Err NewFault.Disks) }
         ensures agrees { IfOk result (λ target. Agrees target units.now [] nothing nothing) }
@@ -161,10 +160,8 @@ impl Target {
         self.give_up(k);
     }
 
-    #[tactic(auto, using(crate::proofs::Places::new_is_target))]
     fn over(alloc: Global, config: Config) -> Result<Target, AllocError>
-        ensures { IfOk result (λ target. target ≡ record {
-            config = config; shown = first_shown config; streams = replicate 64 None; connections = replicate 64 None }) }
+        ensures { IfOk result (IsNewTarget config) }
     {
         Ok(Target {
             alloc,
@@ -184,10 +181,9 @@ impl Target {
         ensures err { OnErr result (self.new ≡ self.old) }
     {
         self.config.check(edit)?;
-        let Ok(plan) = self.view.prepare(&self.config, edit) else {
-            return Err(EditFault::Memory);
-        };
-        self.config.apply(edit)?;
+        let plan = self.view.prepare(&self.config, edit)?;
+        let change = self.config.prepare(edit)?;
+        self.config.commit(change);
         self.view.commit(plan);
         end_connections(&mut self.connections, &Ending::of_edit(edit));
         Ok(())
@@ -253,7 +249,7 @@ impl Target {
             return Ok(Stepped::Idle);
         }
         let front = stream.peek();
-        if let Cut::More = front {
+        if is_incomplete(&front) {
             return Ok(Stepped::Idle);
         }
         let pages = Pages {
@@ -301,6 +297,12 @@ fn room_of(stream: Option<&Stream>, connection: Option<&Connection>) -> usize
         (Some(stream), Some(connection)) if !connection.is_ended() => stream.room(),
         _ => 0,
     }
+}
+
+fn is_incomplete(front: &Cut<'_>) -> bool
+    ensures { result ≡ is_incomplete (front_shown front.now) }
+{
+    matches!(front, Cut::More)
 }
 
 // Does what was decided to its own connection, where that is known.
