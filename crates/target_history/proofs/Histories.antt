@@ -1,3 +1,76 @@
 -- Laws of histories.
-use Rattle.std.proofs.Common.{◌≡◌, ℕ, List, ◌∷◌, refl}
-use Rattle.target_history.proofs.Steps.{conversation_step}
+use Rattle.std.proofs.Common.{◌≡◌, ◌≤◌, ℕ, ◌+◌, ◌%◌, ◌^◌, Bool, true, false, ◌||◌, ◌&&◌, List, [], ◌∷◌, ◌++◌, Option, Some, None, refl, sym, ap, ◌∙◌, append-nil, arith}
+use Rattle.std.specs.Prelude.{if◌then◌else◌, nat_lt, length}
+use Rattle.nvt_config.specs.Configuration.{Configuration}
+use Rattle.nvt_fields.specs.declared.pdu_type.PduType.{PduType}
+use Rattle.nvt_fields.specs.declared.pdu_type.PduType.TheVariants.{IcReq, IcResp, H2cTermReq, C2hTermReq, CapsuleCmd, CapsuleResp, H2cData, C2hData, R2t}
+use Rattle.nvt_fields.specs.declared.termination.FatalErrorStatus.TheVariants.{InvalidHeaderField, UnsupportedParameter}
+use Rattle.discovery_view.specs.Page.{discovery_page}
+use Rattle.discovery_view.specs.Records.{records_of}
+use Rattle.pdu_cut.specs.Front.{Front, incomplete, whole, faulty}
+use Rattle.pdu_cut.specs.Pdu.{Pdu, header_part}
+use Rattle.pdu_codec.specs.Initialize.{ic_req_of}
+use Rattle.target_decision.specs.declared.decision.Decision.{Decision}
+use Rattle.target_decision.specs.declared.decision.Decision.TheVariants as decision
+use Rattle.target_decision.specs.declared.session.Conversation.{Conversation}
+use Rattle.target_decision.specs.declared.session.Session.{Session}
+use Rattle.target_decision.specs.declared.session.Session.TheVariants.{Opened, Initialized, Admin, Ended}
+use Rattle.target_decision.specs.Decision.{decide, decide_pdu, first_by, next_by, terminate}
+use Rattle.target_decision.specs.Session.{is_ended}
+use Rattle.target_decision.specs.World.{World}
+use Rattle.target_history.specs.Event.{Event, edited, front_in, gives_up, opened, opens, takes, took, given_up}
+use Rattle.target_history.specs.Happening.{Happening, decided, decided_on, responses, responses_decided, sends, sends_on}
+use Rattle.target_history.specs.History.{conversation_of, happened, has_ended, is_known, page_of, port_of, sent, session_of, world_of}
+use Rattle.target_history.specs.Laws.{EndedAreSentNothing, PagesChangeByEdits, ResponsesAnswerCapsules, capsules_of, is_capsule, is_edit, responses_of}
+
+-- ---- an ended connection
+
+silent_on : (w : World) (known taking : Bool) (port : ℕ) (front : Front)
+    → sends_on w (if known then Some (record { port = port; session = Ended }) else None)
+    (if taking then decided_on w (if known then Some (record { port = port; session = Ended }) else None) front else None) front ≡ []
+silent_on w true true port front = refl
+silent_on w true false port front = refl
+silent_on w false true port front = refl
+silent_on w false false port front = refl
+
+ended_session : (h : List Happening) (k : ℕ) → has_ended h k ≡ true → session_of h k ≡ Ended
+ended_session h k ended = rw ended refl
+
+ended_sends : (units : List ℕ) (events : List Event) (event : Event) (k : ℕ) → has_ended (happened units events) k ≡ true
+    → sends (record { event = event; world = world_of units (happened units events) }) k ≡ []
+ended_sends units events event k ended =
+    let before = happened units events in
+    rw (ended_session before k ended) (silent_on (world_of units before) (is_known before k) (takes event k) (port_of before k) (front_in event))
+
+pub ended_are_sent_nothing : EndedAreSentNothing
+ended_are_sent_nothing = record {
+  silent = λ units events event k ended opens gives_up.
+      rw (opens, gives_up, ended_sends units events event k ended) (append-nil (sent (happened units events) k));
+}
+
+-- ---- responses
+
+abbrev counted : Bool → ℕ
+counted capsule = if capsule then 1 else 0
+
+first_responds : (kind : PduType) (pdu : Pdu) (capsule : Bool) → responses_decided (Some (first_by kind pdu)) ≤ counted capsule
+first_responds IcReq pdu capsule = by (not (ic_req_of (header_part pdu)).pfv == 0) (not (ic_req_of (header_part pdu)).hpda == 0) where
+  by : (a b : Bool) → responses_decided (Some (if a then terminate UnsupportedParameter 8 else if b then terminate InvalidHeaderField 10 else decision.Initialize)) ≤ counted capsule
+  by true b = omega arith
+  by false true = omega arith
+  by false false = omega arith
+first_responds IcResp pdu capsule = omega arith
+first_responds H2cTermReq pdu capsule = omega arith
+first_responds C2hTermReq pdu capsule = omega arith
+first_responds CapsuleCmd pdu capsule = omega arith
+first_responds CapsuleResp pdu capsule = omega arith
+first_responds H2cData pdu capsule = omega arith
+first_responds C2hData pdu capsule = omega arith
+first_responds R2t pdu capsule = omega arith
+
+one_at_most : (d : Option Decision) → responses_decided d ≤ 1
+one_at_most None = omega arith
+one_at_most (Some decision.Initialize) = omega arith
+one_at_most (Some (decision.Reply r)) = omega arith
+one_at_most (Some (decision.Terminate t)) = omega arith
+one_at_most (Some decision.Close) = omega arith

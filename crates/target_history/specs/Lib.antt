@@ -2,3 +2,4 @@ pub mod Ending
 pub mod Event
 pub mod Happening
 pub mod History
+pub mod Laws

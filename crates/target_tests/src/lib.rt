@@ -1,5 +1,5 @@
 //! Tests of the target and of `replay`, through their public calls. The expected bytes are typed from
-//! the formats of NVMe over TCP; the plain walk over a history is the second opinion on what is sent.
+//! the formats of NVMe over TCP; a random walk holds two targets, whose streams are cut differently, together.
 #![tactic(auto)]
 
 #[cfg(test)]

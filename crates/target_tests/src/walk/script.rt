@@ -1,7 +1,6 @@
 use std::alloc::Global;
 use std::process::Abort;
 use std::test::Fail;
-use target_core::plain::{Event, sent};
 use target_core::{OpenFault, Stepped, Target};
 use test_edits::{Line, edit};
 
@@ -25,12 +24,13 @@ const UNKNOWN: Known = Known {
     taken: 0,
 };
 
-/// A target, and all that has happened to it.
+/// A target whose PDUs come in pieces, beside one to which the same happens with each PDU whole, and of
+/// whose output nothing is taken.
 #[derive(Drop)]
 pub struct Script {
     pub alloc: Global,
     pub target: Target,
-    events: Vec<Event>,
+    whole: Target,
     known: [Known; 4],
 }
 
@@ -40,7 +40,7 @@ impl Script {
         let mut script = Script {
             alloc,
             target: Target::new(alloc, &UNITS)?,
-            events: Vec::new(alloc),
+            whole: Target::new(alloc, &UNITS)?,
             known: [UNKNOWN; 4],
         };
         script.add_ports(rt)?;
@@ -52,21 +52,13 @@ impl Script {
         self.edit(rt, Line::PortAdd(2, b"127.0.0.1", 4420))
     }
 
-    // The newest event stands first.
-    fn happened(&mut self, event: Event) -> Result<(), Fail> {
-        self.events.insert(0, event)?;
-        Ok(())
-    }
-
     /// Edits: the target answers what its configuration's check does.
     pub fn edit(&mut self, rt: &impl Abort, line: Line<'_>) -> Result<(), Fail> {
         let edit = edit(self.alloc, line)?;
         let verdict = self.target.config().check(&edit);
         assert!(rt; self.target.edit(&edit) == verdict);
-        match verdict {
-            Ok(()) => self.happened(Event::Edited(edit)),
-            Err(_) => Ok(()),
-        }
+        assert!(rt; self.whole.edit(&edit) == verdict);
+        Ok(())
     }
 
     /// Opens a connection: on a port that is there it gets the least free number.
@@ -78,14 +70,15 @@ impl Script {
         let free = self.known.iter().position(|known| !known.is_open);
         let number = free.ok_or("each connection is open")?;
         assert!(rt; self.target.open(port) == Ok(number));
+        assert!(rt; self.whole.open(port) == Ok(number));
         self.known[number % 4].is_open = true;
-        self.happened(Event::Opened { port, number })
+        Ok(())
     }
 
-    pub fn end(&mut self, number: usize) -> Result<(), Fail> {
+    pub fn end(&mut self, number: usize) {
         self.target.end(number);
+        self.whole.end(number);
         self.known[number % 4] = UNKNOWN;
-        self.happened(Event::GivenUp { number })
     }
 
     /// How many PDUs the connection has taken, one more of which is coming.
@@ -96,16 +89,16 @@ impl Script {
         position
     }
 
-    /// Brings one whole PDU, or what stands in its place, in two pieces.
+    /// Brings one PDU, or what stands in its place: to the one target in two pieces, to the other whole.
     pub fn take(
         &mut self,
         rt: &impl Abort,
         number: usize,
-        bytes: Vec<u8>,
+        bytes: &[u8],
         cut: usize,
     ) -> Result<(), Fail> {
-        feed(rt, &mut self.target, number, &bytes, cut)?;
-        self.happened(Event::Took { number, bytes })
+        feed(rt, &mut self.target, number, bytes, cut)?;
+        feed(rt, &mut self.whole, number, bytes, bytes.len())
     }
 
     /// Takes so many bytes of the connection's output, or all where there are fewer.
@@ -116,10 +109,9 @@ impl Script {
         known.taken = known.taken.saturating_add(len);
     }
 
-    /// What the target sends on this connection is what the plain walk computes.
+    /// What the two send on this connection is the same.
     pub fn compare(&self, rt: &impl Abort, number: usize) -> Result<(), Fail> {
-        let owed = sent(self.alloc, &UNITS, &self.events, number)?;
-        let waiting = owed.as_slice().get(self.known[number % 4].taken..);
+        let waiting = self.whole.output(number).get(self.known[number % 4].taken..);
         assert!(rt; waiting == Some(self.target.output(number)));
         Ok(())
     }
