@@ -1,6 +1,6 @@
 -- Laws of histories.
 use Rattle.std.proofs.Common.{◌≡◌, ◌≤◌, ℕ, ◌+◌, ◌%◌, ◌^◌, Bool, true, false, ◌||◌, ◌&&◌, List, [], ◌∷◌, ◌++◌, Option, Some, None, refl, sym, ap, ◌∙◌, append-nil, arith}
-use Rattle.std.specs.Prelude.{if◌then◌else◌, nat_lt, length}
+use Rattle.std.specs.Prelude.{if◌then◌else◌, not, ◌==◌}
 use Rattle.nvt_config.specs.Configuration.{Configuration}
 use Rattle.nvt_fields.specs.declared.pdu_type.PduType.{PduType}
 use Rattle.nvt_fields.specs.declared.pdu_type.PduType.TheVariants.{IcReq, IcResp, H2cTermReq, C2hTermReq, CapsuleCmd, CapsuleResp, H2cData, C2hData, R2t}
@@ -15,12 +15,12 @@ use Rattle.target_decision.specs.declared.decision.Decision.TheVariants as decis
 use Rattle.target_decision.specs.declared.session.Conversation.{Conversation}
 use Rattle.target_decision.specs.declared.session.Session.{Session}
 use Rattle.target_decision.specs.declared.session.Session.TheVariants.{Opened, Initialized, Admin, Ended}
-use Rattle.target_decision.specs.Decision.{decide, decide_pdu, first_by, next_by, terminate}
+use Rattle.target_decision.specs.Decision.{decide, decide_pdu, first_by, is_command, next_by, terminate}
 use Rattle.target_decision.specs.Session.{is_ended}
 use Rattle.target_decision.specs.World.{World}
 use Rattle.target_history.specs.Event.{Event, edited, front_in, gives_up, opened, opens, takes, took, given_up}
 use Rattle.target_history.specs.Happening.{Happening, decided, decided_on, responses, responses_decided, sends, sends_on}
-use Rattle.target_history.specs.History.{conversation_of, happened, has_ended, is_known, page_of, port_of, sent, session_of, world_of}
+use Rattle.target_history.specs.History.{config_after, config_of, conversation_of, generation_after, generation_of, happened, has_ended, is_known, page_of, port_of, sent, session_of, world_of}
 use Rattle.target_history.specs.Laws.{EndedAreSentNothing, PagesChangeByEdits, ResponsesAnswerCapsules, capsules_of, is_capsule, is_edit, responses_of}
 
 -- ---- an ended connection
@@ -54,7 +54,7 @@ abbrev counted : Bool → ℕ
 counted capsule = if capsule then 1 else 0
 
 first_responds : (kind : PduType) (pdu : Pdu) (capsule : Bool) → responses_decided (Some (first_by kind pdu)) ≤ counted capsule
-first_responds IcReq pdu capsule = by (not (ic_req_of (header_part pdu)).pfv == 0) (not (ic_req_of (header_part pdu)).hpda == 0) where
+first_responds IcReq pdu capsule = by (not ((ic_req_of (header_part pdu)).pfv == 0)) (not ((ic_req_of (header_part pdu)).hpda == 0)) where
   by : (a b : Bool) → responses_decided (Some (if a then terminate UnsupportedParameter 8 else if b then terminate InvalidHeaderField 10 else decision.Initialize)) ≤ counted capsule
   by true b = omega arith
   by false true = omega arith
@@ -74,3 +74,69 @@ one_at_most (Some decision.Initialize) = omega arith
 one_at_most (Some (decision.Reply r)) = omega arith
 one_at_most (Some (decision.Terminate t)) = omega arith
 one_at_most (Some decision.Close) = omega arith
+
+next_responds : (kind : PduType) (w : World) (s : Session) (pdu : Pdu) → responses_decided (Some (next_by kind w s pdu)) ≤ counted (is_command kind)
+next_responds CapsuleCmd w s pdu = one_at_most (Some (next_by CapsuleCmd w s pdu))
+next_responds IcReq w s pdu = omega arith
+next_responds IcResp w s pdu = omega arith
+next_responds H2cTermReq w s pdu = omega arith
+next_responds C2hTermReq w s pdu = omega arith
+next_responds CapsuleResp w s pdu = omega arith
+next_responds H2cData w s pdu = omega arith
+next_responds C2hData w s pdu = omega arith
+next_responds R2t w s pdu = omega arith
+
+pdu_responds : (w : World) (s : Session) (pdu : Pdu) → responses_decided (Some (decide_pdu w s pdu)) ≤ counted (is_command pdu.kind)
+pdu_responds w Opened pdu = first_responds pdu.kind pdu (is_command pdu.kind)
+pdu_responds w Initialized pdu = next_responds pdu.kind w Initialized pdu
+pdu_responds w (Admin c q) pdu = next_responds pdu.kind w (Admin c q) pdu
+pdu_responds w Ended pdu = by (is_command pdu.kind) where
+  by : (capsule : Bool) → 0 ≤ counted capsule
+  by true = omega arith
+  by false = omega arith
+
+front_responds : (w : World) (v : Conversation) (front : Front) → responses_decided (Some (decide w v front)) ≤ counted (is_capsule front)
+front_responds w v incomplete = omega arith
+front_responds w v (whole pdu) = pdu_responds w v.session pdu
+front_responds w v (faulty fault head) = omega arith
+
+nothing_responds : (capsule : Bool) → 0 ≤ counted capsule
+nothing_responds true = omega arith
+nothing_responds false = omega arith
+
+decided_responds : (taking : Bool) (w : World) (o : Option Conversation) (front : Front)
+    → responses_decided (if taking then decided_on w o front else None) ≤ counted (taking && is_capsule front)
+decided_responds false w o front = omega arith
+decided_responds true w None front = nothing_responds (is_capsule front)
+decided_responds true w (Some v) front = by (is_ended v.session) where
+  by : (ended : Bool) → responses_decided (if ended then None else Some (decide w v front)) ≤ counted (is_capsule front)
+  by true = nothing_responds (is_capsule front)
+  by false = front_responds w v front
+
+answered : (h : List Happening) (k : ℕ) → responses_of h k ≤ capsules_of h k
+answered [] k = omega arith
+answered (x ∷ before) k = by (opens x.event k) (answered before k) where
+  by : (opening : Bool) → responses_of before k ≤ capsules_of before k → (if opening then 0 else responses x k + responses_of before k)
+      ≤ (if opening then 0 else counted (takes x.event k && is_capsule (front_in x.event)) + capsules_of before k)
+  by true earlier = omega arith
+  by false earlier =
+      let here = decided_responds (takes x.event k) x.world (x.world.conversation k) (front_in x.event) in
+      omega (arith, here, earlier)
+
+pub responses_answer_capsules : ResponsesAnswerCapsules
+responses_answer_capsules = record { answer = answered }
+
+-- ---- pages
+
+page_stays : (event : Event) (c : Configuration) (n : ℕ) (host : List ℕ) → is_edit event ≡ false
+    → discovery_page (generation_after event c host n % 2 ^ 64) (records_of (config_after event c) host)
+    ≡ discovery_page (n % 2 ^ 64) (records_of c host)
+page_stays (edited edit) c n host h = cc
+page_stays (opened port k) c n host h = refl
+page_stays (took k front) c n host h = refl
+page_stays (given_up k) c n host h = refl
+
+pub pages_change_by_edits : PagesChangeByEdits
+pages_change_by_edits = record {
+  stays = λ units x before host unedited. page_stays x.event (config_of units before) (generation_of units before host) host unedited;
+}
