@@ -8,6 +8,8 @@ import tempfile
 import threading
 from dataclasses import dataclass
 
+from kept import put_back
+
 PARTS = ("src", "specs", "proofs")
 # rattle's exit statuses: the crate is proved, and it is not.
 PROVED, REFUSED = 0, 1
@@ -100,9 +102,9 @@ class Checker:
         words += ["--antt-project", f"{self.kit}/rattle/logic/antt-project.json", "--logic-built", f"{self.kit}/logic_built"]
         return [*words, "--links", f"{crate.name}=", "--jobs", "1"]
 
-    def check(self, crate, sources, only=()):
-        """Checks a copy of the crate with these sources; of it only the named functions and what they call, where
-        there are any. Returns the exit status and what was printed."""
+    def check(self, crate, sources, changed, only=()):
+        """Checks a copy of the crate with these sources, in which the functions `changed` are not its own; of it only
+        the named functions and what they call, where there are any. Returns the exit status and what was printed."""
         with tempfile.TemporaryDirectory(prefix=f"{crate.name}-", dir=self.scratch) as room:
             for part in PARTS:
                 if os.path.isdir(f"{crate.folder}/{part}"):
@@ -113,7 +115,8 @@ class Checker:
             words = [*self.words(crate), "--incremental", self.kept(crate)]
             for path in only:
                 words += ["--only", path]
-            return self.run(crate, words, room)
+            with put_back(self.kept(crate), crate.name, changed, self.scratch):
+                return self.run(crate, words, room)
 
     def run(self, crate, words, room):
         with tempfile.TemporaryFile("w+", errors="replace") as said:
@@ -123,22 +126,6 @@ class Checker:
             self.seconds[crate.name] = self.seconds.get(crate.name, 0) + used.ru_utime + used.ru_stime
             said.seek(0)
             return ran.returncode, said.read().split("\n")
-
-
-def is_of(function, crate, printed):
-    """Returns whether a name that rattle prints is that of a function, or of a closure in it."""
-    path = printed.removeprefix(f"{crate}::").split("::")
-    owner = f"{function.owner}{function.trait}"
-    if "fn" in path:
-        path = path[path.index("fn") + 1 :]
-        if not function.owner:
-            return path[0] == function.name and printed.startswith(f"{crate}::{function.module()}")
-        return path[0].startswith(owner) and path[1:2] == [function.name]
-    if path[-1] != function.name:
-        return False
-    if not function.owner:
-        return "::".join(path[:-1]) == function.module()
-    return len(path) > 1 and (path[-2].startswith(owner) if function.trait else path[-2] == owner)
 
 
 def failures(crate, lines):

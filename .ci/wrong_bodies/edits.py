@@ -20,13 +20,15 @@ class Change:
 @dataclass
 class Edit:
     """A wrong body. `function` is the one whose body it changes, or None where it changes more than one, or
-    what is no function; `calls` are what that function's body may call, before the edit and after it."""
+    what is no function; `calls` are what that function's body may call, before the edit and after it, and
+    `new_calls` those of them that stand in a new text and not in the old one."""
 
     crate: str
     name: str
     changes: list
     function: object = None
     calls: frozenset = field(default_factory=frozenset)
+    new_calls: frozenset = field(default_factory=frozenset)
 
     def label(self):
         return f"{self.crate}/{self.name}"
@@ -88,7 +90,7 @@ def function_at(change, text):
 
 def find_function(edit, sources):
     """Finds the one function that the edit changes, if there is one."""
-    found, calls = set(), frozenset()
+    found, calls, new_calls = set(), frozenset(), frozenset()
     for n, change in enumerate(edit.changes):
         text = text_of(apply(edit.changes[:n], sources), change.file)
         if text.count(change.old) != 1:
@@ -97,8 +99,9 @@ def find_function(edit, sources):
         found.add(place.function if place else None)
         if place:
             calls |= calls_in(blanked(text)[place.body : place.end]) | calls_in(change.new)
+            new_calls |= calls_in(change.new) - calls_in(change.old)
     if len(found) == 1:
-        edit.function, edit.calls = found.pop(), calls
+        edit.function, edit.calls, edit.new_calls = found.pop(), calls, new_calls
 
 
 def read_edits(crate, folder, sources):

@@ -1,13 +1,12 @@
 """Which edits are tried together."""
 
 from edits import BadEdit, apply
-from source import may_call
 
 
-def are_apart(edit, other):
+def are_apart(edit, other, calls):
     """Returns whether two edits may share a round: neither changes the other's function, nor one that it calls."""
     mine, theirs = edit.function, other.function
-    return mine != theirs and not may_call(other.calls, mine) and not may_call(edit.calls, theirs)
+    return mine != theirs and not calls.may_call(other, mine) and not calls.may_call(edit, theirs)
 
 
 def applies(edits, sources):
@@ -18,18 +17,25 @@ def applies(edits, sources):
     return True
 
 
-def planned(edits, sources):
+def planned(edits, sources, calls):
     """Returns the rounds: lists of edits that are tried in one check. An edit of what is no function's body,
     or of more than one function, has a round of its own, after the others."""
-    shared = [it for it in edits if it.function is not None]
-    # Those that few others may join come first, so that the rounds are few.
-    shared.sort(key=lambda edit: sum(are_apart(edit, it) for it in shared))
+    left = [it for it in edits if it.function is not None]
+    apart = {(a.name, b.name): are_apart(a, b, calls) for a in left for b in left}
     rounds = []
-    for edit in shared:
-        for room in rounds:
-            if all(are_apart(edit, it) for it in room) and applies([*room, edit], sources):
-                room.append(edit)
-                break
-        else:
-            rounds.append([edit])
+
+    def may_join(edit, room):
+        return all(apart[edit.name, it.name] for it in room)
+
+    def difficulty(edit):
+        return sum(not may_join(edit, room) for room in rounds), sum(not apart[edit.name, it.name] for it in left)
+
+    while left:
+        # The edit that the fewest rounds may take comes next, so that the rounds are few.
+        edit = max(left, key=difficulty)
+        left.remove(edit)
+        room = next((it for it in rounds if may_join(edit, it) and applies([*it, edit], sources)), None)
+        if room is None:
+            rounds.append(room := [])
+        room.append(edit)
     return rounds + [[it] for it in edits if it.function is None]

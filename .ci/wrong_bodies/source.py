@@ -135,3 +135,19 @@ def may_call(calls, function):
         name == function.name and (before in (".", "Self", function.owner) if function.owner else before != ".")
         for name, before in calls
     )
+
+
+def is_of(function, crate, printed):
+    """Returns whether a name that rattle prints is that of a function, or of a closure in it."""
+    path = printed.removeprefix(f"{crate}::").split("::")
+    owner = f"{function.owner}{function.trait}"
+    if "fn" in path:
+        path = path[path.index("fn") + 1 :]
+        if not function.owner:
+            return path[0] == function.name and printed.startswith(f"{crate}::{function.module()}")
+        return path[0].startswith(owner) and path[1:2] == [function.name]
+    if path[-1] != function.name:
+        return False
+    if not function.owner:
+        return "::".join(path[:-1]) == function.module()
+    return len(path) > 1 and (path[-2].startswith(owner) if function.trait else path[-2] == owner)

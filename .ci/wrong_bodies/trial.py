@@ -3,8 +3,9 @@
 import re
 from dataclasses import dataclass
 
-from checks import PROVED, REFUSED, could_be_read, failures, is_of
+from checks import PROVED, REFUSED, could_be_read, failures
 from edits import apply
+from source import is_of
 
 
 @dataclass
@@ -48,8 +49,9 @@ class Trial:
     def together(self, edits):
         """Tries edits in one check of their functions, and returns the verdicts on those that it plainly refuses."""
         changes = [it for edit in edits for it in edit.changes]
-        only = sorted({path_of(it.function, self.sources) for it in edits})
-        _, lines = self.checker.check(self.crate, apply(changes, self.sources), only)
+        functions = [it.function for it in edits]
+        only = sorted({path_of(it, self.sources) for it in functions})
+        _, lines = self.checker.check(self.crate, apply(changes, self.sources), functions, only)
         if could_be_read(lines):
             return {}
         found = failures(self.crate.name, lines)
@@ -63,7 +65,8 @@ class Trial:
 
     def alone(self, edit):
         """Tries an edit by itself, from the crate as it stands."""
-        status, lines = self.checker.check(self.crate, apply(edit.changes, self.sources))
+        functions = [edit.function] if edit.function else []
+        status, lines = self.checker.check(self.crate, apply(edit.changes, self.sources), functions)
         if status == PROVED:
             return Verdict(edit, False, "NOT REFUSED: the crate is still proved with this edit")
         unread = could_be_read(lines)
