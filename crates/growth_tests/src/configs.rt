@@ -6,48 +6,47 @@ use std::process::Abort;
 use std::test::Fail;
 use test_edits::{Line, edit, is_same};
 
-// Makes the edit of a line, which is accepted; where it wants memory, all is as before.
-fn an_edit_is_made(
-    rt: &impl Abort,
+// Makes the edit of a line; whether it is accepted, and all is as before where it wants memory.
+fn is_made(
     alloc: Global,
     config: &mut Config,
     line: Line<'_>,
     refused: &mut u32,
-) -> Result<(), Fail> {
-    let edit = again!(rt, refused, AllocError, edit(alloc, line));
-    make(rt, config, &edit, refused)
+) -> Result<bool, AllocError> {
+    let edit = edit(alloc, line)?;
+    is_applied(config, &edit, refused)
 }
 
-fn make(rt: &impl Abort, config: &mut Config, edit: &Edit, refused: &mut u32) -> Result<(), Fail> {
-    let before = again!(rt, refused, AllocError, config.try_clone());
-    apply(rt, config, &before, edit, refused)
+fn is_applied(config: &mut Config, edit: &Edit, refused: &mut u32) -> Result<bool, AllocError> {
+    let before = config.try_clone()?;
+    Ok(applies(config, &before, edit, refused))
 }
 
-fn apply(
-    rt: &impl Abort,
-    config: &mut Config,
-    before: &Config,
-    edit: &Edit,
-    refused: &mut u32,
-) -> Result<(), Fail> {
-    assert!(rt; config.check(edit) == Ok(()));
-    if config.apply(edit) == Err(EditFault::Memory) {
+fn applies(config: &mut Config, before: &Config, edit: &Edit, refused: &mut u32) -> bool {
+    let checked = config.check(edit);
+    let mut applied = config.apply(edit);
+    if applied == Err(EditFault::Memory) {
         *refused = refused.saturating_add(1);
-        assert!(rt; is_same(config, before));
-        config.apply(edit)?;
+        if !is_same(config, before) {
+            return false;
+        }
+        applied = config.apply(edit);
     }
-    Ok(())
+    (checked, applied) == (Ok(()), Ok(()))
 }
 
-fn edits_are_made(
-    rt: &impl Abort,
-    alloc: Global,
-    config: &mut Config,
-    refused: &mut u32,
-) -> Result<(), Fail> {
-    for line in &EDITS {
-        an_edit_is_made(rt, alloc, config, *line, refused)?;
+fn edits_are_made(rt: &impl Abort, alloc: Global, config: &mut Config, refused: &mut u32) {
+    for line in EDITS {
+        again!(
+            rt,
+            *refused,
+            AllocError,
+            is_made(alloc, config, *line, refused)
+        );
     }
+}
+
+fn is_edited(config: &Config) -> bool {
     let lens = [
         config.units().len(),
         config.subsystems().len(),
@@ -55,90 +54,78 @@ fn edits_are_made(
         config.links().len(),
         config.hosts().len(),
     ];
-    assert!(rt; lens == [2, 1, 1, 1, 2]);
-    assert!(rt; config.may_use(HOST, A, 1));
-    Ok(())
+    lens == [2, 1, 1, 1, 2] && config.may_use(HOST, A, 1)
 }
 
-fn a_subsystem_is_copied(
-    rt: &impl Abort,
-    subsystem: &Subsystem,
-    refused: &mut u32,
-) -> Result<(), Fail> {
-    let copy = again!(rt, refused, AllocError, subsystem.try_clone());
-    assert!(rt; copy.nqn == subsystem.nqn);
-    Ok(())
+fn is_subsystem_copied(subsystem: &Subsystem) -> Result<bool, AllocError> {
+    let copy = subsystem.try_clone()?;
+    Ok(copy.nqn == subsystem.nqn)
 }
 
-fn a_text_is_copied(
-    rt: &impl Abort,
-    text: &Text,
-    bytes: &[u8],
-    refused: &mut u32,
-) -> Result<(), Fail> {
-    let copy = again!(rt, refused, AllocError, text.try_clone());
-    assert!(rt; copy.into_vec().as_slice() == bytes);
-    Ok(())
+fn is_text_copied(text: &Text, bytes: &[u8]) -> Result<bool, AllocError> {
+    let copy = text.try_clone()?.into_vec();
+    Ok(copy.as_slice() == bytes)
 }
 
-fn a_port_is_copied(rt: &impl Abort, port: &Port, refused: &mut u32) -> Result<(), Fail> {
-    let copy = again!(rt, refused, AllocError, port.try_clone());
-    assert!(rt; copy.address.as_bytes() == b"127.0.0.1".as_slice());
-    Ok(())
+fn is_port_copied(port: &Port) -> Result<bool, AllocError> {
+    let copy = port.try_clone()?;
+    Ok(copy.address.as_bytes() == b"127.0.0.1".as_slice())
 }
 
-fn copies_are_made(rt: &impl Abort, config: &Config, refused: &mut u32) -> Result<(), Fail> {
+fn is_link_copied(link: &Link) -> Result<bool, AllocError> {
+    let copy = link.try_clone()?;
+    Ok(copy.subsystem == link.subsystem)
+}
+
+fn is_host_copied(host: &Host) -> Result<bool, AllocError> {
+    let copy = host.try_clone()?;
+    Ok(copy.nqn == host.nqn)
+}
+
+fn entries_are_copied(config: &Config) -> Result<bool, AllocError> {
+    let mut are_copied = true;
     for subsystem in config.subsystems() {
-        a_subsystem_is_copied(rt, subsystem, refused)?;
-        a_text_is_copied(rt, &subsystem.serial, b"SN-A", refused)?;
+        are_copied &= is_subsystem_copied(subsystem)?;
+        are_copied &= is_text_copied(&subsystem.serial, b"SN-A")?;
     }
     for port in config.ports() {
-        a_port_is_copied(rt, port, refused)?;
+        are_copied &= is_port_copied(port)?;
     }
-    Ok(())
+    Ok(are_copied)
 }
 
-fn a_link_is_copied(rt: &impl Abort, link: &Link, refused: &mut u32) -> Result<(), Fail> {
-    let copy = again!(rt, refused, AllocError, link.try_clone());
-    assert!(rt; copy.subsystem == link.subsystem);
-    Ok(())
-}
-
-fn a_host_is_copied(rt: &impl Abort, host: &Host, refused: &mut u32) -> Result<(), Fail> {
-    let copy = again!(rt, refused, AllocError, host.try_clone());
-    assert!(rt; copy.nqn == host.nqn);
-    Ok(())
-}
-
-fn more_copies_are_made(rt: &impl Abort, config: &Config, refused: &mut u32) -> Result<(), Fail> {
+fn uses_are_copied(config: &Config) -> Result<bool, AllocError> {
+    let mut are_copied = true;
     for link in config.links() {
-        a_link_is_copied(rt, link, refused)?;
+        are_copied &= is_link_copied(link)?;
     }
     for host in config.hosts() {
-        a_host_is_copied(rt, host, refused)?;
+        are_copied &= is_host_copied(host)?;
     }
-    Ok(())
+    Ok(are_copied)
 }
 
-fn a_config_is_made(rt: &impl Abort, alloc: Global, refused: &mut u32) -> Result<(), Fail> {
-    let mut config = again!(rt, refused, NewFault::Memory, Config::new(alloc, &UNITS));
-    a_config_is_used(rt, alloc, &mut config, refused)
+fn use_config(rt: &impl Abort, alloc: Global, config: &mut Config, refused: &mut u32) {
+    edits_are_made(rt, alloc, config, refused);
+    assert!(rt; is_edited(config));
+    again!(rt, *refused, AllocError, entries_are_copied(config));
+    again!(rt, *refused, AllocError, uses_are_copied(config));
 }
 
-fn a_config_is_used(
-    rt: &impl Abort,
-    alloc: Global,
-    config: &mut Config,
-    refused: &mut u32,
-) -> Result<(), Fail> {
-    edits_are_made(rt, alloc, config, refused)?;
-    copies_are_made(rt, config, refused)?;
-    more_copies_are_made(rt, config, refused)
+fn is_used(rt: &impl Abort, alloc: Global, refused: &mut u32) -> Result<bool, NewFault> {
+    let mut config = Config::new(alloc, UNITS)?;
+    use_config(rt, alloc, &mut config, refused);
+    Ok(true)
 }
 
 #[test]
 fn configurations(rt: HostRuntime) -> Result<(), Fail> {
-    let mut refused = 0;
-    a_config_is_made(&rt, rt.alloc(), &mut refused)?;
+    let mut refused = 0u32;
+    again!(
+        rt,
+        refused,
+        NewFault::Memory,
+        is_used(&rt, rt.alloc(), &mut refused)
+    );
     tell(&rt, refused)
 }

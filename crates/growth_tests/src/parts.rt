@@ -8,7 +8,6 @@ use nvt_fields::{FatalErrorStatus, Nqn, NqnFault, Status, nqn_field};
 use pdu_codec::{C2hData, CapsuleResp, Full, IcResp, TermReq};
 use pdu_cut::{Cut, RxBuf, Side};
 use std::alloc::{AllocError, Global};
-use std::process::Abort;
 use std::test::Fail;
 
 // A test that makes no growth of its own: what stands beside each test's growths is counted with it.
@@ -17,29 +16,34 @@ fn nothing_grows(rt: HostRuntime) -> Result<(), Fail> {
     tell(&rt, 0)
 }
 
-fn a_name_is_read(rt: &impl Abort, alloc: Global, refused: &mut u32) -> Result<(), Fail> {
-    let name = again!(rt, refused, NqnFault::Memory, Nqn::read(alloc, HOST));
-    assert!(rt; name.as_bytes() == HOST);
-    a_name_is_copied(rt, &name, refused)
+fn is_copied(name: &Nqn) -> Result<bool, AllocError> {
+    let copy = name.try_clone()?;
+    Ok(copy == *name && fills_its_field(&copy))
 }
 
-fn a_name_is_copied(rt: &impl Abort, name: &Nqn, refused: &mut u32) -> Result<(), Fail> {
-    let copy = again!(rt, refused, AllocError, name.try_clone());
+fn fills_its_field(name: &Nqn) -> bool {
     let mut field = [0; 256];
-    copy.write_to(&mut field);
-    assert!(rt; nqn_field(&field) == Ok(HOST) && copy == *name);
-    Ok(())
+    name.write_to(&mut field);
+    nqn_field(&field) == Ok(HOST)
+}
+
+fn is_name_read(alloc: Global) -> Result<bool, NqnFault> {
+    let name = Nqn::read(alloc, HOST)?;
+    match is_copied(&name) {
+        Ok(is_copied) => Ok(is_copied && name.as_bytes() == HOST),
+        Err(AllocError) => Err(NqnFault::Memory),
+    }
 }
 
 #[test]
 fn names(rt: HostRuntime) -> Result<(), Fail> {
-    let mut refused = 0;
-    a_name_is_read(&rt, rt.alloc(), &mut refused)?;
+    let mut refused = 0u32;
+    again!(rt, refused, NqnFault::Memory, is_name_read(rt.alloc()));
     tell(&rt, refused)
 }
 
 // An H2CTermReq, and a C2HTermReq.
-const REQUESTS: [(Side, [u8; 24]); 2] = [
+const REQUESTS: &[(Side, [u8; 24])] = &[
     (
         Side::Target,
         [
@@ -54,27 +58,31 @@ const REQUESTS: [(Side, [u8; 24]); 2] = [
     ),
 ];
 
-fn a_stream_is_cut(
-    rt: &impl Abort,
-    alloc: Global,
-    side: Side,
-    request: &[u8; 24],
-    refused: &mut u32,
-) -> Result<(), Fail> {
-    let mut buffer = again!(rt, refused, AllocError, RxBuf::new(alloc, side));
+fn cuts(buffer: &mut RxBuf, request: &[u8; 24]) -> bool {
     let room = buffer.room();
-    assert!(rt; buffer.receive(request) == 24);
-    assert!(rt; matches!(buffer.peek(), Cut::Pdu(_)));
+    if buffer.receive(request) != 24 {
+        return false;
+    }
+    let is_whole = matches!(buffer.peek(), Cut::Pdu(_));
     buffer.consume(24);
-    assert!(rt; buffer.room() == room);
-    Ok(())
+    is_whole && buffer.room() == room
+}
+
+fn is_stream_cut(alloc: Global, side: Side, request: &[u8; 24]) -> Result<bool, AllocError> {
+    let mut buffer = RxBuf::new(alloc, side)?;
+    Ok(cuts(&mut buffer, request))
 }
 
 #[test]
 fn buffers(rt: HostRuntime) -> Result<(), Fail> {
-    let mut refused = 0;
-    for (side, request) in &REQUESTS {
-        a_stream_is_cut(&rt, rt.alloc(), *side, request, &mut refused)?;
+    let mut refused = 0u32;
+    for (side, request) in REQUESTS {
+        again!(
+            rt,
+            refused,
+            AllocError,
+            is_stream_cut(rt.alloc(), *side, request)
+        );
     }
     tell(&rt, refused)
 }
@@ -86,33 +94,30 @@ fn put_least(table: &mut NumberTable<u8>, value: u8) -> Option<usize> {
     Some(number)
 }
 
-// Fills a table of three, changes it, and takes a value out.
-fn a_table_is_used(rt: &impl Abort, table: &mut NumberTable<u8>) {
+// Fills a table of three, changes it, and takes values out.
+fn is_table_right(table: &mut NumberTable<u8>) -> bool {
     let put = [
         put_least(table, b'a'),
         put_least(table, b'b'),
         put_least(table, b'c'),
     ];
-    assert!(rt; put == [Some(0), Some(1), Some(2)]);
     if let Some(value) = table.get_mut(1) {
         *value = b'd';
     }
-    assert!(rt;
-        [table.remove(1), table.remove(1), table.remove(0)] == [Some(b'd'), None, Some(b'a')]
-    );
-    assert!(rt; put_least(table, b'e') == Some(0));
+    let removed = [table.remove(1), table.remove(1), table.remove(0)];
+    (put, removed) == ([Some(0), Some(1), Some(2)], [Some(b'd'), None, Some(b'a')])
+        && put_least(table, b'e') == Some(0)
 }
 
-fn a_table_is_made(rt: &impl Abort, alloc: Global, refused: &mut u32) -> Result<(), Fail> {
-    let mut table = again!(rt, refused, AllocError, NumberTable::new(alloc, 3));
-    a_table_is_used(rt, &mut table);
-    Ok(())
+fn is_table_made(alloc: Global) -> Result<bool, AllocError> {
+    let mut table = NumberTable::new(alloc, 3)?;
+    Ok(is_table_right(&mut table))
 }
 
 #[test]
 fn tables(rt: HostRuntime) -> Result<(), Fail> {
-    let mut refused = 0;
-    a_table_is_made(&rt, rt.alloc(), &mut refused)?;
+    let mut refused = 0u32;
+    again!(rt, refused, AllocError, is_table_made(rt.alloc()));
     tell(&rt, refused)
 }
 
@@ -148,19 +153,20 @@ fn write_data(out: &mut BytesMut) -> Result<(), Full> {
 }
 
 // The writers take the room that is there, and no memory.
-fn pdus_are_written(rt: &impl Abort, alloc: Global, refused: &mut u32) -> Result<(), Fail> {
-    let mut out = again!(rt, refused, AllocError, BytesMut::with_capacity(alloc, 720));
-    assert!(rt; write_each(&mut out).is_ok());
-    assert!(rt; write_data(&mut out).is_ok());
-    assert!(rt; out.as_slice().len() == 128 + 24 + 32 + 24 + 512);
-    assert!(rt; IC_RESP.write(&mut out) == Err(Full));
-    Ok(())
+fn are_written(out: &mut BytesMut) -> bool {
+    let written = [write_each(out), write_data(out), IC_RESP.write(out)];
+    written == [Ok(()), Ok(()), Err(Full)] && out.as_slice().len() == 128 + 24 + 32 + 24 + 512
+}
+
+fn is_buffer_written(alloc: Global) -> Result<bool, AllocError> {
+    let mut out = BytesMut::with_capacity(alloc, 720)?;
+    Ok(are_written(&mut out))
 }
 
 #[test]
 fn writers(rt: HostRuntime) -> Result<(), Fail> {
-    let mut refused = 0;
-    pdus_are_written(&rt, rt.alloc(), &mut refused)?;
+    let mut refused = 0u32;
+    again!(rt, refused, AllocError, is_buffer_written(rt.alloc()));
     tell(&rt, refused)
 }
 
@@ -180,22 +186,21 @@ fn is_port_add(edit: &Edit) -> bool {
     }
 }
 
-fn a_line_is_read(
-    rt: &impl Abort,
-    alloc: Global,
-    line: &[u8],
-    refused: &mut u32,
-) -> Result<(), Fail> {
-    let edit = again!(rt, refused, ReadEditFault::Memory, read_edit(alloc, line));
-    assert!(rt; is_port_add(&edit));
-    Ok(())
+fn is_line_read(alloc: Global, line: &[u8]) -> Result<bool, ReadEditFault> {
+    let edit = read_edit(alloc, line)?;
+    Ok(is_port_add(&edit))
 }
 
 #[test]
 fn lines(rt: HostRuntime) -> Result<(), Fail> {
-    let mut refused = 0;
+    let mut refused = 0u32;
     for line in Lines::of(b"port add 1 ipv4 127.0.0.1 4420\nport add 1 ipv4 127.0.0.1 4420") {
-        a_line_is_read(&rt, rt.alloc(), line, &mut refused)?;
+        again!(
+            rt,
+            refused,
+            ReadEditFault::Memory,
+            is_line_read(rt.alloc(), line)
+        );
     }
     tell(&rt, refused)
 }

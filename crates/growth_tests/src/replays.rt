@@ -65,7 +65,7 @@ fn replayed(alloc: Global) -> (Result<(), ReplayFault>, bool, bool) {
         bytes: [0; 400],
         len: 0,
     };
-    let outcome = replay(alloc, EDITS, STREAM, &UNITS, &mut out);
+    let outcome = replay(alloc, EDITS, STREAM, UNITS, &mut out);
     let printed = out.bytes.get(..out.len).unwrap_or(&[]);
     let is_whole = printed.is_empty() || printed.ends_with(b"\n");
     (

@@ -9,10 +9,10 @@ pub const B: &[u8] = b"nqn.2026-01.test:b";
 
 pub const HOST: &[u8] = b"nqn.2026-01.test:h1";
 
-pub const UNITS: [u64; 2] = [2048, 4096];
+pub const UNITS: &[u64] = &[2048, 4096];
 
 /// They are accepted in turn. In the end subsystem A and port 1 are there, linked, and two live hosts.
-pub const EDITS: [Line<'static>; 18] = [
+pub const EDITS: &[Line<'static>] = &[
     Line::SubsystemAdd(A, b"SN-A", Access::Open),
     Line::SubsystemAdd(B, b"SN-B", Access::Closed),
     Line::PortAdd(1, b"127.0.0.1", 4420),

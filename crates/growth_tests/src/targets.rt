@@ -1,4 +1,5 @@
 //! The target: each kind of edit, with two connections open.
+use super::conversation;
 use super::pdus::ic_req;
 use super::rows::{EDITS, UNITS, tell};
 use nvt_config::{Config, Edit, EditFault, NewFault};
@@ -17,106 +18,144 @@ fn seen(target: &Target) -> [(usize, bool, usize); 3] {
     seen
 }
 
-// Makes the edit of a line, which is accepted; where it wants memory, all is as before.
-fn an_edit_is_made(
-    rt: &impl Abort,
+/// Makes the edit of a line; whether it is accepted, and all is as before where it wants memory.
+pub fn is_edited(
     alloc: Global,
     target: &mut Target,
     line: Line<'_>,
     refused: &mut u32,
-) -> Result<(), Fail> {
-    let edit = again!(rt, refused, AllocError, edit(alloc, line));
-    make(rt, target, &edit, refused)
+) -> Result<bool, AllocError> {
+    let edit = edit(alloc, line)?;
+    is_made(target, &edit, refused)
 }
 
-fn make(rt: &impl Abort, target: &mut Target, edit: &Edit, refused: &mut u32) -> Result<(), Fail> {
-    let before = again!(rt, refused, AllocError, target.config().try_clone());
-    make_or_leave(rt, target, &before, edit, refused)
+fn is_made(target: &mut Target, edit: &Edit, refused: &mut u32) -> Result<bool, AllocError> {
+    let before = target.config().try_clone()?;
+    Ok(makes(target, &before, edit, refused))
 }
 
-// After a refusal all is as before.
-fn make_or_leave(
-    rt: &impl Abort,
-    target: &mut Target,
-    before: &Config,
-    edit: &Edit,
-    refused: &mut u32,
-) -> Result<(), Fail> {
+fn makes(target: &mut Target, before: &Config, edit: &Edit, refused: &mut u32) -> bool {
     let connections = seen(target);
-    if target.edit(edit) == Err(EditFault::Memory) {
+    let mut made = target.edit(edit);
+    if made == Err(EditFault::Memory) {
         *refused = refused.saturating_add(1);
-        assert!(rt; is_same(target.config(), before));
-        assert!(rt; seen(target) == connections);
-        target.edit(edit)?;
+        if !is_same(target.config(), before) || seen(target) != connections {
+            return false;
+        }
+        made = target.edit(edit);
     }
-    Ok(())
+    made == Ok(())
 }
 
-// Opens a connection, and brings it an ICReq.
-fn a_connection_is_opened(
-    rt: &impl Abort,
-    target: &mut Target,
-    port: u16,
-    refused: &mut u32,
-) -> Result<(), Fail> {
+// Opens a connection, which gets this number; where that wants memory, all is as before.
+pub fn is_opened(target: &mut Target, port: u16, k: usize, refused: &mut u32) -> bool {
     let connections = seen(target);
-    let opened = match target.open(port) {
-        Err(OpenFault::Memory) => {
-            *refused = refused.saturating_add(1);
-            assert!(rt; seen(target) == connections);
-            target.open(port)
+    let mut opened = target.open(port);
+    if opened == Err(OpenFault::Memory) {
+        *refused = refused.saturating_add(1);
+        if seen(target) != connections {
+            return false;
         }
-        answer => answer,
-    };
-    let k = opened?;
-    assert!(rt; target.receive(k, &ic_req()) == Ok(128));
-    let stepped = again!(rt, refused, StepFault::Memory, target.step(k));
-    assert!(rt; stepped == Stepped::One);
-    Ok(())
+        opened = target.open(port);
+    }
+    opened == Ok(k)
+}
+
+// Brings an ICReq.
+fn is_initialized(target: &mut Target, k: usize, refused: &mut u32) -> bool {
+    let received = target.receive(k, &ic_req());
+    let mut stepped = target.step(k);
+    if stepped == Err(StepFault::Memory) {
+        *refused = refused.saturating_add(1);
+        stepped = target.step(k);
+    }
+    received == Ok(128) && stepped == Ok(Stepped::One)
+}
+
+// Opens connections on both ports.
+fn open_both(rt: &impl Abort, target: &mut Target, refused: &mut u32) {
+    for (k, port) in [(0usize, 1u16), (1, 2)] {
+        assert!(rt; is_opened(target, port, k, refused));
+        assert!(rt; is_initialized(target, k, refused));
+    }
+}
+
+fn make_edits(
+    rt: &impl Abort,
+    alloc: Global,
+    target: &mut Target,
+    lines: &[Line<'_>],
+    refused: &mut u32,
+) {
+    for line in lines {
+        again!(
+            rt,
+            *refused,
+            AllocError,
+            is_edited(alloc, target, *line, refused)
+        );
+    }
+}
+
+// Takes the output of both connections, and gives both up.
+fn are_ended(target: &mut Target) -> bool {
+    for k in 0..2usize {
+        let len = target.output(k).len();
+        target.taken(k, len);
+        if !target.output(k).is_empty() {
+            return false;
+        }
+        target.end(k);
+    }
+    seen(target) == [(0, false, 0); 3]
 }
 
 // How many of the edits are made before connections are opened on both ports.
 const BEFORE: usize = 4;
 
-fn edits_are_made(
+fn are_both_served(target: &mut Target) -> bool {
+    // The second connection ended with its port, and keeps its output.
+    seen(target) == [(32_768, false, 128), (0, true, 128), (0, false, 0)] && are_ended(target)
+}
+
+fn serve_both(rt: &impl Abort, alloc: Global, target: &mut Target, refused: &mut u32) {
+    let (first, others) = EDITS.split_at(EDITS.len().min(BEFORE));
+    make_edits(rt, alloc, target, first, refused);
+    open_both(rt, target, refused);
+    make_edits(rt, alloc, target, others, refused);
+    assert!(rt; are_both_served(target));
+}
+
+/// What a test does with a target.
+#[derive(Clone, Copy)]
+pub enum Script {
+    Edits,
+    Conversation,
+}
+
+/// Makes a target, and uses it.
+pub fn is_used(
     rt: &impl Abort,
     alloc: Global,
-    target: &mut Target,
+    script: Script,
     refused: &mut u32,
-) -> Result<(), Fail> {
-    for (number, line) in EDITS.iter().enumerate() {
-        if number == BEFORE {
-            a_connection_is_opened(rt, target, 1, refused)?;
-            a_connection_is_opened(rt, target, 2, refused)?;
-        }
-        an_edit_is_made(rt, alloc, target, *line, refused)?;
+) -> Result<bool, NewFault> {
+    let mut target = Target::new(alloc, UNITS)?;
+    match script {
+        Script::Edits => serve_both(rt, alloc, &mut target, refused),
+        Script::Conversation => conversation::serve_one(rt, alloc, &mut target, refused),
     }
-    // The second connection ended with its port, and keeps its output.
-    assert!(rt; seen(target) == [(32_768, false, 128), (0, true, 128), (0, false, 0)]);
-    Ok(())
-}
-
-// Takes the output of both connections, and gives both up.
-fn connections_are_ended(rt: &impl Abort, target: &mut Target) {
-    for k in 0..2usize {
-        let len = target.output(k).len();
-        target.taken(k, len);
-        assert!(rt; target.output(k).is_empty());
-        target.end(k);
-    }
-    assert!(rt; seen(target) == [(0, false, 0); 3]);
-}
-
-fn a_target_is_made(rt: &impl Abort, alloc: Global, refused: &mut u32) -> Result<(), Fail> {
-    let mut target = again!(rt, refused, NewFault::Memory, Target::new(alloc, &UNITS));
-    edits_are_made(rt, alloc, &mut target, refused)?;
-    connections_are_ended(rt, &mut target);
-    Ok(())
+    Ok(true)
 }
 
 #[test]
 fn targets(rt: HostRuntime) -> Result<(), Fail> {
-    let mut refused = 0;
-    a_target_is_made(&rt, rt.alloc(), &mut refused)?;
+    let mut refused = 0u32;
+    again!(
+        rt,
+        refused,
+        NewFault::Memory,
+        is_used(&rt, rt.alloc(), Script::Edits, &mut refused)
+    );
     tell(&rt, refused)
 }

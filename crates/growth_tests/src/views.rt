@@ -21,67 +21,89 @@ fn shown(view: &DiscoveryView) -> (u64, u64, [u8; 1300]) {
     (view.len(HOST), view.count(HOST), bytes)
 }
 
-// Follows the edit of a line, which is accepted; where it wants memory, the page is as before.
-fn an_edit_is_followed(
-    rt: &impl Abort,
+// Makes an edit, which is accepted; `AllocError` where the view wants memory for it.
+fn follow(followed: &mut Followed, edit: &Edit, refused: &mut u32) -> Result<bool, AllocError> {
+    if followed.config.check(edit).is_err() {
+        return Ok(false);
+    }
+    let plan = followed.view.prepare(&followed.config, edit)?;
+    let mut applied = followed.config.apply(edit);
+    if applied == Err(EditFault::Memory) {
+        *refused = refused.saturating_add(1);
+        applied = followed.config.apply(edit);
+    }
+    if applied.is_ok() {
+        followed.view.commit(plan);
+    }
+    Ok(applied.is_ok())
+}
+
+// Follows an edit; where the view wants memory for it, the page is as before.
+fn is_followed(followed: &mut Followed, edit: &Edit, refused: &mut u32) -> bool {
+    let before = shown(&followed.view);
+    let mut answer = follow(followed, edit, refused);
+    if answer == Err(AllocError) {
+        *refused = refused.saturating_add(1);
+        if shown(&followed.view) != before {
+            return false;
+        }
+        answer = follow(followed, edit, refused);
+    }
+    answer == Ok(true)
+}
+
+fn is_edited(
     alloc: Global,
     followed: &mut Followed,
     line: Line<'_>,
     refused: &mut u32,
-) -> Result<(), Fail> {
-    let edit = again!(rt, refused, AllocError, edit(alloc, line));
-    followed.config.check(&edit)?;
-    follow(rt, followed, &edit, refused)
+) -> Result<bool, AllocError> {
+    let edit = edit(alloc, line)?;
+    Ok(is_followed(followed, &edit, refused))
 }
 
-fn follow(
-    rt: &impl Abort,
-    followed: &mut Followed,
-    edit: &Edit,
-    refused: &mut u32,
-) -> Result<(), Fail> {
-    followed.config.check(edit)?;
-    let before = shown(&followed.view);
-    let plan = match followed.view.prepare(&followed.config, edit) {
-        Ok(plan) => plan,
-        Err(AllocError) => {
-            *refused = refused.saturating_add(1);
-            assert!(rt; shown(&followed.view) == before);
-            followed.view.prepare(&followed.config, edit)?
-        }
-    };
-    again!(rt, refused, EditFault::Memory, followed.config.apply(edit));
-    followed.view.commit(plan);
-    Ok(())
+// A is listed on port 1, and B on both as it opens; port 2 moves; its link of B goes, and then the
+// other.
+fn is_shown(view: &DiscoveryView) -> bool {
+    (view.len(HOST), view.count(HOST)) == (2048, 5)
+        && !view.is_past_end(HOST, 2048)
+        && view.is_past_end(HOST, 2049)
 }
 
-fn edits_are_followed(
-    rt: &impl Abort,
-    alloc: Global,
-    followed: &mut Followed,
-    refused: &mut u32,
-) -> Result<(), Fail> {
-    for line in &EDITS {
-        an_edit_is_followed(rt, alloc, followed, *line, refused)?;
+fn follow_edits(rt: &impl Abort, alloc: Global, followed: &mut Followed, refused: &mut u32) {
+    for line in EDITS {
+        again!(
+            rt,
+            *refused,
+            AllocError,
+            is_edited(alloc, followed, *line, refused)
+        );
     }
-    let view = &followed.view;
-    // A is listed on port 1, and B on both as it opens; port 2 moves; its link of B goes, and then the
-    // other.
-    assert!(rt; (view.len(HOST), view.count(HOST)) == (2048, 5));
-    assert!(rt; !view.is_past_end(HOST, 2048) && view.is_past_end(HOST, 2049));
-    Ok(())
+    assert!(rt; is_shown(&followed.view));
 }
 
-fn a_view_is_made(rt: &impl Abort, alloc: Global, refused: &mut u32) -> Result<(), Fail> {
-    let config = again!(rt, refused, NewFault::Memory, Config::new(alloc, &UNITS));
-    let view = again!(rt, refused, AllocError, DiscoveryView::new(alloc, &config));
-    let mut followed = Followed { config, view };
-    edits_are_followed(rt, alloc, &mut followed, refused)
+fn start(alloc: Global) -> Result<Followed, NewFault> {
+    let config = Config::new(alloc, UNITS)?;
+    match DiscoveryView::new(alloc, &config) {
+        Ok(view) => Ok(Followed { config, view }),
+        Err(AllocError) => Err(NewFault::Memory),
+    }
+}
+
+fn is_used(rt: &impl Abort, alloc: Global, refused: &mut u32) -> Result<bool, NewFault> {
+    let mut followed = start(alloc)?;
+    follow_edits(rt, alloc, &mut followed, refused);
+    Ok(true)
 }
 
 #[test]
 fn views(rt: HostRuntime) -> Result<(), Fail> {
-    let mut refused = 0;
-    a_view_is_made(&rt, rt.alloc(), &mut refused)?;
+    let mut refused = 0u32;
+    again!(
+        rt,
+        refused,
+        NewFault::Memory,
+        is_used(&rt, rt.alloc(), &mut refused)
+    );
     tell(&rt, refused)
 }
