@@ -1,162 +1,121 @@
-//! Many connections, their numbers and their controllers' identifiers.
-use super::driver::Driver;
-use super::pdus::{H1, connect, ic_req};
-use std::process::Abort;
-use std::test::Fail;
-use target_core::{NoConn, OpenFault, StepFault, Stepped, Target};
+//! Connections, beside one another and after the end of their port.
+use super::driver::{Driver, Script, holds};
+use super::pdus::{H1, ic_req};
+use std::alloc::AllocError;
+use target_core::{NoConn, StepFault, Stepped, Target};
 use test_edits::Line;
 
-fn end_all(target: &mut Target, numbers: [usize; 3]) {
-    for k in numbers {
-        target.end(k);
-    }
-}
-
-#[test]
-fn sixty_four_are_open_at_a_time(rt: HostRuntime) -> Result<(), Fail> {
-    let mut driver = Driver::new(rt.alloc())?;
-    let target = &mut driver.target;
-    open_all(&rt, target);
-    let refused = [target.open(2), target.open(9)];
-    assert!(rt; refused == [Err(OpenFault::Full), Err(OpenFault::NoSuchPort)]);
-    end_all(target, [50, 3, 17]);
-    let opened = [target.open(2), target.open(2), target.open(2)];
-    assert!(rt; opened == [Ok(3), Ok(17), Ok(50)]);
-    assert!(rt; target.open(1) == Err(OpenFault::Full));
-    driver.finish()
-}
-
-fn open_all(rt: &impl Abort, target: &mut Target) {
+// Opens 64 connections; whether they get the numbers from 0 to 63.
+fn are_all_opened(target: &mut Target) -> bool {
     for k in 0..64usize {
-        assert!(rt; target.open(1) == Ok(k));
+        if target.open(1) != Ok(k) {
+            return false;
+        }
     }
+    true
+}
+
+pub fn knows_none_past_all(target: &mut Target) -> bool {
+    if !are_all_opened(target) {
+        return false;
+    }
+    let rooms = [target.room(63), target.room(64)];
+    let answers = (target.receive(64, b""), target.step(64));
+    rooms == [32_768, 0]
+        && answers == (Err(NoConn), Err(StepFault::NoConn))
+        && target.output(64).is_empty()
 }
 
 #[test]
-fn a_number_past_all_connections_is_not_known(rt: HostRuntime) -> Result<(), Fail> {
-    let mut driver = Driver::new(rt.alloc())?;
-    let target = &mut driver.target;
-    open_all(&rt, target);
-    assert!(rt; [target.room(63), target.room(64)] == [32_768, 0]);
-    assert!(rt; target.receive(64, b"") == Err(NoConn));
-    assert!(rt; target.step(64) == Err(StepFault::NoConn));
-    assert!(rt; target.output(64).is_empty());
-    driver.finish()
+fn a_number_past_all_connections_is_not_known(rt: HostRuntime) {
+    assert!(rt; holds(rt.alloc(), Script::NumberPastAll));
 }
 
-// The controller's identifier and the status of a response to Connect.
-fn identifier(response: &[u8; 24]) -> (u16, u16) {
-    (
-        u16::from_le_bytes([response[8], response[9]]),
-        u16::from_le_bytes([response[22], response[23]]),
-    )
-}
-
-// Connections 1 to 32 connect, of 33, and get the identifiers 1 to 32.
-fn connect_all(rt: &impl Abort, driver: &mut Driver) {
-    for k in 0..33usize {
-        assert!(rt; driver.target.open(1) == Ok(k));
-    }
-    for cntlid in 1..33u16 {
-        let response = driver.connect(usize::from(cntlid), H1);
-        assert!(rt; identifier(&response) == (cntlid, 0));
-    }
-}
-
-#[test]
-fn each_controller_gets_the_least_free_identifier(rt: HostRuntime) -> Result<(), Fail> {
-    let mut driver = Driver::new(rt.alloc())?;
-    connect_all(&rt, &mut driver);
-    let refused = driver.connect(0, H1);
-    assert!(rt; identifier(&refused) == (0, 0x8302));
-    driver.target.end(7);
-    driver.bring(0, connect(rt.alloc(), H1));
-    assert!(rt; driver.target.output(0).get(160..162) == Some([7, 0].as_slice()));
-    driver.finish()
-}
-
-// Connections 0 and 2 on port 1, and 1 on port 2, which have connected.
-fn three_connected(driver: &mut Driver) -> [bool; 3] {
-    let mut opened = [false; 3];
+// Connections 0 and 2 on port 1, and 1 on port 2, connect; whether they have these numbers. Then port 1
+// is deleted.
+fn are_three_connected(driver: &mut Driver) -> bool {
+    let mut are_opened = true;
     for (k, port) in [(0usize, 1u16), (1, 2), (2, 1)] {
-        opened[k] = driver.target.open(port) == Ok(k);
+        are_opened &= driver.target.open(port) == Ok(k);
         driver.connect(k, H1);
     }
-    opened
+    driver.edit(Line::PortDel(1));
+    are_opened
 }
 
-#[test]
-fn a_deleted_port_ends_its_connections(rt: HostRuntime) -> Result<(), Fail> {
-    let mut driver = Driver::new(rt.alloc())?;
-    assert!(rt; three_connected(&mut driver) == [true; 3]);
-    driver.edit(Line::PortDel(1));
+pub fn ends_with_its_port(driver: &mut Driver) -> bool {
+    let are_connected = are_three_connected(driver);
     let target = &driver.target;
-    assert!(rt; [target.ended(0), target.ended(1), target.ended(2)] == [true, false, true]);
+    let ended = [target.ended(0), target.ended(1), target.ended(2)];
     let lens = [
         target.output(0).len(),
         target.output(1).len(),
         target.output(2).len(),
     ];
-    assert!(rt; lens == [152; 3]);
-    driver.finish()
+    are_connected && ended == [true, false, true] && lens == [152; 3]
 }
 
 #[test]
-fn an_ended_connection_takes_nothing(rt: HostRuntime) -> Result<(), Fail> {
-    let mut driver = Driver::new(rt.alloc())?;
-    assert!(rt; three_connected(&mut driver) == [true; 3]);
-    driver.edit(Line::PortDel(1));
+fn a_deleted_port_ends_its_connections(rt: HostRuntime) {
+    assert!(rt; holds(rt.alloc(), Script::PortDeleted));
+}
+
+pub fn takes_nothing_ended(driver: &mut Driver) -> bool {
+    let are_connected = are_three_connected(driver);
     let target = &mut driver.target;
-    assert!(rt; target.step(0) == Ok(Stepped::Idle));
-    assert!(rt; target.receive(2, b"x") == Ok(0));
-    assert!(rt; [target.room(0), target.room(1)] == [0, 32_768]);
-    driver.finish()
+    let answers = (target.step(0), target.receive(2, b"x"));
+    let rooms = [target.room(0), target.room(1)];
+    are_connected && answers == (Ok(Stepped::Idle), Ok(0)) && rooms == [0, 32_768]
 }
 
 #[test]
-fn an_ended_connection_stays_ended(rt: HostRuntime) -> Result<(), Fail> {
-    let mut driver = Driver::new(rt.alloc())?;
-    assert!(rt; three_connected(&mut driver) == [true; 3]);
-    driver.edit(Line::PortDel(1));
+fn an_ended_connection_takes_nothing(rt: HostRuntime) {
+    assert!(rt; holds(rt.alloc(), Script::EndedTakesNothing));
+}
+
+// The port comes back, and its connections do not. A new one gets the identifier that is free.
+pub fn stays_ended(driver: &mut Driver) -> bool {
+    let are_connected = are_three_connected(driver);
     driver.edit(Line::PortAdd(1, b"127.0.0.1", 4420));
-    assert!(rt; driver.target.ended(0));
-    assert!(rt; driver.target.open(1) == Ok(3));
+    let is_ended = driver.target.ended(0);
+    let opened = driver.target.open(1);
     let response = driver.connect(3, H1);
-    assert!(rt; identifier(&response).0 == 1);
-    driver.finish()
-}
-
-// Brings bytes to a connection, and steps: whether they were received, and what the step answers.
-fn brings(target: &mut Target, k: usize, bytes: &[u8]) -> (bool, Result<Stepped, StepFault>) {
-    let received = target.receive(k, bytes) == Ok(bytes.len());
-    (received, target.step(k))
+    are_connected && is_ended && opened == Ok(3) && response[8..10] == [1, 0]
 }
 
 #[test]
-fn a_step_leaves_other_connections_alone(rt: HostRuntime) -> Result<(), Fail> {
-    let request = ic_req(rt.alloc())?;
-    let mut driver = Driver::new(rt.alloc())?;
-    two_at_once(&rt, &mut driver, &request);
-    driver.finish()
+fn an_ended_connection_stays_ended(rt: HostRuntime) {
+    assert!(rt; holds(rt.alloc(), Script::EndedStaysEnded));
 }
 
-fn two_at_once(rt: &impl Abort, driver: &mut Driver, request: &[u8]) {
+// A second ICReq ends connection 1, while the rest of the first one of connection 0 waits.
+fn ends_one(target: &mut Target, request: &[u8], back: &[u8]) -> bool {
+    let is_idle = target.step(0) == Ok(Stepped::Idle);
+    let received = [target.receive(0, back), target.receive(1, request)];
+    is_idle
+        && received == [Ok(28), Ok(128)]
+        && [target.step(1), target.step(0)] == [Ok(Stepped::Ended), Ok(Stepped::One)]
+}
+
+fn are_two_served(driver: &mut Driver, request: &[u8]) -> bool {
     let (front, back) = request.split_at(request.len().min(100));
-    assert!(rt; [driver.target.open(1), driver.target.open(2)] == [Ok(0), Ok(1)]);
-    assert!(rt; driver.target.receive(0, front) == Ok(100));
+    let opened = [driver.target.open(1), driver.target.open(2)];
+    let received = driver.target.receive(0, front);
     driver.connect(1, H1);
-    two_more_steps(rt, &mut driver.target, request, back);
+    opened == [Ok(0), Ok(1)] && received == Ok(100) && ends_one(&mut driver.target, request, back)
 }
 
-fn two_more_steps(rt: &impl Abort, target: &mut Target, request: &[u8], back: &[u8]) {
-    assert!(rt; target.step(0) == Ok(Stepped::Idle));
-    assert!(rt; target.receive(0, back) == Ok(28));
-    assert!(rt; brings(target, 1, request) == (true, Ok(Stepped::Ended)));
-    assert_owes(rt, target);
+pub fn are_two_at_once(driver: &mut Driver) -> bool {
+    let are_served = match ic_req(driver.alloc) {
+        Ok(request) => are_two_served(driver, &request),
+        Err(AllocError) => false,
+    };
+    let target = &driver.target;
+    let lens = [target.output(0).len(), target.output(1).len()];
+    are_served && lens == [128, 152 + 24 + 128] && !target.ended(0)
 }
 
-fn assert_owes(rt: &impl Abort, target: &mut Target) {
-    assert!(rt; target.step(0) == Ok(Stepped::One));
-    assert!(rt; [target.output(0).len(), target.output(1).len()] == [128, 152 + 24 + 128]);
-    assert!(rt; !target.ended(0));
+#[test]
+fn a_step_leaves_other_connections_alone(rt: HostRuntime) {
+    assert!(rt; holds(rt.alloc(), Script::TwoAtOnce));
 }

@@ -1,14 +1,37 @@
 //! A target that a test drives.
 use super::pdus::{connect, ic_req, log_read, property};
+use super::{answers, connections, pages, waiting};
+use nvt_config::NewFault;
 use std::alloc::{AllocError, Global};
-use std::test::Fail;
 use target_core::{Stepped, Target};
 use test_edits::{Line, edit};
+
+/// What a test does with its driver.
+#[derive(Clone, Copy)]
+pub enum Script {
+    Answers,
+    NumberPastAll,
+    PortDeleted,
+    EndedTakesNothing,
+    EndedStaysEnded,
+    TwoAtOnce,
+    RecordsCounted,
+    RecordTold,
+    OutputWaits,
+}
+
+/// Whether all that a script expects of a target holds.
+pub fn holds(alloc: Global, script: Script) -> bool {
+    match Driver::new(alloc) {
+        Ok(mut driver) => driver.runs(script) && !driver.failed,
+        Err(_) => false,
+    }
+}
 
 /// The bytes before those of a log read's data: an ICResp, two responses, and a header.
 const BEFORE_DATA: usize = 128 + 2 * 24 + 24;
 
-/// A target, and whether a call was refused that must not be: then the test fails at its end.
+/// A target of one disk, and whether a call was refused that must not be.
 #[derive(Drop)]
 pub struct Driver {
     pub alloc: Global,
@@ -17,16 +40,33 @@ pub struct Driver {
 }
 
 impl Driver {
-    /// A target of one disk with ports 1 and 2.
-    pub fn new(alloc: Global) -> Result<Driver, Fail> {
-        let mut driver = Driver {
+    fn new(alloc: Global) -> Result<Driver, NewFault> {
+        let target = Target::new(alloc, &[2048])?;
+        Ok(Driver {
             alloc,
-            target: Target::new(alloc, &[2048])?,
+            target,
             failed: false,
-        };
-        driver.edit(Line::PortAdd(1, b"127.0.0.1", 4420));
-        driver.edit(Line::PortAdd(2, b"127.0.0.1", 4420));
-        Ok(driver)
+        })
+    }
+
+    // Each script but the first goes on from ports 1 and 2.
+    fn runs(&mut self, script: Script) -> bool {
+        if matches!(script, Script::Answers) {
+            return answers::are_answered(self.alloc, &mut self.target);
+        }
+        self.edit(Line::PortAdd(1, b"127.0.0.1", 4420));
+        self.edit(Line::PortAdd(2, b"127.0.0.1", 4420));
+        match script {
+            Script::Answers => false,
+            Script::NumberPastAll => connections::knows_none_past_all(&mut self.target),
+            Script::PortDeleted => connections::ends_with_its_port(self),
+            Script::EndedTakesNothing => connections::takes_nothing_ended(self),
+            Script::EndedStaysEnded => connections::stays_ended(self),
+            Script::TwoAtOnce => connections::are_two_at_once(self),
+            Script::RecordsCounted => pages::counts_each_change(self),
+            Script::RecordTold => pages::tells_a_record(self),
+            Script::OutputWaits => waiting::goes_on(self),
+        }
     }
 
     pub fn edit(&mut self, line: Line<'_>) {
@@ -88,15 +128,6 @@ impl Driver {
         match found {
             Some(found) => bytes.copy_from_slice(found),
             None => self.failed = true,
-        }
-    }
-
-    /// Fails where a call was refused.
-    pub fn finish(&self) -> Result<(), Fail> {
-        if self.failed {
-            Err(Fail::new("a call was refused"))
-        } else {
-            Ok(())
         }
     }
 }

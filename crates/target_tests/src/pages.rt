@@ -1,9 +1,7 @@
 //! The discovery log page that hosts read while edits are made.
-use super::driver::Driver;
+use super::driver::{Driver, Script, holds};
 use super::pdus::{A, B, H1, H2};
 use nvt_config::{Access, Family};
-use std::process::Abort;
-use std::test::Fail;
 use test_edits::Line;
 
 // Whether each host's page has this GENCTR and NUMREC, and no other byte in its header.
@@ -20,7 +18,7 @@ fn counts(driver: &mut Driver, genctr: u8, numrec: u8) -> bool {
 }
 
 // Edits, and the GENCTR and NUMREC of each host's page after them.
-const ROWS: [(&[Line<'static>], u8, u8); 5] = [
+const ROWS: &[(&[Line<'static>], u8, u8)] = &[
     (
         &[
             Line::SubsystemAdd(A, b"SN", Access::Open),
@@ -43,18 +41,19 @@ fn edit_all(driver: &mut Driver, lines: &[Line<'_>]) {
     }
 }
 
-fn assert_rows(rt: &impl Abort, driver: &mut Driver) {
-    for (lines, genctr, numrec) in &ROWS {
+pub fn counts_each_change(driver: &mut Driver) -> bool {
+    for (lines, genctr, numrec) in ROWS {
         edit_all(driver, lines);
-        assert!(rt; counts(driver, *genctr, *numrec));
+        if !counts(driver, *genctr, *numrec) {
+            return false;
+        }
     }
+    true
 }
 
 #[test]
-fn each_change_of_the_records_is_counted(rt: HostRuntime) -> Result<(), Fail> {
-    let mut driver = Driver::new(rt.alloc())?;
-    assert_rows(&rt, &mut driver);
-    driver.finish()
+fn each_change_of_the_records_is_counted(rt: HostRuntime) {
+    assert!(rt; holds(rt.alloc(), Script::RecordsCounted));
 }
 
 /// The record of A on port 1, which listens at 127.0.0.1 for the service 4421.
@@ -70,16 +69,18 @@ pub fn record() -> [u8; 1024] {
 }
 
 /// The edits that make it.
-pub const ONE_RECORD: [Line<'static>; 3] = [
+pub const ONE_RECORD: &[Line<'static>] = &[
     Line::SubsystemAdd(A, b"SN", Access::Open),
     Line::LinkAdd(1, A),
     MOVE,
 ];
 
+pub fn tells_a_record(driver: &mut Driver) -> bool {
+    edit_all(driver, ONE_RECORD);
+    driver.page(H1, 1024) == record()
+}
+
 #[test]
-fn a_record_tells_the_port_and_the_subsystem(rt: HostRuntime) -> Result<(), Fail> {
-    let mut driver = Driver::new(rt.alloc())?;
-    edit_all(&mut driver, &ONE_RECORD);
-    assert!(rt; driver.page(H1, 1024) == record());
-    driver.finish()
+fn a_record_tells_the_port_and_the_subsystem(rt: HostRuntime) {
+    assert!(rt; holds(rt.alloc(), Script::RecordTold));
 }

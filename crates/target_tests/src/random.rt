@@ -96,15 +96,15 @@ fn log_read(alloc: Global, random: &mut Pcg32) -> Result<Vec<u8>, AllocError> {
     capsule(alloc, &entry, &[])
 }
 
-const H2C_TERM_REQ: [u8; 24] = [
+const H2C_TERM_REQ: &[u8; 24] = &[
     2, 0, 24, 0, 24, 0, 0, 0, 1, 0, 0, 0, 0, 0, 0, 0, 0, 0, 0, 0, 0, 0, 0, 0,
 ];
 
-const H2C_DATA: [u8; 24] = [
+const H2C_DATA: &[u8; 24] = &[
     6, 0, 24, 24, 24, 0, 0, 0, 1, 0, 9, 0, 0, 0, 0, 0, 0, 0, 0, 0, 0, 0, 0, 0,
 ];
 
-const HEADER_DIGEST: [u8; 8] = [4, 1, 72, 0, 72, 0, 0, 0];
+const HEADER_DIGEST: &[u8; 8] = &[4, 1, 72, 0, 72, 0, 0, 0];
 
 /// A PDU of any kind, mostly one that lets the conversation go on.
 pub fn pdu(alloc: Global, random: &mut Pcg32, position: u32) -> Result<Vec<u8>, AllocError> {
@@ -117,9 +117,9 @@ pub fn pdu(alloc: Global, random: &mut Pcg32, position: u32) -> Result<Vec<u8>, 
     match random.next_word() % 40 {
         0 => ic_req(alloc, random),
         1 | 2 => connect(alloc, random),
-        3 => Vec::from_slice(alloc, &H2C_TERM_REQ),
-        4 => Vec::from_slice(alloc, &H2C_DATA),
-        5 => Vec::from_slice(alloc, &HEADER_DIGEST),
+        3 => Vec::from_slice(alloc, H2C_TERM_REQ),
+        4 => Vec::from_slice(alloc, H2C_DATA),
+        5 => Vec::from_slice(alloc, HEADER_DIGEST),
         6..=19 => log_read(alloc, random),
         _ => property(alloc, random),
     }

@@ -1,9 +1,7 @@
 //! Output that is not taken.
-use super::driver::Driver;
+use super::driver::{Driver, Script, holds};
 use super::pages::{ONE_RECORD, record};
 use super::pdus::{H1, log_part, property};
-use std::process::Abort;
-use std::test::Fail;
 
 /// The ICResp and the responses to the Connect and the Property Set.
 const BEFORE_READS: usize = 128 + 24 + 24;
@@ -56,7 +54,7 @@ fn holds_reads(output: &[u8], at: usize, last: u8) -> bool {
 // A host that connects, enables its controller, and reads three times; nothing is taken.
 fn read_three_times(driver: &mut Driver) {
     let alloc = driver.alloc;
-    for line in &ONE_RECORD {
+    for line in ONE_RECORD {
         driver.edit(*line);
     }
     driver.connect(0, H1);
@@ -66,20 +64,22 @@ fn read_three_times(driver: &mut Driver) {
     }
 }
 
-#[test]
-fn steps_go_on_while_output_waits(rt: HostRuntime) -> Result<(), Fail> {
-    let mut driver = Driver::new(rt.alloc())?;
-    assert!(rt; driver.target.open(1) == Ok(0));
-    read_three_times(&mut driver);
-    assert!(rt; holds_reads(driver.target.output(0), BEFORE_READS, 5));
-    take_and_read(&rt, &mut driver);
-    driver.finish()
-}
-
 // Takes a part of the output, and reads once more.
-fn take_and_read(rt: &impl Abort, driver: &mut Driver) {
+fn take_and_read(driver: &mut Driver) {
     let len = driver.target.output(0).len().min(BEFORE_READS);
     driver.target.taken(0, len);
     driver.bring(0, log_part(driver.alloc, 6, 0, 8192));
-    assert!(rt; holds_reads(driver.target.output(0), 0, 6));
+}
+
+pub fn goes_on(driver: &mut Driver) -> bool {
+    let opened = driver.target.open(1);
+    read_three_times(driver);
+    let are_there = holds_reads(driver.target.output(0), BEFORE_READS, 5);
+    take_and_read(driver);
+    opened == Ok(0) && are_there && holds_reads(driver.target.output(0), 0, 6)
+}
+
+#[test]
+fn steps_go_on_while_output_waits(rt: HostRuntime) {
+    assert!(rt; holds(rt.alloc(), Script::OutputWaits));
 }

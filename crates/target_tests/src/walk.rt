@@ -8,10 +8,7 @@ use rand_core::utils::NextWord;
 use rand_pcg::Pcg32;
 use script::{CONNECTIONS, Script};
 use std::alloc::{AllocError, Global};
-use std::process::Abort;
 use std::test::Fail;
-use target_core::Target;
-use test_edits::{Line, edit};
 
 const SCRIPTS: u64 = 240;
 
@@ -23,55 +20,51 @@ const SEED: u64 = 0x6e76_6d65;
 const TAKEN: u64 = 1 << 32;
 
 // One more event, on a connection that is known or by an edit.
-fn go_on(rt: &impl Abort, script: &mut Script, random: &mut Pcg32) -> Result<(), Fail> {
+fn go_on(script: &mut Script, random: &mut Pcg32) {
     if random::rarely(random, 4) {
-        return script.edit(rt, random::line(random));
+        script.edit(random::line(random));
+        return;
     }
     let number = (random.next_word() % CONNECTIONS) as usize;
     if script.target.room(number) == 0 {
-        if script.target.ended(number) {
-            script.end(number);
-        }
-        return script.open(rt, (random.next_word() % 3) as u16);
-    }
-    if random::rarely(random, 30) {
+        open_anew(script, random, number);
+    } else if random::rarely(random, 30) {
         script.end(number);
-        return Ok(());
+    } else {
+        bring(script, random, number);
     }
-    let bytes = random::pdu(script.alloc, random, script.next_position(number))?;
+}
+
+fn open_anew(script: &mut Script, random: &mut Pcg32, number: usize) {
+    if script.target.ended(number) {
+        script.end(number);
+    }
+    script.open((random.next_word() % 3) as u16);
+}
+
+fn bring(script: &mut Script, random: &mut Pcg32, number: usize) {
+    let position = script.next_position(number);
+    let pdu = random::pdu(script.alloc, random, position);
     let cut = random.next_word() as usize % 200;
-    script.take(rt, number, &bytes, cut)?;
-    script.compare(rt, number)
+    script.take(number, pdu, cut);
+    script.compare(number);
 }
 
 // Runs a script, of which some output is taken on the way.
-fn run(rt: &impl Abort, script: &mut Script, number: u64) -> Result<(), Fail> {
+fn run(script: &mut Script, number: u64) {
     let mut random = Pcg32::new(SEED, number);
     let mut taken = Pcg32::new(SEED, TAKEN.saturating_add(number));
+    script.add_ports();
     for _ in 0..EVENTS {
-        go_on(rt, script, &mut random)?;
+        go_on(script, &mut random);
         if random::rarely(&mut taken, 4) {
             let number = (taken.next_word() % CONNECTIONS) as usize;
             script.take_output(number, taken.next_word() as usize % 3000);
         }
     }
     for number in 0..CONNECTIONS as usize {
-        script.compare(rt, number)?;
+        script.compare(number);
     }
-    Ok(())
-}
-
-fn run_one(rt: &impl Abort, alloc: Global, number: u64) -> Result<(), Fail> {
-    let mut script = Script::new(rt, alloc)?;
-    run(rt, &mut script, number)
-}
-
-#[test]
-fn sends_the_same_however_a_stream_is_cut(rt: HostRuntime) -> Result<(), Fail> {
-    for number in 0..SCRIPTS {
-        run_one(&rt, rt.alloc(), number)?;
-    }
-    Ok(())
 }
 
 // A PDU of the first conversation.
@@ -95,23 +88,18 @@ fn bytes_of(alloc: Global, pdu: Pdu) -> Result<Vec<u8>, AllocError> {
 }
 
 // What is sent of these PDUs is the same in two pieces as whole, and is this long.
-fn compare(rt: &impl Abort, alloc: Global, pdus: &[Pdu], wanted: usize) -> Result<(), Fail> {
-    let mut script = Script::new(rt, alloc)?;
-    converse(rt, &mut script, pdus)?;
-    assert!(rt; script.target.output(0).len() == wanted);
-    Ok(())
-}
-
-fn converse(rt: &impl Abort, script: &mut Script, pdus: &[Pdu]) -> Result<(), Fail> {
-    script.open(rt, 1)?;
+fn converse(script: &mut Script, pdus: &[Pdu], wanted: usize) {
+    script.add_ports();
+    script.open(1);
     for pdu in pdus {
-        let bytes = bytes_of(script.alloc, *pdu)?;
-        script.take(rt, 0, &bytes, 127)?;
+        script.take(0, bytes_of(script.alloc, *pdu), 127);
     }
-    script.compare(rt, 0)
+    script.compare(0);
+    let len = script.target.output(0).len();
+    script.expect(len == wanted, "the length of what is sent");
 }
 
-const ROWS: [(&[Pdu], usize); 5] = [
+const ROWS: &[(&[Pdu], usize)] = &[
     (&[Pdu::IcReq], 128),
     (&[], 0),
     (&[Pdu::Property(1, 4, 0)], 96),
@@ -138,45 +126,45 @@ const ROWS: [(&[Pdu], usize); 5] = [
     ),
 ];
 
+// What is walked.
+#[derive(Clone, Copy)]
+enum Walk {
+    // The random script of this number.
+    Random(u64),
+    // These PDUs, and the length of what is sent of them.
+    Conversation(&'static [Pdu], usize),
+}
+
+// What goes wrong first.
+fn fault_of(alloc: Global, walk: Walk) -> Option<&'static str> {
+    match Script::new(alloc) {
+        Ok(mut script) => {
+            match walk {
+                Walk::Random(number) => run(&mut script, number),
+                Walk::Conversation(pdus, wanted) => converse(&mut script, pdus, wanted),
+            }
+            script.fault()
+        }
+        Err(_) => Some("want of memory for a target"),
+    }
+}
+
+#[test]
+fn sends_the_same_however_a_stream_is_cut(rt: HostRuntime) -> Result<(), Fail> {
+    for number in 0..SCRIPTS {
+        if let Some(fault) = fault_of(rt.alloc(), Walk::Random(number)) {
+            return Err(Fail::new(fault));
+        }
+    }
+    Ok(())
+}
+
 #[test]
 fn the_first_conversation_is_the_same_in_pieces(rt: HostRuntime) -> Result<(), Fail> {
-    for (pdus, wanted) in &ROWS {
-        compare(&rt, rt.alloc(), pdus, *wanted)?;
+    for (pdus, wanted) in ROWS {
+        if let Some(fault) = fault_of(rt.alloc(), Walk::Conversation(pdus, *wanted)) {
+            return Err(Fail::new(fault));
+        }
     }
-    Ok(())
-}
-
-// A target with port 1, and a connection on it.
-fn opened(alloc: Global) -> Result<Target, Fail> {
-    let mut target = Target::new(alloc, &[])?;
-    open_first(alloc, &mut target)?;
-    Ok(target)
-}
-
-fn open_first(alloc: Global, target: &mut Target) -> Result<(), Fail> {
-    target.edit(&edit(alloc, Line::PortAdd(1, b"127.0.0.1", 4420))?)?;
-    let _ = target.open(1)?;
-    Ok(())
-}
-
-// Each byte is received alone, and nothing is owed before the last.
-fn bring_bytes(rt: &impl Abort, target: &mut Target, bytes: &[u8]) -> Result<(), Fail> {
-    for byte in bytes {
-        assert!(rt; target.output(0).is_empty());
-        assert!(rt; target.receive(0, &[*byte])? == 1);
-        let _ = target.step(0)?;
-    }
-    Ok(())
-}
-
-#[test]
-fn part_of_an_ic_req_is_owed_nothing(rt: HostRuntime) -> Result<(), Fail> {
-    let request = ic_req(rt.alloc())?;
-    let mut target = opened(rt.alloc())?;
-    bring_bytes(&rt, &mut target, &request)?;
-    let sent = target.output(0).len();
-    assert!(rt; sent == 128);
-    target.taken(0, sent);
-    assert!(rt; target.output(0).is_empty());
     Ok(())
 }

@@ -1,12 +1,11 @@
-use std::alloc::Global;
-use std::process::Abort;
-use std::test::Fail;
+use nvt_config::{Edit, NewFault};
+use std::alloc::{AllocError, Global};
 use target_core::{OpenFault, Stepped, Target};
 use test_edits::{Line, edit};
 
 pub const CONNECTIONS: u32 = 4;
 
-const UNITS: [u64; 1] = [2048];
+const UNITS: &[u64] = &[2048];
 
 // What a test knows of a connection by itself.
 #[derive(Clone, Copy)]
@@ -24,55 +23,86 @@ const UNKNOWN: Known = Known {
     taken: 0,
 };
 
-/// A target whose PDUs come in pieces, beside one to which the same happens with each PDU whole, and of
-/// whose output nothing is taken.
+/// A target whose PDUs come in pieces, beside one to which the same happens with each PDU whole and of
+/// whose output nothing is taken, and what went wrong first.
 #[derive(Drop)]
 pub struct Script {
     pub alloc: Global,
     pub target: Target,
     whole: Target,
     known: [Known; 4],
+    fault: Option<&'static str>,
 }
 
 impl Script {
-    /// A target of one disk with ports 1 and 2.
-    pub fn new(rt: &impl Abort, alloc: Global) -> Result<Script, Fail> {
-        let mut script = Script {
+    /// A target of one disk.
+    pub fn new(alloc: Global) -> Result<Script, NewFault> {
+        let target = Target::new(alloc, UNITS)?;
+        let whole = Target::new(alloc, UNITS)?;
+        Ok(Script {
             alloc,
-            target: Target::new(alloc, &UNITS)?,
-            whole: Target::new(alloc, &UNITS)?,
+            target,
+            whole,
             known: [UNKNOWN; 4],
-        };
-        script.add_ports(rt)?;
-        Ok(script)
+            fault: None,
+        })
     }
 
-    fn add_ports(&mut self, rt: &impl Abort) -> Result<(), Fail> {
-        self.edit(rt, Line::PortAdd(1, b"127.0.0.1", 4420))?;
-        self.edit(rt, Line::PortAdd(2, b"127.0.0.1", 4420))
+    pub fn fault(&self) -> Option<&'static str> {
+        self.fault
+    }
+
+    pub fn expect(&mut self, holds: bool, what: &'static str) {
+        if !holds && self.fault.is_none() {
+            self.fault = Some(what);
+        }
+    }
+
+    pub fn add_ports(&mut self) {
+        self.edit(Line::PortAdd(1, b"127.0.0.1", 4420));
+        self.edit(Line::PortAdd(2, b"127.0.0.1", 4420));
     }
 
     /// Edits: the target answers what its configuration's check does.
-    pub fn edit(&mut self, rt: &impl Abort, line: Line<'_>) -> Result<(), Fail> {
-        let edit = edit(self.alloc, line)?;
-        let verdict = self.target.config().check(&edit);
-        assert!(rt; self.target.edit(&edit) == verdict);
-        assert!(rt; self.whole.edit(&edit) == verdict);
-        Ok(())
+    pub fn edit(&mut self, line: Line<'_>) {
+        match edit(self.alloc, line) {
+            Ok(edit) => self.make(&edit),
+            Err(AllocError) => self.expect(false, "want of memory for an edit"),
+        }
+    }
+
+    fn make(&mut self, edit: &Edit) {
+        let verdict = self.target.config().check(edit);
+        let made = self.target.edit(edit);
+        self.expect(made == verdict, "the answer of an edit");
+        let made = self.whole.edit(edit);
+        self.expect(made == verdict, "the answer of the same edit");
     }
 
     /// Opens a connection: on a port that is there it gets the least free number.
-    pub fn open(&mut self, rt: &impl Abort, port: u16) -> Result<(), Fail> {
-        if self.target.config().port(port).is_none() {
-            assert!(rt; self.target.open(port) == Err(OpenFault::NoSuchPort));
-            return Ok(());
+    pub fn open(&mut self, port: u16) {
+        let is_there = self.target.config().port(port).is_some();
+        let opened = self.target.open(port);
+        let is_same = self.whole.open(port) == opened;
+        self.expect(is_same, "the same open");
+        if is_there {
+            let number = self.first_free();
+            self.expect(opened == Ok(number), "the number of a connection");
+            self.known[number % 4].is_open = true;
+        } else {
+            let is_refused = opened == Err(OpenFault::NoSuchPort);
+            self.expect(is_refused, "a port that is not there");
         }
-        let free = self.known.iter().position(|known| !known.is_open);
-        let number = free.ok_or("each connection is open")?;
-        assert!(rt; self.target.open(port) == Ok(number));
-        assert!(rt; self.whole.open(port) == Ok(number));
-        self.known[number % 4].is_open = true;
-        Ok(())
+    }
+
+    fn first_free(&mut self) -> usize {
+        for (number, known) in self.known.iter().enumerate() {
+            if !known.is_open {
+                return number;
+            }
+        }
+        self.expect(false, "each connection is open");
+        0
     }
 
     pub fn end(&mut self, number: usize) {
@@ -90,15 +120,18 @@ impl Script {
     }
 
     /// Brings one PDU, or what stands in its place: to the one target in two pieces, to the other whole.
-    pub fn take(
-        &mut self,
-        rt: &impl Abort,
-        number: usize,
-        bytes: &[u8],
-        cut: usize,
-    ) -> Result<(), Fail> {
-        feed(rt, &mut self.target, number, bytes, cut)?;
-        feed(rt, &mut self.whole, number, bytes, bytes.len())
+    pub fn take(&mut self, number: usize, pdu: Result<Vec<u8>, AllocError>, cut: usize) {
+        match pdu {
+            Ok(bytes) => self.take_bytes(number, &bytes, cut),
+            Err(AllocError) => self.expect(false, "want of memory for a PDU"),
+        }
+    }
+
+    fn take_bytes(&mut self, number: usize, bytes: &[u8], cut: usize) {
+        let is_taken = is_one_taken(&mut self.target, number, bytes, cut);
+        self.expect(is_taken, "what a step takes");
+        let is_taken = is_one_taken(&mut self.whole, number, bytes, bytes.len());
+        self.expect(is_taken, "what the same step takes");
     }
 
     /// Takes so many bytes of the connection's output, or all where there are fewer.
@@ -110,42 +143,46 @@ impl Script {
     }
 
     /// What the two send on this connection is the same.
-    pub fn compare(&self, rt: &impl Abort, number: usize) -> Result<(), Fail> {
-        let waiting = self.whole.output(number).get(self.known[number % 4].taken..);
-        assert!(rt; waiting == Some(self.target.output(number)));
-        Ok(())
+    pub fn compare(&mut self, number: usize) {
+        let is_same = self.is_same(number);
+        self.expect(is_same, "what is sent");
+    }
+
+    fn is_same(&self, number: usize) -> bool {
+        let sent = self.whole.output(number);
+        sent.get(self.known[number % 4].taken..) == Some(self.target.output(number))
     }
 }
 
-// Feeds the bytes in two pieces, each as far as there is room for it. One PDU is taken.
-fn feed(
-    rt: &impl Abort,
-    target: &mut Target,
-    number: usize,
-    bytes: &[u8],
-    cut: usize,
-) -> Result<(), Fail> {
+// Feeds the bytes in two pieces, each as far as there is room for it; whether one PDU is taken.
+fn is_one_taken(target: &mut Target, number: usize, bytes: &[u8], cut: usize) -> bool {
     let (front, back) = bytes.split_at(cut.min(bytes.len()));
-    let mut taken = 0u32;
-    for piece in [front, back] {
-        let received = target.room(number).min(piece.len());
-        assert!(rt; target.receive(number, piece) == Ok(received));
-        taken = taken.saturating_add(steps(rt, target, number)?);
+    let taken = [fed(target, number, front), fed(target, number, back)];
+    taken == [Some(0), Some(1)] || taken == [Some(1), Some(0)]
+}
+
+// How many PDUs are taken with this piece; none where an answer is wrong.
+fn fed(target: &mut Target, number: usize, piece: &[u8]) -> Option<u32> {
+    let received = target.room(number).min(piece.len());
+    if target.receive(number, piece) != Ok(received) {
+        return None;
     }
-    assert!(rt; taken == 1);
-    Ok(())
+    steps(target, number)
 }
 
 // Steps until the target is idle, at most four times; how many PDUs were taken.
-fn steps(rt: &impl Abort, target: &mut Target, number: usize) -> Result<u32, Fail> {
+fn steps(target: &mut Target, number: usize) -> Option<u32> {
     for taken in 0..4u32 {
         let waiting = target.output(number).len();
-        let stepped = target.step(number)?;
-        if stepped == Stepped::Idle {
-            assert!(rt; target.output(number).len() == waiting);
-            return Ok(taken);
+        let stepped = target.step(number);
+        if stepped == Ok(Stepped::Idle) {
+            let is_unchanged = target.output(number).len() == waiting;
+            return if is_unchanged { Some(taken) } else { None };
         }
-        assert!(rt; target.ended(number) == (stepped == Stepped::Ended));
+        let ended = target.ended(number);
+        if stepped != Ok(if ended { Stepped::Ended } else { Stepped::One }) {
+            return None;
+        }
     }
-    Ok(4)
+    Some(4)
 }
