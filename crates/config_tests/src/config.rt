@@ -8,15 +8,17 @@ use nvt_config::config::accepted_stays_valid;
 use nvt_config::{
     Access, Config, EditFault, Entry, Family, NewFault, Port, Subsystem, Text, Value,
 };
-use outline::{has_lists, is_accepted};
+use outline::has_lists;
 use std::alloc::{AllocError, Global};
 use std::fmt::Display;
 use std::test::Fail;
 use test_edits::{Line, apply, is_same};
 
+const DISKS: &[u64] = &[8, 1 << 40];
+
 // Subsystems a, b and c, ports 1 to 3, links of a on 1 and of b on 1 and 2, and hosts h, i, which is
 // deleted, and j.
-const FILLED: [Line<'static>; 13] = [
+const FILLED: &[Line<'static>] = &[
     Line::SubsystemAdd(b"nqn.a", b"SN-A", Access::Open),
     Line::SubsystemAdd(b"nqn.b", b"SN-B", Access::Open),
     Line::SubsystemAdd(b"nqn.c", b"SN-C", Access::Open),
@@ -32,39 +34,80 @@ const FILLED: [Line<'static>; 13] = [
     Line::HostDel(b"nqn.i"),
 ];
 
-fn filled(alloc: Global) -> Result<Config, Fail> {
-    let mut config = Config::new(alloc, &[8, 1 << 40])?;
-    fill(alloc, &mut config)?;
-    Ok(config)
+/// What a test does with a configuration.
+#[derive(Clone, Copy)]
+enum Script {
+    Entries,
+    Copy,
+    Names,
+    Sets,
+    Removals,
+    Hosts,
+    AllLinked,
+    AllHosts,
+    Refusals(&'static [(Line<'static>, EditFault)]),
+    PortValues,
 }
 
-fn fill(alloc: Global, config: &mut Config) -> Result<(), EditFault> {
-    for line in &FILLED {
-        apply(alloc, config, *line)?;
+// Whether all that a script expects of a configuration holds.
+fn holds(alloc: Global, script: Script) -> bool {
+    match Config::new(alloc, DISKS) {
+        Ok(mut config) => runs(alloc, &mut config, script),
+        Err(_) => false,
     }
-    Ok(())
+}
+
+fn runs(alloc: Global, config: &mut Config, script: Script) -> bool {
+    match script {
+        Script::Hosts => effects::are_hosts_edited(alloc, config),
+        Script::AllLinked => limits::is_full_of_links(alloc, config),
+        Script::AllHosts => limits::is_full_of_hosts(alloc, config),
+        _ => is_filled(alloc, config) && runs_filled(alloc, config, script),
+    }
+}
+
+fn runs_filled(alloc: Global, config: &mut Config, script: Script) -> bool {
+    match script {
+        Script::Entries => has_entries(config),
+        Script::Copy => is_copied(config),
+        Script::Names => finds_by_name(config),
+        Script::Sets => effects::are_sets_made(alloc, config),
+        Script::Removals => effects::are_removals_made(alloc, config),
+        Script::Refusals(rows) => refusals::are_refused(alloc, config, rows),
+        Script::PortValues => refusals::are_port_values_refused(alloc, config),
+        _ => false,
+    }
+}
+
+fn is_filled(alloc: Global, config: &mut Config) -> bool {
+    for line in FILLED {
+        if apply(alloc, config, *line).is_err() {
+            return false;
+        }
+    }
+    true
+}
+
+fn has_entries(config: &Config) -> bool {
+    config.units() == DISKS && has_lists(config, b" a b c 1:4420 2:4420 3:4420 1a 1b 2b h (i) j")
 }
 
 #[test]
-fn adds_entries(rt: HostRuntime) -> Result<(), Fail> {
-    let config = filled(rt.alloc())?;
-    assert!(rt; config.units() == [8, 1 << 40].as_slice());
-    assert!(rt;
-        has_lists(
-            rt.alloc(),
-            &config,
-            b" a b c 1:4420 2:4420 3:4420 1a 1b 2b h (i) j"
-        )?
-    );
+fn adds_entries(rt: HostRuntime) {
+    assert!(rt; holds(rt.alloc(), Script::Entries));
     accepted_stays_valid();
-    Ok(())
+}
+
+fn is_copied(config: &Config) -> bool {
+    match config.try_clone() {
+        Ok(copy) => is_same(&copy, config),
+        Err(AllocError) => false,
+    }
 }
 
 #[test]
-fn a_copy_is_equal(rt: HostRuntime) -> Result<(), Fail> {
-    let config = filled(rt.alloc())?;
-    assert!(rt; is_same(&config.try_clone()?, &config));
-    Ok(())
+fn a_copy_is_equal(rt: HostRuntime) {
+    assert!(rt; holds(rt.alloc(), Script::Copy));
 }
 
 fn is_port(port: Option<&Port>, address: &[u8], service: u16) -> bool {
@@ -87,25 +130,31 @@ fn is_open_subsystem(subsystem: Option<&Subsystem>, serial: &[u8]) -> bool {
     }
 }
 
-#[test]
-fn finds_entries_by_name(rt: HostRuntime) -> Result<(), Fail> {
-    let config = filled(rt.alloc())?;
-    assert!(rt; is_port(config.port(2), b"127.0.0.2", 4420));
-    assert!(rt; is_open_subsystem(config.subsystem(b"nqn.b"), b"SN-B"));
+fn finds_by_name(config: &Config) -> bool {
     let absent = [
         config.port(4).is_none(),
         config.subsystem(b"nqn.").is_none(),
         config.subsystem(b"nqn.d").is_none(),
     ];
-    assert!(rt; absent == [true; 3]);
-    Ok(())
+    is_port(config.port(2), b"127.0.0.2", 4420)
+        && is_open_subsystem(config.subsystem(b"nqn.b"), b"SN-B")
+        && absent == [true; 3]
 }
 
 #[test]
-fn hands_a_text_back(rt: HostRuntime) -> Result<(), Fail> {
-    let text = Text::from(Vec::from_slice(rt.alloc(), b"a b")?);
-    assert!(rt; text.try_clone()?.into_vec().as_slice() == b"a b".as_slice());
-    Ok(())
+fn finds_entries_by_name(rt: HostRuntime) {
+    assert!(rt; holds(rt.alloc(), Script::Names));
+}
+
+fn is_handed_back(alloc: Global, bytes: &[u8]) -> Result<bool, AllocError> {
+    let text = Text::from(Vec::from_slice(alloc, bytes)?);
+    let copy = text.try_clone()?.into_vec();
+    Ok(copy.as_slice() == bytes)
+}
+
+#[test]
+fn hands_a_text_back(rt: HostRuntime) {
+    assert!(rt; is_handed_back(rt.alloc(), b"a b") == Ok(true));
 }
 
 // How many disks a configuration of these sizes has.
@@ -113,21 +162,22 @@ fn disks(alloc: Global, units: &[u64]) -> Result<usize, NewFault> {
     Ok(Config::new(alloc, units)?.units().len())
 }
 
+const SIZES: &[(&[u64], Result<usize, NewFault>)] = &[
+    (&[], Ok(0)),
+    (&[0; 256], Ok(256)),
+    (&[0; 257], Err(NewFault::Disks)),
+    (&[1 << 40], Ok(1)),
+    (&[8, (1 << 40) + 1], Err(NewFault::Disks)),
+];
+
 #[test]
 fn takes_disks_within_the_limits(rt: HostRuntime) {
-    let rows: [(&[u64], Result<usize, NewFault>); 5] = [
-        (&[], Ok(0)),
-        (&[0; 256], Ok(256)),
-        (&[0; 257], Err(NewFault::Disks)),
-        (&[1 << 40], Ok(1)),
-        (&[8, (1 << 40) + 1], Err(NewFault::Disks)),
-    ];
-    for (units, answer) in rows {
-        assert!(rt; disks(rt.alloc(), units) == answer);
+    for (units, answer) in SIZES {
+        assert!(rt; disks(rt.alloc(), units) == *answer);
     }
 }
 
-const REPLIES: [(EditFault, &str); 13] = [
+const REPLIES: &[(EditFault, &str)] = &[
     (EditFault::BadValue(Value::Nqn), "refused BadValue Nqn"),
     (
         EditFault::BadValue(Value::Serial),
@@ -161,7 +211,7 @@ fn prints(alloc: Global, fault: EditFault, text: &str) -> Result<bool, AllocErro
 
 #[test]
 fn prints_replies(rt: HostRuntime) -> Result<(), Fail> {
-    for (fault, text) in &REPLIES {
+    for (fault, text) in REPLIES {
         assert!(rt; prints(rt.alloc(), *fault, text)?);
     }
     Ok(())

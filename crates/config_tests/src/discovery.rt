@@ -4,10 +4,9 @@ mod pages;
 mod random;
 
 use discovery_view::DiscoveryView;
-use nvt_config::{Access, Config, Edit};
+use nvt_config::{Access, Config, Edit, NewFault};
 use nvt_fields::u64_at;
-use std::alloc::Global;
-use std::test::Fail;
+use std::alloc::{AllocError, Global};
 use test_edits::{Line, edit};
 
 const A: &[u8] = b"nqn.2026-01.test:a";
@@ -18,7 +17,7 @@ const H1: &[u8] = b"nqn.2026-01.test:h1";
 
 const STRANGER: &[u8] = b"nqn.2026-01.test:stranger";
 
-const UNITS: [u64; 1] = [2048];
+const UNITS: &[u64] = &[2048];
 
 // A configuration and its view.
 #[derive(Drop)]
@@ -27,57 +26,106 @@ struct Followed {
     view: DiscoveryView,
 }
 
-fn start(alloc: Global) -> Result<Followed, Fail> {
-    let config = Config::new(alloc, &UNITS)?;
-    let view = DiscoveryView::new(alloc, &config)?;
-    Ok(Followed { config, view })
-}
-
-// Makes an edit, unless it is refused.
-fn follow(followed: &mut Followed, edit: &Edit) -> Result<(), Fail> {
-    if followed.config.check(edit).is_ok() {
-        let plan = followed.view.prepare(&followed.config, edit)?;
-        followed.config.apply(edit)?;
-        followed.view.commit(plan);
+fn start(alloc: Global) -> Result<Followed, NewFault> {
+    let config = Config::new(alloc, UNITS)?;
+    match DiscoveryView::new(alloc, &config) {
+        Ok(view) => Ok(Followed { config, view }),
+        Err(AllocError) => Err(NewFault::Memory),
     }
-    Ok(())
 }
 
-// Makes an edit, which is accepted.
-fn make(alloc: Global, followed: &mut Followed, line: Line<'_>) -> Result<(), Fail> {
-    let edit = edit(alloc, line)?;
-    make_edit(followed, &edit)
+// Makes an edit, unless it is refused; whether memory was there.
+fn follow(followed: &mut Followed, edit: &Edit) -> bool {
+    if followed.config.check(edit).is_err() {
+        return true;
+    }
+    match followed.view.prepare(&followed.config, edit) {
+        Ok(plan) => {
+            let is_applied = followed.config.apply(edit).is_ok();
+            if is_applied {
+                followed.view.commit(plan);
+            }
+            is_applied
+        }
+        Err(AllocError) => false,
+    }
 }
 
-fn make_edit(followed: &mut Followed, edit: &Edit) -> Result<(), Fail> {
-    followed.config.check(edit)?;
-    follow(followed, edit)
+// Makes an edit; whether it is accepted.
+fn is_made(alloc: Global, followed: &mut Followed, line: Line<'_>) -> bool {
+    match edit(alloc, line) {
+        Ok(edit) => followed.config.check(&edit).is_ok() && follow(followed, &edit),
+        Err(AllocError) => false,
+    }
 }
 
-fn make_all(alloc: Global, followed: &mut Followed, lines: &[Line<'_>]) -> Result<(), Fail> {
+fn are_made(alloc: Global, followed: &mut Followed, lines: &[Line<'_>]) -> bool {
     for line in lines {
-        make(alloc, followed, *line)?;
+        if !is_made(alloc, followed, *line) {
+            return false;
+        }
     }
-    Ok(())
+    true
+}
+
+/// What a test expects of a view.
+#[derive(Clone, Copy)]
+enum Script {
+    Moves,
+    Access,
+    Plans,
+    // The page of one record, by its GENCTR, its ADRFAM, its service and its address.
+    Record(u8, u8, &'static [u8], &'static [u8]),
+    Order,
+    Slices,
+    Zeros,
+}
+
+// Whether a view that has followed these edits does what a script expects.
+fn holds(alloc: Global, lines: &[Line<'_>], script: Script) -> bool {
+    match start(alloc) {
+        Ok(mut followed) => {
+            are_made(alloc, &mut followed, lines) && runs(alloc, &mut followed, script)
+        }
+        Err(_) => false,
+    }
+}
+
+fn runs(alloc: Global, followed: &mut Followed, script: Script) -> bool {
+    match script {
+        Script::Moves => counts::are_moves_counted(alloc, followed),
+        Script::Access => counts::is_access_counted(alloc, followed),
+        Script::Plans => counts::are_plans_let_go(alloc, followed),
+        _ => match page(alloc, &followed.view, H1) {
+            Ok(page) => shows(&followed.view, &page, script),
+            Err(AllocError) => false,
+        },
+    }
+}
+
+// Whether the view and its page are as expected.
+fn shows(view: &DiscoveryView, page: &[u8], script: Script) -> bool {
+    match script {
+        Script::Record(generation, family, service, address) => {
+            page == pages::one_record(generation, family, service, address).as_slice()
+        }
+        Script::Order => pages::is_in_order(page),
+        Script::Slices => pages::are_slices(view, page),
+        Script::Zeros => pages::are_zeros(view),
+        _ => false,
+    }
 }
 
 // Port 1, subsystem A, which is open, and B, which is not, and A on port 1.
-const ONE_RECORD: [Line<'static>; 4] = [
+const ONE_RECORD: &[Line<'static>] = &[
     Line::PortAdd(1, b"127.0.0.1", 4420),
     Line::SubsystemAdd(A, b"SN", Access::Open),
     Line::SubsystemAdd(B, b"SN", Access::Closed),
     Line::LinkAdd(1, A),
 ];
 
-// A view that has followed these edits.
-fn after(alloc: Global, lines: &[Line<'_>]) -> Result<Followed, Fail> {
-    let mut followed = start(alloc)?;
-    make_all(alloc, &mut followed, lines)?;
-    Ok(followed)
-}
-
 // The host's page, whole.
-fn page(alloc: Global, view: &DiscoveryView, host: &[u8]) -> Result<Vec<u8>, Fail> {
+fn page(alloc: Global, view: &DiscoveryView, host: &[u8]) -> Result<Vec<u8>, AllocError> {
     let len = view.len(host).min(1 << 20) as usize;
     let mut page = vec![in alloc; 0xA5; len]?;
     view.window(host, 0, &mut page);

@@ -1,25 +1,21 @@
-use super::{filled, is_accepted};
+use super::outline::{has_lists, is_answered};
+use super::{Script, holds};
 use nvt_config::{Access, Config, Family};
 use nvt_fields::DISCOVERY_NQN;
 use std::alloc::Global;
-use std::process::Abort;
-use std::test::Fail;
 use test_edits::Line;
 
-// Each edit is accepted in turn, and leaves the lists beside it.
-fn assert_effects(
-    rt: &impl Abort,
-    alloc: Global,
-    config: &mut Config,
-    rows: &[(Line<'_>, &[u8])],
-) -> Result<(), Fail> {
+// Whether each edit is accepted in turn, and leaves the lists beside it.
+fn are_accepted(alloc: Global, config: &mut Config, rows: &[(Line<'_>, &[u8])]) -> bool {
     for (line, lists) in rows {
-        assert!(rt; is_accepted(alloc, config, *line, lists)?);
+        if !is_answered(alloc, config, *line, Ok(())) || !has_lists(config, lists) {
+            return false;
+        }
     }
-    Ok(())
+    true
 }
 
-const SETS: [(Line<'static>, &[u8]); 5] = [
+const SETS: &[(Line<'static>, &[u8])] = &[
     (
         Line::SubsystemSet(b"nqn.b", Access::Closed),
         b" a (b) c 1:4420 2:4420 3:4420 1a 1b 2b h (i) j",
@@ -50,19 +46,16 @@ fn is_second_port(config: &Config, family: Family, address: &[u8]) -> bool {
     }
 }
 
+pub fn are_sets_made(alloc: Global, config: &mut Config) -> bool {
+    are_accepted(alloc, config, SETS) && is_second_port(config, Family::Ipv6, b"::1")
+}
+
 #[test]
-fn of_sets(rt: HostRuntime) -> Result<(), Fail> {
-    let mut config = filled(rt.alloc())?;
-    assert_sets(&rt, rt.alloc(), &mut config)
+fn of_sets(rt: HostRuntime) {
+    assert!(rt; holds(rt.alloc(), Script::Sets));
 }
 
-fn assert_sets(rt: &impl Abort, alloc: Global, config: &mut Config) -> Result<(), Fail> {
-    assert_effects(rt, alloc, config, &SETS)?;
-    assert!(rt; is_second_port(config, Family::Ipv6, b"::1"));
-    Ok(())
-}
-
-const REMOVALS: [(Line<'static>, &[u8]); 8] = [
+const REMOVALS: &[(Line<'static>, &[u8])] = &[
     (
         Line::LinkDel(1, b"nqn.b"),
         b" a b c 1:4420 2:4420 3:4420 1a 2b h (i) j",
@@ -94,13 +87,16 @@ const REMOVALS: [(Line<'static>, &[u8]); 8] = [
     ),
 ];
 
-#[test]
-fn of_removals(rt: HostRuntime) -> Result<(), Fail> {
-    let mut config = filled(rt.alloc())?;
-    assert_effects(&rt, rt.alloc(), &mut config, &REMOVALS)
+pub fn are_removals_made(alloc: Global, config: &mut Config) -> bool {
+    are_accepted(alloc, config, REMOVALS)
 }
 
-const HOSTS: [(Line<'static>, &[u8]); 7] = [
+#[test]
+fn of_removals(rt: HostRuntime) {
+    assert!(rt; holds(rt.alloc(), Script::Removals));
+}
+
+const HOSTS: &[(Line<'static>, &[u8])] = &[
     (Line::HostAdd(b"nqn.h"), b" h"),
     (Line::HostAdd(b"nqn.i"), b" h i"),
     (Line::HostDel(b"nqn.h"), b" (h) i"),
@@ -110,8 +106,11 @@ const HOSTS: [(Line<'static>, &[u8]); 7] = [
     (Line::HostAdd(DISCOVERY_NQN), b" h (i) j y"),
 ];
 
+pub fn are_hosts_edited(alloc: Global, config: &mut Config) -> bool {
+    are_accepted(alloc, config, HOSTS)
+}
+
 #[test]
-fn of_hosts(rt: HostRuntime) -> Result<(), Fail> {
-    let mut config = Config::new(rt.alloc(), &[])?;
-    assert_effects(&rt, rt.alloc(), &mut config, &HOSTS)
+fn of_hosts(rt: HostRuntime) {
+    assert!(rt; holds(rt.alloc(), Script::Hosts));
 }

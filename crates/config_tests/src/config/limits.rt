@@ -1,8 +1,7 @@
 use super::outline::is_answered;
+use super::{Script, holds};
 use nvt_config::{Access, Config, EditFault, Entry};
 use std::alloc::Global;
-use std::process::Abort;
-use std::test::Fail;
 use test_edits::Line;
 
 // The name `nqn.` and a number of three digits.
@@ -14,48 +13,50 @@ fn name(number: u8) -> [u8; 7] {
     name
 }
 
-fn assert_accepted(
-    rt: &impl Abort,
-    alloc: Global,
-    config: &mut Config,
-    line: Line<'_>,
-) -> Result<(), Fail> {
-    assert!(rt; is_answered(alloc, config, line, Ok(()))?);
-    Ok(())
-}
-
-fn assert_answers(
-    rt: &impl Abort,
+fn are_answered(
     alloc: Global,
     config: &mut Config,
     rows: &[(Line<'_>, Result<(), EditFault>)],
-) -> Result<(), Fail> {
+) -> bool {
     for (line, answer) in rows {
-        assert!(rt; is_answered(alloc, config, *line, *answer)?);
-    }
-    Ok(())
-}
-
-// 32 subsystems, 16 ports, and a link of each subsystem on each port.
-fn link_all(rt: &impl Abort, alloc: Global, config: &mut Config) -> Result<(), Fail> {
-    for number in 0..32 {
-        let line = Line::SubsystemAdd(&name(number), b"SN", Access::Open);
-        assert_accepted(rt, alloc, config, line)?;
-    }
-    for id in 65_520..65_536u64 {
-        let line = Line::PortAdd(id, &[b'!'; 256], 65_535);
-        assert_accepted(rt, alloc, config, line)?;
-    }
-    for number in 0..32 {
-        for port in 65_520..65_536u64 {
-            let line = Line::LinkAdd(port, &name(number));
-            assert_accepted(rt, alloc, config, line)?;
+        if !is_answered(alloc, config, *line, *answer) {
+            return false;
         }
     }
-    Ok(())
+    true
 }
 
-const OVER_ALL_LINKED: [(Line<'static>, Result<(), EditFault>); 4] = [
+// Whether 32 subsystems are added.
+fn are_subsystems_added(alloc: Global, config: &mut Config) -> bool {
+    let mut are_added = true;
+    for number in 0..32 {
+        let line = Line::SubsystemAdd(&name(number), b"SN", Access::Open);
+        are_added &= is_answered(alloc, config, line, Ok(()));
+    }
+    are_added
+}
+
+// Whether a port is added, and a link of each subsystem on it.
+fn is_port_linked(alloc: Global, config: &mut Config, port: u64) -> bool {
+    let line = Line::PortAdd(port, &[b'!'; 256], 65_535);
+    let mut are_added = is_answered(alloc, config, line, Ok(()));
+    for number in 0..32 {
+        let line = Line::LinkAdd(port, &name(number));
+        are_added &= is_answered(alloc, config, line, Ok(()));
+    }
+    are_added
+}
+
+// Whether 16 ports are added, and a link of each subsystem on each port.
+fn are_ports_linked(alloc: Global, config: &mut Config) -> bool {
+    let mut are_linked = true;
+    for port in 65_520..65_536u64 {
+        are_linked &= is_port_linked(alloc, config, port);
+    }
+    are_linked
+}
+
+const OVER_ALL_LINKED: &[(Line<'static>, Result<(), EditFault>)] = &[
     (
         Line::SubsystemAdd(b"nqn.031", b"SN", Access::Open),
         Err(EditFault::Exists(Entry::Subsystem)),
@@ -71,34 +72,33 @@ const OVER_ALL_LINKED: [(Line<'static>, Result<(), EditFault>); 4] = [
     (Line::PortAdd(1, b"~", 1), Err(EditFault::Full(Entry::Port))),
 ];
 
-#[test]
-fn each_subsystem_on_each_port(rt: HostRuntime) -> Result<(), Fail> {
-    let mut config = Config::new(rt.alloc(), &[])?;
-    assert_linked(&rt, rt.alloc(), &mut config)
-}
-
-fn assert_linked(rt: &impl Abort, alloc: Global, config: &mut Config) -> Result<(), Fail> {
-    link_all(rt, alloc, config)?;
-    assert_answers(rt, alloc, config, &OVER_ALL_LINKED)?;
+pub fn is_full_of_links(alloc: Global, config: &mut Config) -> bool {
+    let are_linked = are_subsystems_added(alloc, config) && are_ports_linked(alloc, config);
+    let are_answered = are_answered(alloc, config, OVER_ALL_LINKED);
     let lens = [
         config.subsystems().len(),
         config.ports().len(),
         config.links().len(),
     ];
-    assert!(rt; lens == [32, 16, 512]);
-    Ok(())
+    are_linked && are_answered && lens == [32, 16, 512]
 }
 
-fn add_hosts(rt: &impl Abort, alloc: Global, config: &mut Config) -> Result<(), Fail> {
+#[test]
+fn each_subsystem_on_each_port(rt: HostRuntime) {
+    assert!(rt; holds(rt.alloc(), Script::AllLinked));
+}
+
+fn are_hosts_added(alloc: Global, config: &mut Config) -> bool {
+    let mut are_added = true;
     for number in 0..=255 {
-        assert_accepted(rt, alloc, config, Line::HostAdd(&name(number)))?;
+        are_added &= is_answered(alloc, config, Line::HostAdd(&name(number)), Ok(()));
     }
-    Ok(())
+    are_added
 }
 
 const FULL: Result<(), EditFault> = Err(EditFault::Full(Entry::Host));
 
-const OVER_ALL_HOSTS: [(Line<'static>, Result<(), EditFault>); 5] = [
+const OVER_ALL_HOSTS: &[(Line<'static>, Result<(), EditFault>)] = &[
     (Line::HostAdd(b"nqn.256"), FULL),
     (
         Line::HostAdd(b"nqn.255"),
@@ -117,16 +117,14 @@ fn is_live_at(config: &Config, place: usize, nqn: &[u8]) -> bool {
     }
 }
 
-#[test]
-fn names_of_hosts(rt: HostRuntime) -> Result<(), Fail> {
-    let mut config = Config::new(rt.alloc(), &[])?;
-    assert_full_of_hosts(&rt, rt.alloc(), &mut config)
+pub fn is_full_of_hosts(alloc: Global, config: &mut Config) -> bool {
+    are_hosts_added(alloc, config)
+        && are_answered(alloc, config, OVER_ALL_HOSTS)
+        && config.hosts().len() == 256
+        && is_live_at(config, 7, b"nqn.007")
 }
 
-fn assert_full_of_hosts(rt: &impl Abort, alloc: Global, config: &mut Config) -> Result<(), Fail> {
-    add_hosts(rt, alloc, config)?;
-    assert_answers(rt, alloc, config, &OVER_ALL_HOSTS)?;
-    assert!(rt; config.hosts().len() == 256);
-    assert!(rt; is_live_at(config, 7, b"nqn.007"));
-    Ok(())
+#[test]
+fn names_of_hosts(rt: HostRuntime) {
+    assert!(rt; holds(rt.alloc(), Script::AllHosts));
 }

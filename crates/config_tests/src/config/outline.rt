@@ -1,51 +1,75 @@
-//! The lists of a configuration as a line, and edits that are accepted.
+//! The lists of a configuration as a line, and what edits are answered.
 use nvt_config::{Access, Config, EditFault};
 use nvt_fields::Nqn;
 use std::alloc::{AllocError, Global};
-use std::io::Write;
-use std::test::Fail;
 use test_edits::{Line, edit};
+
+// As many bytes of a line as there is room for.
+#[derive(Clone, Copy)]
+struct Outline {
+    bytes: [u8; 96],
+    len: usize,
+}
+
+impl Outline {
+    fn push(&mut self, byte: u8) {
+        if let Some(place) = self.bytes.get_mut(self.len) {
+            *place = byte;
+            self.len = self.len.saturating_add(1);
+        }
+    }
+
+    // A number in decimal digits.
+    fn push_number(&mut self, before: u8, number: u16) {
+        self.push(before);
+        for unit in [10_000u16, 1_000, 100, 10] {
+            if number >= unit {
+                self.push(b'0' + (number / unit % 10) as u8);
+            }
+        }
+        self.push(b'0' + (number % 10) as u8);
+    }
+
+    fn push_name(&mut self, nqn: &Nqn, plain: bool) {
+        let letter = last_letter(nqn);
+        self.push(b' ');
+        if plain {
+            self.push(letter);
+        } else {
+            self.push(b'(');
+            self.push(letter);
+            self.push(b')');
+        }
+    }
+
+    fn push_lists(&mut self, config: &Config) {
+        for subsystem in config.subsystems() {
+            self.push_name(&subsystem.nqn, subsystem.access == Access::Open);
+        }
+        for port in config.ports() {
+            self.push_number(b' ', port.id);
+            self.push_number(b':', port.service);
+        }
+        for link in config.links() {
+            self.push_number(b' ', link.port);
+            self.push(last_letter(&link.subsystem));
+        }
+        for host in config.hosts() {
+            self.push_name(&host.nqn, host.live);
+        }
+    }
+}
 
 /// Whether the configuration has these lists, each in its order: subsystems that are open as a letter,
 /// others in brackets; ports as a number and a service; links as a number and a letter; hosts that are
 /// live as a letter, others in brackets.
-pub fn has_lists(alloc: Global, config: &Config, lists: &[u8]) -> Result<bool, Fail> {
-    let mut outline = Vec::new(alloc);
-    push_lists(&mut outline, config)?;
-    Ok(outline.as_slice() == lists)
-}
-
-fn push_lists(outline: &mut Vec<u8>, config: &Config) -> Result<(), Fail> {
-    for subsystem in config.subsystems() {
-        push_name(outline, &subsystem.nqn, subsystem.access == Access::Open)?;
-    }
-    for port in config.ports() {
-        push_number(outline, b' ', port.id)?;
-        push_number(outline, b':', port.service)?;
-    }
-    for link in config.links() {
-        push_number(outline, b' ', link.port)?;
-        outline.push(last_letter(&link.subsystem))?;
-    }
-    for host in config.hosts() {
-        push_name(outline, &host.nqn, host.live)?;
-    }
-    Ok(())
-}
-
-fn push_number(outline: &mut Vec<u8>, before: u8, number: u16) -> Result<(), Fail> {
-    outline.push(before)?;
-    write!(outline, "{number}")?;
-    Ok(())
-}
-
-fn push_name(outline: &mut Vec<u8>, nqn: &Nqn, plain: bool) -> Result<(), AllocError> {
-    let letter = last_letter(nqn);
-    if plain {
-        outline.extend_from_slice(&[b' ', letter])
-    } else {
-        outline.extend_from_slice(&[b' ', b'(', letter, b')'])
-    }
+pub fn has_lists(config: &Config, lists: &[u8]) -> bool {
+    let mut outline = Outline {
+        bytes: [0; 96],
+        len: 0,
+    };
+    outline.push_lists(config);
+    outline.bytes.get(..outline.len) == Some(lists)
 }
 
 fn last_letter(nqn: &Nqn) -> u8 {
@@ -58,20 +82,9 @@ pub fn is_answered(
     config: &mut Config,
     line: Line<'_>,
     answer: Result<(), EditFault>,
-) -> Result<bool, AllocError> {
-    let edit = edit(alloc, line)?;
-    Ok(config.check(&edit) == answer && config.apply(&edit) == answer)
-}
-
-/// Whether both accept it, and it leaves these lists.
-pub fn is_accepted(
-    alloc: Global,
-    config: &mut Config,
-    line: Line<'_>,
-    lists: &[u8],
-) -> Result<bool, Fail> {
-    if !is_answered(alloc, config, line, Ok(()))? {
-        return Ok(false);
+) -> bool {
+    match edit(alloc, line) {
+        Ok(edit) => (config.check(&edit), config.apply(&edit)) == (answer, answer),
+        Err(AllocError) => false,
     }
-    has_lists(alloc, config, lists)
 }

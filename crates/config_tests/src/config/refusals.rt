@@ -1,35 +1,32 @@
-use super::filled;
 use super::outline::is_answered;
+use super::{DISKS, Script, holds, is_filled};
 use nvt_config::{Access, Config, EditFault, Entry, Family, Value};
 use nvt_fields::DISCOVERY_NQN;
 use std::alloc::Global;
-use std::process::Abort;
-use std::test::Fail;
 use test_edits::{Line, is_same};
 
-// Both calls refuse each edit for its first reason, and leave all as it was.
-fn assert_refused(
-    rt: &impl Abort,
-    alloc: Global,
-    rows: &[(Line<'_>, EditFault)],
-) -> Result<(), Fail> {
-    let before = filled(alloc)?;
-    let mut config = filled(alloc)?;
-    assert_leaves(rt, alloc, &mut config, &before, rows)
+// Whether both calls refuse each edit for its first reason, and leave all as it was.
+pub fn are_refused(alloc: Global, config: &mut Config, rows: &[(Line<'_>, EditFault)]) -> bool {
+    match Config::new(alloc, DISKS) {
+        Ok(mut before) => {
+            is_filled(alloc, &mut before) && leaves_all(alloc, config, &before, rows)
+        }
+        Err(_) => false,
+    }
 }
 
-fn assert_leaves(
-    rt: &impl Abort,
+fn leaves_all(
     alloc: Global,
     config: &mut Config,
     before: &Config,
     rows: &[(Line<'_>, EditFault)],
-) -> Result<(), Fail> {
+) -> bool {
     for (line, fault) in rows {
-        assert!(rt; is_answered(alloc, config, *line, Err(*fault))?);
-        assert!(rt; is_same(config, before));
+        if !is_answered(alloc, config, *line, Err(*fault)) || !is_same(config, before) {
+            return false;
+        }
     }
-    Ok(())
+    true
 }
 
 const NO_SUBSYSTEM: EditFault = EditFault::NoSuch(Entry::Subsystem);
@@ -46,7 +43,7 @@ const BAD_ADDRESS: EditFault = EditFault::BadValue(Value::Address);
 
 const BAD_SERVICE: EditFault = EditFault::BadValue(Value::Service);
 
-const SUBSYSTEMS: [(Line<'static>, EditFault); 11] = [
+const SUBSYSTEMS: &[(Line<'static>, EditFault)] = &[
     (
         Line::SubsystemAdd(DISCOVERY_NQN, b"", Access::Open),
         BAD_NQN,
@@ -82,12 +79,12 @@ const SUBSYSTEMS: [(Line<'static>, EditFault); 11] = [
 ];
 
 #[test]
-fn of_subsystems(rt: HostRuntime) -> Result<(), Fail> {
-    assert_refused(&rt, rt.alloc(), &SUBSYSTEMS)
+fn of_subsystems(rt: HostRuntime) {
+    assert!(rt; holds(rt.alloc(), Script::Refusals(SUBSYSTEMS)));
 }
 
 // A port's number, its address and its service, which are refused when it is added and when it is set.
-const PORT_VALUES: [(u64, &[u8], u64, EditFault); 8] = [
+const PORT_VALUES: &[(u64, &[u8], u64, EditFault)] = &[
     (0, b"", 0, BAD_PORT),
     (65_536, b"a", 4420, BAD_PORT),
     (4, b"", 0, BAD_ADDRESS),
@@ -98,19 +95,25 @@ const PORT_VALUES: [(u64, &[u8], u64, EditFault); 8] = [
     (4, b"a", 65_536, BAD_SERVICE),
 ];
 
-#[test]
-fn of_the_values_of_ports(rt: HostRuntime) -> Result<(), Fail> {
-    for (id, address, service, fault) in &PORT_VALUES {
+pub fn are_port_values_refused(alloc: Global, config: &mut Config) -> bool {
+    for (id, address, service, fault) in PORT_VALUES {
         let rows = [
             (Line::PortAdd(*id, address, *service), *fault),
             (Line::PortSet(*id, Family::Ipv6, address, *service), *fault),
         ];
-        assert_refused(&rt, rt.alloc(), &rows)?;
+        if !are_refused(alloc, config, &rows) {
+            return false;
+        }
     }
-    Ok(())
+    true
 }
 
-const PORTS: [(Line<'static>, EditFault); 7] = [
+#[test]
+fn of_the_values_of_ports(rt: HostRuntime) {
+    assert!(rt; holds(rt.alloc(), Script::PortValues));
+}
+
+const PORTS: &[(Line<'static>, EditFault)] = &[
     (Line::PortAdd(1, b"a", 4420), EditFault::Exists(Entry::Port)),
     (Line::PortSet(4, Family::Ipv6, b"a", 4420), NO_PORT),
     (Line::PortDel(0), NO_PORT),
@@ -121,11 +124,11 @@ const PORTS: [(Line<'static>, EditFault); 7] = [
 ];
 
 #[test]
-fn of_ports(rt: HostRuntime) -> Result<(), Fail> {
-    assert_refused(&rt, rt.alloc(), &PORTS)
+fn of_ports(rt: HostRuntime) {
+    assert!(rt; holds(rt.alloc(), Script::Refusals(PORTS)));
 }
 
-const LINKS: [(Line<'static>, EditFault); 11] = [
+const LINKS: &[(Line<'static>, EditFault)] = &[
     (Line::LinkAdd(4, b"nqn.d"), NO_PORT),
     (Line::LinkAdd(0, b"nqn.a"), NO_PORT),
     (Line::LinkAdd(65_537, b"nqn.c"), NO_PORT),
@@ -140,17 +143,17 @@ const LINKS: [(Line<'static>, EditFault); 11] = [
 ];
 
 #[test]
-fn of_links(rt: HostRuntime) -> Result<(), Fail> {
-    assert_refused(&rt, rt.alloc(), &LINKS)
+fn of_links(rt: HostRuntime) {
+    assert!(rt; holds(rt.alloc(), Script::Refusals(LINKS)));
 }
 
-const HOSTS: [(Line<'static>, EditFault); 3] = [
+const HOSTS: &[(Line<'static>, EditFault)] = &[
     (Line::HostAdd(b"nqn.h"), EditFault::Exists(Entry::Host)),
     (Line::HostDel(b"nqn.k"), EditFault::NoSuch(Entry::Host)),
     (Line::HostDel(b"nqn.i"), EditFault::NoSuch(Entry::Host)),
 ];
 
 #[test]
-fn of_hosts(rt: HostRuntime) -> Result<(), Fail> {
-    assert_refused(&rt, rt.alloc(), &HOSTS)
+fn of_hosts(rt: HostRuntime) {
+    assert!(rt; holds(rt.alloc(), Script::Refusals(HOSTS)));
 }

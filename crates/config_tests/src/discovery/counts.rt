@@ -1,28 +1,26 @@
 //! What counts as a change of a host's records.
-use super::{A, B, Followed, H1, ONE_RECORD, STRANGER, after, has_numbers, make, page, start};
+use super::{A, B, Followed, H1, ONE_RECORD, STRANGER, Script, has_numbers, holds, is_made, page};
 use nvt_config::{Access, Edit, Family};
-use std::alloc::Global;
-use std::process::Abort;
-use std::test::Fail;
+use std::alloc::{AllocError, Global};
 use test_edits::{Line, edit};
 
-// Each edit is accepted in turn, and then each host has this GENCTR and this NUMREC.
-fn assert_counts(
-    rt: &impl Abort,
-    alloc: Global,
-    followed: &mut Followed,
-    rows: &[(Line<'_>, (u64, u64))],
-) -> Result<(), Fail> {
+// Whether each edit is accepted in turn, and then each host has this GENCTR and this NUMREC.
+fn are_counted(alloc: Global, followed: &mut Followed, rows: &[(Line<'_>, (u64, u64))]) -> bool {
     for (line, (generation, records)) in rows {
-        make(alloc, followed, *line)?;
-        for host in [H1, STRANGER] {
-            assert!(rt; has_numbers(&followed.view, host, *generation, *records));
+        if !is_made(alloc, followed, *line) {
+            return false;
+        }
+        let view = &followed.view;
+        let counted = has_numbers(view, H1, *generation, *records)
+            && has_numbers(view, STRANGER, *generation, *records);
+        if !counted {
+            return false;
         }
     }
-    Ok(())
+    true
 }
 
-const BEFORE_A_MOVE: [(Line<'static>, (u64, u64)); 6] = [
+const BEFORE_A_MOVE: &[(Line<'static>, (u64, u64))] = &[
     (Line::PortAdd(1, b"127.0.0.1", 4420), (0, 0)),
     (Line::SubsystemAdd(A, b"SN", Access::Open), (0, 0)),
     (Line::SubsystemAdd(B, b"SN", Access::Closed), (0, 0)),
@@ -31,32 +29,33 @@ const BEFORE_A_MOVE: [(Line<'static>, (u64, u64)); 6] = [
     (Line::PortSet(1, Family::Ipv4, b"127.0.0.1", 4421), (2, 1)),
 ];
 
-const AFTER_A_MOVE: [(Line<'static>, (u64, u64)); 4] = [
+const AFTER_A_MOVE: &[(Line<'static>, (u64, u64))] = &[
     (Line::LinkDel(1, A), (3, 0)),
     (Line::LinkAdd(1, A), (4, 1)),
     (Line::HostAdd(H1), (4, 1)),
     (Line::HostDel(H1), (4, 1)),
 ];
 
-#[test]
-fn each_change_of_a_record_counts_once(rt: HostRuntime) -> Result<(), Fail> {
-    let mut followed = start(rt.alloc())?;
-    assert_moves(&rt, rt.alloc(), &mut followed)
-}
-
-fn assert_moves(rt: &impl Abort, alloc: Global, followed: &mut Followed) -> Result<(), Fail> {
-    assert_counts(rt, alloc, followed, &BEFORE_A_MOVE)?;
-    assert!(rt; has_service(alloc, followed, b"4421 ")?);
-    assert_counts(rt, alloc, followed, &AFTER_A_MOVE)
+pub fn are_moves_counted(alloc: Global, followed: &mut Followed) -> bool {
+    are_counted(alloc, followed, BEFORE_A_MOVE)
+        && has_service(alloc, followed, b"4421 ")
+        && are_counted(alloc, followed, AFTER_A_MOVE)
 }
 
 // Whether the service of the one record begins so.
-fn has_service(alloc: Global, followed: &Followed, service: &[u8; 5]) -> Result<bool, Fail> {
-    let page = page(alloc, &followed.view, H1)?;
-    Ok(page.get(1056..1061) == Some(service.as_slice()))
+fn has_service(alloc: Global, followed: &Followed, service: &[u8; 5]) -> bool {
+    match page(alloc, &followed.view, H1) {
+        Ok(page) => page.get(1056..1061) == Some(service.as_slice()),
+        Err(AllocError) => false,
+    }
 }
 
-const ACCESS: [(Line<'static>, (u64, u64)); 8] = [
+#[test]
+fn each_change_of_a_record_counts_once(rt: HostRuntime) {
+    assert!(rt; holds(rt.alloc(), &[], Script::Moves));
+}
+
+const ACCESS: &[(Line<'static>, (u64, u64))] = &[
     (Line::LinkAdd(1, B), (1, 1)),
     (Line::SubsystemSet(B, Access::Open), (2, 2)),
     (Line::SubsystemSet(B, Access::Open), (2, 2)),
@@ -67,40 +66,46 @@ const ACCESS: [(Line<'static>, (u64, u64)); 8] = [
     (Line::LinkAdd(2, B), (4, 2)),
 ];
 
-#[test]
-fn each_change_of_access_counts_once(rt: HostRuntime) -> Result<(), Fail> {
-    let mut followed = after(rt.alloc(), &ONE_RECORD)?;
-    assert_counts(&rt, rt.alloc(), &mut followed, &ACCESS)
-}
-
-// Plans an edit, and lets the plan go.
-fn plan(alloc: Global, followed: &mut Followed, line: Line<'_>) -> Result<(), Fail> {
-    let edit = edit(alloc, line)?;
-    plan_edit(followed, &edit)
-}
-
-fn plan_edit(followed: &mut Followed, edit: &Edit) -> Result<(), Fail> {
-    followed.config.check(edit)?;
-    drop(followed.view.prepare(&followed.config, edit)?);
-    Ok(())
-}
-
-fn plan_two(alloc: Global, followed: &mut Followed) -> Result<(), Fail> {
-    plan(alloc, followed, Line::LinkDel(1, A))?;
-    plan(alloc, followed, Line::SubsystemSet(A, Access::Closed))
-}
-
-// Two plans leave the host's page as it is.
-fn assert_plans(rt: &impl Abort, alloc: Global, followed: &mut Followed) -> Result<(), Fail> {
-    let before = page(alloc, &followed.view, H1)?;
-    plan_two(alloc, followed)?;
-    let after = page(alloc, &followed.view, H1)?;
-    assert!(rt; before.as_slice() == after.as_slice());
-    assert_counts(rt, alloc, followed, &[(Line::LinkDel(1, A), (2, 0))])
+pub fn is_access_counted(alloc: Global, followed: &mut Followed) -> bool {
+    are_counted(alloc, followed, ACCESS)
 }
 
 #[test]
-fn a_plan_alone_changes_no_answer(rt: HostRuntime) -> Result<(), Fail> {
-    let mut followed = after(rt.alloc(), &ONE_RECORD)?;
-    assert_plans(&rt, rt.alloc(), &mut followed)
+fn each_change_of_access_counts_once(rt: HostRuntime) {
+    assert!(rt; holds(rt.alloc(), ONE_RECORD, Script::Access));
+}
+
+// Plans an edit, which is accepted, and lets the plan go.
+fn is_planned(followed: &mut Followed, edit: &Edit) -> bool {
+    followed.config.check(edit).is_ok() && followed.view.prepare(&followed.config, edit).is_ok()
+}
+
+fn is_line_planned(alloc: Global, followed: &mut Followed, line: Line<'_>) -> bool {
+    match edit(alloc, line) {
+        Ok(edit) => is_planned(followed, &edit),
+        Err(AllocError) => false,
+    }
+}
+
+// Whether two plans leave the host's page, as it was before, as it is.
+fn leave_page(alloc: Global, followed: &mut Followed, before: &[u8]) -> bool {
+    let are_planned = is_line_planned(alloc, followed, Line::LinkDel(1, A))
+        && is_line_planned(alloc, followed, Line::SubsystemSet(A, Access::Closed));
+    match page(alloc, &followed.view, H1) {
+        Ok(after) => are_planned && after.as_slice() == before,
+        Err(AllocError) => false,
+    }
+}
+
+pub fn are_plans_let_go(alloc: Global, followed: &mut Followed) -> bool {
+    let is_left = match page(alloc, &followed.view, H1) {
+        Ok(before) => leave_page(alloc, followed, &before),
+        Err(AllocError) => false,
+    };
+    is_left && are_counted(alloc, followed, &[(Line::LinkDel(1, A), (2, 0))])
+}
+
+#[test]
+fn a_plan_alone_changes_no_answer(rt: HostRuntime) {
+    assert!(rt; holds(rt.alloc(), ONE_RECORD, Script::Plans));
 }

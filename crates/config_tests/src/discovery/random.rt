@@ -4,8 +4,7 @@ use discovery_view::plain;
 use nvt_config::{Access, Edit, Family};
 use rand_core::utils::NextWord;
 use rand_pcg::Pcg32;
-use std::alloc::Global;
-use std::test::Fail;
+use std::alloc::{AllocError, Global};
 use test_edits::{Line, edit};
 
 const LISTS: u64 = 300;
@@ -14,7 +13,7 @@ const EDITS: u32 = 32;
 
 const SEED: u64 = 0x6469_7363;
 
-const NAMES: [&[u8]; 2] = [b"nqn.b", b"nqn.a"];
+const NAMES: &[&[u8]] = &[b"nqn.b", b"nqn.a"];
 
 // One of these, or the first.
 fn pick<T: Copy>(random: &mut Pcg32, first: T, others: &[T]) -> T {
@@ -23,7 +22,7 @@ fn pick<T: Copy>(random: &mut Pcg32, first: T, others: &[T]) -> T {
 }
 
 fn name(random: &mut Pcg32) -> &'static [u8] {
-    pick(random, b"nqn.aa".as_slice(), &NAMES)
+    pick(random, b"nqn.aa".as_slice(), NAMES)
 }
 
 fn port(random: &mut Pcg32) -> u64 {
@@ -61,17 +60,14 @@ fn host_line(random: &mut Pcg32) -> Line<'static> {
     }
 }
 
-// Makes the edit of a line, unless it is refused, and adds it to the list.
-fn go_on(
-    alloc: Global,
-    followed: &mut Followed,
-    edits: &mut Vec<Edit>,
-    line: Line<'_>,
-) -> Result<(), Fail> {
-    edits.push(edit(alloc, line)?)?;
-    match edits.last() {
-        Some(edit) => follow(followed, edit),
-        None => Ok(()),
+// Makes the edit of a line, unless it is refused, and adds it to the list; whether memory was there.
+fn go_on(alloc: Global, followed: &mut Followed, edits: &mut Vec<Edit>, line: Line<'_>) -> bool {
+    match edit(alloc, line) {
+        Ok(edit) => {
+            let is_followed = follow(followed, &edit);
+            edits.push(edit).is_ok() && is_followed
+        }
+        Err(AllocError) => false,
     }
 }
 
@@ -89,60 +85,82 @@ fn agrees(
     edits: &[Edit],
     host: &[u8],
     seen: &mut Seen,
-) -> Result<bool, Fail> {
-    let plain = plain::generation(alloc, &UNITS, edits, host)?;
-    let records = plain::records(alloc, &followed.config, host)?;
-    let page = page(alloc, &followed.view, host)?;
-    seen.records = seen.records.wrapping_add(records.len() as u64 / 1024);
-    seen.changes = seen.changes.wrapping_add(plain);
-    Ok(followed.view.count(host) == plain && page.get(1024..) == Some(records.as_slice()))
+) -> bool {
+    match plain::generation(alloc, UNITS, edits, host) {
+        Ok(generation) => {
+            seen.changes = seen.changes.wrapping_add(generation);
+            followed.view.count(host) == generation && shows_records(alloc, followed, host, seen)
+        }
+        Err(_) => false,
+    }
 }
 
-// Makes a random list of edits, and one more.
+// Whether the host's page has the records of the plain program.
+fn shows_records(alloc: Global, followed: &Followed, host: &[u8], seen: &mut Seen) -> bool {
+    match plain::records(alloc, &followed.config, host) {
+        Ok(records) => {
+            seen.records = seen.records.wrapping_add(records.len() as u64 / 1024);
+            is_behind_header(alloc, followed, host, &records)
+        }
+        Err(_) => false,
+    }
+}
+
+fn is_behind_header(alloc: Global, followed: &Followed, host: &[u8], records: &[u8]) -> bool {
+    match page(alloc, &followed.view, host) {
+        Ok(page) => page.get(1024..) == Some(records),
+        Err(AllocError) => false,
+    }
+}
+
+// Makes a random list of edits, and one more; whether memory was there.
 fn make_list(
     alloc: Global,
     followed: &mut Followed,
     edits: &mut Vec<Edit>,
     random: &mut Pcg32,
-) -> Result<(), Fail> {
+) -> bool {
+    let mut are_made = true;
     for _ in 0..EDITS {
-        go_on(alloc, followed, edits, line(random))?;
+        let line = line(random);
+        are_made &= go_on(alloc, followed, edits, line);
     }
-    go_on(alloc, followed, edits, Line::HostAdd(b"nqn.new"))
+    are_made & go_on(alloc, followed, edits, Line::HostAdd(b"nqn.new"))
 }
+
+const HOSTS: &[&[u8]] = &[b"nqn.h", b"nqn.new", b"nqn.stranger"];
 
 // Whether the view agrees on each host after a random list of edits.
-fn list_agrees(alloc: Global, random: &mut Pcg32, seen: &mut Seen) -> Result<bool, Fail> {
-    let mut followed = start(alloc)?;
-    let mut edits = Vec::new(alloc);
-    make_list(alloc, &mut followed, &mut edits, random)?;
-    hosts_agree(alloc, &followed, &edits, seen)
-}
-
 fn hosts_agree(
     alloc: Global,
-    followed: &Followed,
-    edits: &[Edit],
+    followed: &mut Followed,
+    random: &mut Pcg32,
     seen: &mut Seen,
-) -> Result<bool, Fail> {
-    for host in [b"nqn.h".as_slice(), b"nqn.new", b"nqn.stranger"] {
-        if !agrees(alloc, followed, edits, host, seen)? {
-            return Ok(false);
-        }
+) -> bool {
+    let mut edits = Vec::new(alloc);
+    let mut agree = make_list(alloc, followed, &mut edits, random);
+    for host in HOSTS {
+        agree &= agrees(alloc, followed, &edits, host, seen);
     }
-    Ok(true)
+    agree
+}
+
+fn list_agrees(alloc: Global, random: &mut Pcg32, seen: &mut Seen) -> bool {
+    match start(alloc) {
+        Ok(mut followed) => hosts_agree(alloc, &mut followed, random, seen),
+        Err(_) => false,
+    }
 }
 
 #[test]
-fn counts_are_those_of_the_plain_program(rt: HostRuntime) -> Result<(), Fail> {
+fn counts_are_those_of_the_plain_program(rt: HostRuntime) {
     let mut random = Pcg32::new(SEED, 0);
     let mut seen = Seen {
         records: 0,
         changes: 0,
     };
     for _ in 0..LISTS {
-        assert!(rt; list_agrees(rt.alloc(), &mut random, &mut seen)?);
+        assert!(rt; list_agrees(rt.alloc(), &mut random, &mut seen));
     }
     assert!(rt; seen.records > 300 && seen.changes > 300);
-    Ok(())
 }
