@@ -27,35 +27,28 @@ fn fills_its_field(name: &Nqn) -> bool {
     nqn_field(&field) == Ok(HOST)
 }
 
-fn is_name_read(alloc: Global) -> Result<bool, NqnFault> {
-    let name = Nqn::read(alloc, HOST)?;
-    match is_copied(&name) {
-        Ok(is_copied) => Ok(is_copied && name.as_bytes() == HOST),
-        Err(AllocError) => Err(NqnFault::Memory),
+fn is_name_read(alloc: Global) -> Result<bool, AllocError> {
+    match Nqn::read(alloc, HOST) {
+        Ok(name) => Ok(is_copied(&name)? && name.as_bytes() == HOST),
+        Err(fault) => other_fault(fault == NqnFault::Memory),
     }
 }
 
-#[test]
-fn names(rt: HostRuntime) -> Result<(), Fail> {
-    let mut refused = 0u32;
-    again!(rt, refused, NqnFault::Memory, is_name_read(rt.alloc()));
-    tell(&rt, refused)
+// What a fault that is, or is not, want of memory comes to.
+fn other_fault(is_memory: bool) -> Result<bool, AllocError> {
+    if is_memory {
+        Err(AllocError)
+    } else {
+        Ok(false)
+    }
 }
 
-// An H2CTermReq, and a C2HTermReq.
-const REQUESTS: &[(Side, [u8; 24])] = &[
-    (
-        Side::Target,
-        [
-            2, 0, 24, 0, 24, 0, 0, 0, 1, 0, 0, 0, 0, 0, 0, 0, 0, 0, 0, 0, 0, 0, 0, 0,
-        ],
-    ),
-    (
-        Side::Host,
-        [
-            3, 0, 24, 0, 24, 0, 0, 0, 1, 0, 0, 0, 0, 0, 0, 0, 0, 0, 0, 0, 0, 0, 0, 0,
-        ],
-    ),
+const H2C_TERM_REQ: &[u8; 24] = &[
+    2, 0, 24, 0, 24, 0, 0, 0, 1, 0, 0, 0, 0, 0, 0, 0, 0, 0, 0, 0, 0, 0, 0, 0,
+];
+
+const C2H_TERM_REQ: &[u8; 24] = &[
+    3, 0, 24, 0, 24, 0, 0, 0, 1, 0, 0, 0, 0, 0, 0, 0, 0, 0, 0, 0, 0, 0, 0, 0,
 ];
 
 fn cuts(buffer: &mut RxBuf, request: &[u8; 24]) -> bool {
@@ -71,20 +64,6 @@ fn cuts(buffer: &mut RxBuf, request: &[u8; 24]) -> bool {
 fn is_stream_cut(alloc: Global, side: Side, request: &[u8; 24]) -> Result<bool, AllocError> {
     let mut buffer = RxBuf::new(alloc, side)?;
     Ok(cuts(&mut buffer, request))
-}
-
-#[test]
-fn buffers(rt: HostRuntime) -> Result<(), Fail> {
-    let mut refused = 0u32;
-    for (side, request) in REQUESTS {
-        again!(
-            rt,
-            refused,
-            AllocError,
-            is_stream_cut(rt.alloc(), *side, request)
-        );
-    }
-    tell(&rt, refused)
 }
 
 #[tactic(auto, using(number_table::proofs::Tables::laws))]
@@ -112,13 +91,6 @@ fn is_table_right(table: &mut NumberTable<u8>) -> bool {
 fn is_table_made(alloc: Global) -> Result<bool, AllocError> {
     let mut table = NumberTable::new(alloc, 3)?;
     Ok(is_table_right(&mut table))
-}
-
-#[test]
-fn tables(rt: HostRuntime) -> Result<(), Fail> {
-    let mut refused = 0u32;
-    again!(rt, refused, AllocError, is_table_made(rt.alloc()));
-    tell(&rt, refused)
 }
 
 const IC_RESP: IcResp = IcResp {
@@ -163,13 +135,6 @@ fn is_buffer_written(alloc: Global) -> Result<bool, AllocError> {
     Ok(are_written(&mut out))
 }
 
-#[test]
-fn writers(rt: HostRuntime) -> Result<(), Fail> {
-    let mut refused = 0u32;
-    again!(rt, refused, AllocError, is_buffer_written(rt.alloc()));
-    tell(&rt, refused)
-}
-
 fn is_port_add(edit: &Edit) -> bool {
     match edit {
         Edit::PortAdd {
@@ -186,21 +151,57 @@ fn is_port_add(edit: &Edit) -> bool {
     }
 }
 
-fn is_line_read(alloc: Global, line: &[u8]) -> Result<bool, ReadEditFault> {
-    let edit = read_edit(alloc, line)?;
-    Ok(is_port_add(&edit))
+fn is_line_read(alloc: Global, line: &[u8]) -> Result<bool, AllocError> {
+    match read_edit(alloc, line) {
+        Ok(edit) => Ok(is_port_add(&edit)),
+        Err(fault) => other_fault(fault == ReadEditFault::Memory),
+    }
+}
+
+fn are_lines_read(alloc: Global) -> Result<bool, AllocError> {
+    let mut are_read = true;
+    for line in Lines::of(b"port add 1 ipv4 127.0.0.1 4420\nport add 1 ipv4 127.0.0.1 4420") {
+        are_read &= is_line_read(alloc, line)?;
+    }
+    Ok(are_read)
+}
+
+// Something that wants memory of its own.
+#[derive(Clone, Copy)]
+enum Part {
+    Names,
+    TargetBuffer,
+    HostBuffer,
+    Table,
+    Writers,
+    Lines,
+}
+
+const PARTS: &[Part] = &[
+    Part::Names,
+    Part::TargetBuffer,
+    Part::HostBuffer,
+    Part::Table,
+    Part::Writers,
+    Part::Lines,
+];
+
+fn is_right(alloc: Global, part: Part) -> Result<bool, AllocError> {
+    match part {
+        Part::Names => is_name_read(alloc),
+        Part::TargetBuffer => is_stream_cut(alloc, Side::Target, H2C_TERM_REQ),
+        Part::HostBuffer => is_stream_cut(alloc, Side::Host, C2H_TERM_REQ),
+        Part::Table => is_table_made(alloc),
+        Part::Writers => is_buffer_written(alloc),
+        Part::Lines => are_lines_read(alloc),
+    }
 }
 
 #[test]
-fn lines(rt: HostRuntime) -> Result<(), Fail> {
+fn parts(rt: HostRuntime) -> Result<(), Fail> {
     let mut refused = 0u32;
-    for line in Lines::of(b"port add 1 ipv4 127.0.0.1 4420\nport add 1 ipv4 127.0.0.1 4420") {
-        again!(
-            rt,
-            refused,
-            ReadEditFault::Memory,
-            is_line_read(rt.alloc(), line)
-        );
+    for part in PARTS {
+        again!(rt, refused, AllocError, is_right(rt.alloc(), *part));
     }
     tell(&rt, refused)
 }

@@ -7,8 +7,9 @@ pub type Pieces = &'static [(usize, &'static [u8])];
 pub const SENT_LEN: usize = 128 + 3 * 24 + 24 + 1024 + 24;
 
 fn put(bytes: &mut [u8], at: usize, value: &[u8]) {
-    for (place, b) in bytes.iter_mut().skip(at).zip(value) {
-        *place = *b;
+    if let Some(rest) = bytes.get_mut(at..) {
+        let len = rest.len().min(value.len());
+        rest[..len].copy_from_slice(&value[..len]);
     }
 }
 
