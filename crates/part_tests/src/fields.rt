@@ -3,9 +3,11 @@ use nvt_fields::{
     DISCOVERY_NQN, FatalErrorStatus, Nqn, NqnFault, PduType, Status, nqn_field, up_to_zero,
     write_part, write_spaced, write_zeroed,
 };
+use std::alloc::{AllocError, Global};
+use std::process::Abort;
 use std::test::Fail;
 
-const WORDS: [(Status, u16); 11] = [
+const WORDS: &[(Status, u16)] = &[
     (Status::SUCCESS, 0x0000),
     (Status::INVALID_OPCODE, 0x8002),
     (Status::INVALID_FIELD, 0x8004),
@@ -21,63 +23,93 @@ const WORDS: [(Status, u16); 11] = [
 
 #[test]
 fn statuses_have_the_words_of_the_standard(rt: HostRuntime) {
-    for (status, word) in &WORDS {
+    for (status, word) in WORDS {
         assert!(rt; status.word() == *word);
     }
 }
 
+// Whether a text is read as a name with its bytes, or is refused so.
+fn is_read(alloc: Global, text: &[u8], fault: Option<NqnFault>) -> bool {
+    match Nqn::read(alloc, text) {
+        Ok(name) => fault.is_none() && name.as_bytes() == text,
+        Err(found) => fault == Some(found),
+    }
+}
+
+const NAMES: &[(&[u8], Option<NqnFault>)] = &[
+    (b"nqn.2026-01.test:a", None),
+    (b"nqn.2014-08.org.nvmexpress.discovery", None),
+    (b"nqn.", Some(NqnFault::BadNqn)),
+    (b"", Some(NqnFault::BadNqn)),
+    (b"NQN.a", Some(NqnFault::BadNqn)),
+    (b"nqn.a b", Some(NqnFault::BadNqn)),
+    (b"nqn.\x7F", Some(NqnFault::BadNqn)),
+];
+
 #[test]
-fn names_are_read(rt: HostRuntime) -> Result<(), Fail> {
-    let name = Nqn::read(rt.alloc(), b"nqn.2026-01.test:a")?;
-    assert!(rt; name.as_bytes() == b"nqn.2026-01.test:a".as_slice());
-    let discovery = Nqn::read(rt.alloc(), DISCOVERY_NQN)?;
-    assert!(rt; discovery.as_bytes() == b"nqn.2014-08.org.nvmexpress.discovery".as_slice());
-    Ok(())
+fn names_are_read(rt: HostRuntime) {
+    for (text, fault) in NAMES {
+        assert!(rt; is_read(rt.alloc(), text, *fault));
+    }
 }
 
 #[test]
-fn names_are_refused(rt: HostRuntime) {
+fn the_discovery_subsystem_has_its_name(rt: HostRuntime) {
+    assert!(rt; DISCOVERY_NQN == b"nqn.2014-08.org.nvmexpress.discovery");
+    assert!(rt; is_read(rt.alloc(), DISCOVERY_NQN, None));
+}
+
+#[test]
+fn names_have_at_most_223_bytes(rt: HostRuntime) {
     let mut longest = [b'x'; 224];
     longest[..4].copy_from_slice(b"nqn.");
-    let rows: [(&[u8], Option<NqnFault>); 7] = [
-        (&longest[..223], None),
-        (&longest, Some(NqnFault::TooLong)),
-        (b"nqn.", Some(NqnFault::BadNqn)),
-        (b"", Some(NqnFault::BadNqn)),
-        (b"NQN.a", Some(NqnFault::BadNqn)),
-        (b"nqn.a b", Some(NqnFault::BadNqn)),
-        (b"nqn.\x7F", Some(NqnFault::BadNqn)),
-    ];
-    for (text, fault) in rows {
-        assert!(rt; Nqn::read(rt.alloc(), text).err() == fault);
+    assert!(rt; is_read(rt.alloc(), &longest[..223], None));
+    assert!(rt; is_read(rt.alloc(), &longest, Some(NqnFault::TooLong)));
+}
+
+// Whether a name is the one that this text is read as.
+fn is_named(alloc: Global, name: &Nqn, text: &[u8]) -> bool {
+    match Nqn::read(alloc, text) {
+        Ok(other) => other == *name,
+        Err(_) => false,
     }
 }
 
-#[test]
-fn names_are_equal_by_their_bytes(rt: HostRuntime) -> Result<(), Fail> {
-    let name = Nqn::read(rt.alloc(), b"nqn.2026-01.test:a")?;
-    assert!(rt; name.try_clone()? == name);
-    let others: [&[u8]; 4] = [
-        b"nqn.2026-01.test:b",
-        b"nqn.2026-01.test:",
-        b"nqn.2026-01.test:aa",
-        b"nqn.2026-01.test:A",
-    ];
-    for other in others {
-        assert!(rt; Nqn::read(rt.alloc(), other)? != name);
+fn is_copied(name: &Nqn) -> bool {
+    match name.try_clone() {
+        Ok(copy) => copy == *name,
+        Err(AllocError) => false,
     }
-    Ok(())
 }
 
-#[test]
-fn a_name_fills_its_field(rt: HostRuntime) -> Result<(), Fail> {
-    let name = Nqn::read(rt.alloc(), b"nqn.2026-01.test:a")?;
-    assert!(rt; name.len() == 18);
+const OTHERS: &[&[u8]] = &[
+    b"nqn.2026-01.test:b",
+    b"nqn.2026-01.test:",
+    b"nqn.2026-01.test:aa",
+    b"nqn.2026-01.test:A",
+];
+
+fn assert_equal_by_bytes(rt: &impl Abort, alloc: Global, name: &Nqn) {
+    assert!(rt; is_copied(name) && is_named(alloc, name, b"nqn.2026-01.test:a"));
+    for other in OTHERS {
+        assert!(rt; !is_named(alloc, name, other) && is_read(alloc, other, None));
+    }
+}
+
+// Whether the name is written into a field with zeros behind it.
+fn fills_its_field(name: &Nqn) -> bool {
     let mut field = [0xA5; 256];
     name.write_to(&mut field);
     let mut wanted = [0; 256];
     wanted[..18].copy_from_slice(b"nqn.2026-01.test:a");
-    assert!(rt; field == wanted);
+    name.len() == 18 && field == wanted
+}
+
+#[test]
+fn a_name_is_its_bytes(rt: HostRuntime) -> Result<(), Fail> {
+    let name = Nqn::read(rt.alloc(), b"nqn.2026-01.test:a")?;
+    assert_equal_by_bytes(&rt, rt.alloc(), &name);
+    assert!(rt; fills_its_field(&name));
     Ok(())
 }
 
@@ -86,16 +118,22 @@ fn a_field_is_read_up_to_its_zero(rt: HostRuntime) {
     let mut field = [0u8; 256];
     write_zeroed(&mut field, b"nqn.a");
     field[9] = 1;
-    assert!(rt; nqn_field(&field) == Ok(b"nqn.a".as_slice()));
-    assert!(rt; up_to_zero(&field) == b"nqn.a".as_slice());
+    assert!(rt;
+        (nqn_field(&field), up_to_zero(&field)) == (Ok(b"nqn.a".as_slice()), b"nqn.a".as_slice())
+    );
+}
+
+#[test]
+fn a_field_ends_in_spaces(rt: HostRuntime) {
+    let mut field = [b'n'; 256];
     write_spaced(&mut field, b"4420");
-    assert!(rt; field[..6] == b"4420  "[..]);
+    assert!(rt; field.starts_with(b"4420  "));
 }
 
 #[test]
 fn a_field_without_a_zero_is_read_whole(rt: HostRuntime) {
-    assert!(rt; up_to_zero(b"4420") == b"4420".as_slice());
-    assert!(rt; nqn_field(&[b'n'; 256]).err() == Some(NqnFault::TooLong));
+    let read = (up_to_zero(b"4420"), nqn_field(&[b'n'; 256]));
+    assert!(rt; read == (b"4420".as_slice(), Err(NqnFault::TooLong)));
 }
 
 #[test]
@@ -119,9 +157,17 @@ fn shows_the_page(offset: u64, len: usize) -> bool {
     write_part(out, offset, 0, &PAGE[..3]);
     write_part(out, offset, 3, &PAGE[3..7]);
     write_part(out, offset, 8, &PAGE[8..]);
-    let mut wanted = PAGE.iter().skip(offset as usize);
-    out.iter()
-        .all(|byte| *byte == wanted.next().copied().unwrap_or(0))
+    are_shown(out, offset as usize)
+}
+
+// Whether these are the page's bytes from this offset.
+fn are_shown(shown: &[u8], offset: usize) -> bool {
+    for (place, byte) in shown.iter().enumerate() {
+        if PAGE.get(offset.saturating_add(place)).copied().unwrap_or(0) != *byte {
+            return false;
+        }
+    }
+    true
 }
 
 #[test]

@@ -3,7 +3,6 @@ use number_table::NumberTable;
 use rand_core::utils::NextWord;
 use rand_pcg::Pcg32;
 use std::alloc::{AllocError, Global};
-use std::process::Abort;
 use std::test::Fail;
 
 const RUNS: u64 = 8;
@@ -41,72 +40,106 @@ fn holds(table: &NumberTable<u8>, values: &[u8]) -> bool {
     table.get(values.len()).is_none()
 }
 
-#[test]
-fn numbers_are_the_least_free(rt: HostRuntime) -> Result<(), Fail> {
-    let mut table = full(rt.alloc(), b"abcde")?;
-    assert!(rt; table.least_free().is_none());
+// A call, and what it answers.
+#[derive(Clone, Copy)]
+enum Call {
+    LeastFree(Option<usize>),
+    // Puts a value at the least free number.
+    Put(u8, Option<usize>),
+    Remove(usize, Option<u8>),
+    // Nothing is found at the number, by any call.
+    Nothing(usize),
+}
+
+fn is_answered(table: &mut NumberTable<u8>, call: Call) -> bool {
+    match call {
+        Call::LeastFree(number) => table.least_free() == number,
+        Call::Put(value, number) => put_least(table, value) == number,
+        Call::Remove(number, value) => table.remove(number) == value,
+        Call::Nothing(number) => finds_nothing(table, number),
+    }
+}
+
+fn finds_nothing(table: &mut NumberTable<u8>, number: usize) -> bool {
+    let got = table.get(number).is_some();
+    let lent = table.get_mut(number).is_some();
+    (got, lent, table.remove(number)) == (false, false, None)
+}
+
+fn are_answered(table: &mut NumberTable<u8>, calls: &[Call]) -> bool {
+    for call in calls {
+        if !is_answered(table, *call) {
+            return false;
+        }
+    }
+    true
+}
+
+// The values of a full table, calls in turn, and the values after them.
+const ROWS: &[(&[u8], &[Call], &[u8])] = &[
     // The slab gives out the keys of 3, 0, 4 and 1 in that order.
-    for number in [1, 4, 0, 3] {
-        assert!(rt; table.remove(number).is_some());
+    (
+        b"abcde",
+        &[
+            Call::LeastFree(None),
+            Call::Remove(1, Some(b'b')),
+            Call::Remove(4, Some(b'e')),
+            Call::Remove(0, Some(b'a')),
+            Call::Remove(3, Some(b'd')),
+            Call::Put(b'v', Some(0)),
+            Call::Put(b'w', Some(1)),
+            Call::Put(b'x', Some(3)),
+            Call::Put(b'y', Some(4)),
+            Call::Put(b'z', None),
+        ],
+        b"vwcxy",
+    ),
+    (
+        b"ab",
+        &[
+            Call::Nothing(2),
+            Call::Nothing(3),
+            Call::Nothing(usize::MAX),
+        ],
+        b"ab",
+    ),
+    // A table may have no numbers.
+    (b"", &[Call::LeastFree(None), Call::Nothing(0)], b""),
+    // A value is taken out once.
+    (
+        b"abc",
+        &[
+            Call::Remove(1, Some(b'b')),
+            Call::Remove(1, None),
+            Call::LeastFree(Some(1)),
+        ],
+        b"a c",
+    ),
+];
+
+fn goes_over(table: &mut NumberTable<u8>, calls: &[Call], after: &[u8]) -> bool {
+    table.places() == after.len() && are_answered(table, calls) && holds(table, after)
+}
+
+fn is_right(alloc: Global, values: &[u8], calls: &[Call], after: &[u8]) -> bool {
+    match full(alloc, values) {
+        Ok(mut table) => goes_over(&mut table, calls, after),
+        Err(AllocError) => false,
     }
-    let rows = [
-        (b'v', Some(0)),
-        (b'w', Some(1)),
-        (b'x', Some(3)),
-        (b'y', Some(4)),
-        (b'z', None),
-    ];
-    for (value, number) in rows {
-        assert!(rt; put_least(&mut table, value) == number);
-    }
-    assert!(rt; holds(&table, b"vwcxy"));
-    Ok(())
 }
 
 #[test]
-fn finds_nothing_past_the_end(rt: HostRuntime) -> Result<(), Fail> {
-    let mut table = full(rt.alloc(), b"ab")?;
-    assert!(rt; table.places() == 2);
-    for number in [2, 3, usize::MAX] {
-        let found = [
-            table.get(number).is_some(),
-            table.get_mut(number).is_some(),
-            table.remove(number).is_some(),
-        ];
-        assert!(rt; found == [false; 3]);
+fn calls_are_answered(rt: HostRuntime) {
+    for (values, calls, after) in ROWS {
+        assert!(rt; is_right(rt.alloc(), values, calls, after));
     }
-    assert!(rt; holds(&table, b"ab"));
-    Ok(())
 }
 
-#[test]
-fn a_table_may_have_no_numbers(rt: HostRuntime) -> Result<(), Fail> {
-    let none: NumberTable<u8> = NumberTable::new(rt.alloc(), 0)?;
-    assert!(rt; none.places() == 0);
-    assert!(rt; none.least_free().is_none());
-    Ok(())
-}
-
-#[test]
-fn removes_once(rt: HostRuntime) -> Result<(), Fail> {
-    let mut table = full(rt.alloc(), b"abc")?;
-    let removed = [table.remove(1), table.remove(1)];
-    assert!(rt; removed == [Some(b'b'), None]);
-    assert!(rt; table.least_free() == Some(1));
-    assert!(rt; holds(&table, b"a c"));
-    Ok(())
-}
-
-// A table of two words, of which the second is made longer in its place.
-fn words(alloc: Global) -> Result<NumberTable<String>, AllocError> {
-    let mut table: NumberTable<String> = NumberTable::new(alloc, 2)?;
-    fill(alloc, &mut table)?;
-    Ok(table)
-}
-
+// Puts words, the second of which is made longer in its place.
 fn fill(alloc: Global, table: &mut NumberTable<String>) -> Result<(), AllocError> {
-    let _ = put_least(table, String::from_str(alloc, "zero")?);
-    let _ = put_least(table, String::from_str(alloc, "one")?);
+    for word in ["zero", "one"] {
+        let _ = put_least(table, String::from_str(alloc, word)?);
+    }
     match table.get_mut(1) {
         Some(word) => word.push_str(" more"),
         None => Ok(()),
@@ -121,11 +154,14 @@ fn takes_out(table: &mut NumberTable<String>, number: usize, expected: &str) -> 
     }
 }
 
+fn writes_back(alloc: Global, table: &mut NumberTable<String>) -> bool {
+    fill(alloc, table).is_ok() && takes_out(table, 0, "zero") && takes_out(table, 1, "one more")
+}
+
 #[test]
-fn writes_back(rt: HostRuntime) -> Result<(), Fail> {
-    let mut table = words(rt.alloc())?;
-    assert!(rt; takes_out(&mut table, 0, "zero"));
-    assert!(rt; takes_out(&mut table, 1, "one more"));
+fn a_lent_word_is_written_back(rt: HostRuntime) -> Result<(), Fail> {
+    let mut table = NumberTable::new(rt.alloc(), 2)?;
+    assert!(rt; writes_back(rt.alloc(), &mut table));
     Ok(())
 }
 
@@ -201,22 +237,34 @@ fn change(table: &mut NumberTable<u32>, plain: &mut [Option<u32>], random: &mut 
     }
 }
 
-#[test]
-fn agrees_with_a_plain_list(rt: HostRuntime) -> Result<(), Fail> {
-    for run in 0..RUNS {
-        changes_agree(&rt, rt.alloc(), run)?;
+fn changes_agree(
+    table: &mut NumberTable<u32>,
+    plain: &mut [Option<u32>],
+    random: &mut Pcg32,
+) -> bool {
+    for _ in 0..CHANGES {
+        if !change(table, plain, random) || !is_same(table, plain) {
+            return false;
+        }
     }
-    Ok(())
+    true
 }
 
-fn changes_agree(rt: &impl Abort, alloc: Global, run: u64) -> Result<(), Fail> {
+// Whether a table and a plain list agree, new and after each of a run of random changes.
+fn run_agrees(alloc: Global, run: u64) -> bool {
     let mut random = Pcg32::new(SEED, run);
-    let mut table = NumberTable::new(alloc, PLACES)?;
     let mut plain = [None; PLACES];
-    assert!(rt; is_same(&table, &plain));
-    for _ in 0..CHANGES {
-        assert!(rt; change(&mut table, &mut plain, &mut random));
-        assert!(rt; is_same(&table, &plain));
+    match NumberTable::new(alloc, PLACES) {
+        Ok(mut table) => {
+            is_same(&table, &plain) && changes_agree(&mut table, &mut plain, &mut random)
+        }
+        Err(AllocError) => false,
     }
-    Ok(())
+}
+
+#[test]
+fn agrees_with_a_plain_list(rt: HostRuntime) {
+    for run in 0..RUNS {
+        assert!(rt; run_agrees(rt.alloc(), run));
+    }
 }
