@@ -1,34 +1,30 @@
 -- A target that moves by an event agrees with the history that is longer by it.
-use Rattle.std.proofs.Common.{◌≡◌, ℕ, ◌+◌, ◌%◌, ◌^◌, ◌<◌, Bool, true, false, ◌||◌, ◌&&◌, List, [], ◌∷◌, ◌++◌, length, take, drop, Option, Some, None, Result, Ok, Err, refl, sym, ap, ◌∙◌, append_assoc, take-append-drop}
+use Rattle.std.proofs.Common.{◌≡◌, ℕ, ◌%◌, ◌^◌, Bool, true, false, ◌||◌, List, [], ◌∷◌, ◌++◌, drop, Option, Some, None, refl, sym, ap, ◌∙◌, append_assoc}
 use Rattle.std.proofs.Math.Path.{fun_ext}
 use Rattle.std.proofs.lemmas.Bool.{eqb-true}
-use Rattle.std.specs.Prelude.{if◌then◌else◌, ◌==◌, MatchOption, MatchResult}
+use Rattle.std.specs.Prelude.{if◌then◌else◌, ◌==◌}
 use Rattle.std.specs.Option.{option_map}
 use Rattle.discovery_view.specs.Records.{records_of}
-use Rattle.discovery_view.specs.View.{Shown, ShowsNext, count_in, page_in, records_in}
+use Rattle.discovery_view.specs.View.{Shown, count_in, records_in}
 use Rattle.discovery_view.proofs.Counts.{count_goes_on}
 use Rattle.nvt_config.specs.Configuration.{Configuration, disks_alone}
-use Rattle.nvt_config.specs.declared.edit.Edit.{Edit}
-use Rattle.nvt_config.specs.declared.fault.EditFault.{EditFault}
 use Rattle.number_table.specs.Table.{place}
-use Rattle.number_table.proofs.Tables.{place_within, place-replicate, place-with_value, without_None}
+use Rattle.number_table.proofs.Tables.{place-replicate}
 use Rattle.pdu_cut.specs.declared.side.Side.TheVariants.{Target}
-use Rattle.pdu_cut.specs.Front.{Front, incomplete, whole, faulty, front}
+use Rattle.pdu_cut.specs.Front.{Front, incomplete, whole, faulty}
 use Rattle.pdu_cut.specs.Pdu.{Pdu}
-use Rattle.pdu_cut.specs.Stream.{BeginsWith}
-use Rattle.pdu_cut.proofs.Fronts.{front_faulty-append}
-use Rattle.pdu_cut.proofs.Streams.{begins_with_none, begins_with-append, begins_with_taken}
-use Rattle.target_core.specs.Agreement.{Agrees, AgreesAfter, AgreesStill, AgreesWith, OutputAgrees, StandsAt, StreamAgrees, left, nothing}
+use Rattle.pdu_cut.proofs.Streams.{begins_with_none, begins_with_taken}
+use Rattle.target_core.specs.Agreement.{Agrees, AgreesAfter, AgreesStill, AgreesWith, OutputAgrees, StreamAgrees, nothing}
 use Rattle.target_core.specs.Connection.{ConnectionState, fresh_on}
 use Rattle.target_decision.specs.Session.{opened_on}
-use Rattle.target_core.specs.Moves.{Moves, Stands, StandsIn, connection_after, connection_moved, ShowsAfter, stream_after}
-use Rattle.target_core.specs.Target.{TargetState, conversation_at, is_incomplete, meets, IsNewTarget, world_at}
+use Rattle.target_core.specs.Moves.{Moves, Stands, StandsIn, connection_after, connection_moved, ShowsAfter}
+use Rattle.target_core.specs.Target.{TargetState, meets, IsNewTarget, world_at}
 use Rattle.target_decision.specs.declared.session.Conversation.{Conversation}
 use Rattle.target_decision.specs.Decision.{taken_of}
 use Rattle.target_decision.specs.World.{Pages, World}
 use Rattle.target_history.specs.Event.{Event, edited, port_in, front_in, gives_up, opened, opens, takes, took, given_up}
 use Rattle.target_history.specs.Happening.{Happening, conversation_after, conversation_moved, sends}
-use Rattle.target_history.specs.History.{config_after, config_of, conversation_of, generation_after, generation_of, happened, last_front, page_of, pdus_of, sent, with_pdu, world_of}
+use Rattle.target_history.specs.History.{config_after, config_of, generation_after, generation_of, happened, last_front, pdus_of, sent, with_pdu, world_of}
 use Rattle.target_history.proofs.Steps.{conversation_step}
 
 -- ---- the world
@@ -140,7 +136,7 @@ moves_agree event old new moves = record {
       let before = happened units events in
       let x : Happening = record { event = event; world = world_of units before } in
       let met : meets old event ≡ x = ap (λ (w : World). let y : Happening = record { event = event; world = w } in y)
-          (world_agrees old units before received taken agrees) in
+      (world_agrees old units before received taken agrees) in
       let config : new.config ≡ config_after event (config_of units before) = moves.config ∙ ap (config_after event) agrees.config in
       let shows : ShowsAfter event (config_after event (config_of units before)) old.shown new.shown = rw config at moves.shown in
       record {

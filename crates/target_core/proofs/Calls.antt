@@ -1,9 +1,9 @@
 -- Each call keeps the agreement: from the exact clauses of a call to what its answer says.
-use Rattle.std.proofs.Common.{◌≡◌, ℕ, ◌<◌, Bool, true, false, ◌&&◌, List, [], ◌++◌, length, take, drop, min, replicate, Option, Some, None, Result, Ok, Err, OnOk, OnErr, IfOk, MatchOption, refl, sym, ap, ◌∙◌, append_assoc, take-append-drop}
+use Rattle.std.proofs.Common.{◌≡◌, ℕ, Bool, true, false, ◌&&◌, List, ◌++◌, length, take, drop, min, Option, Some, None, Result, Ok, Err, OnOk, OnErr, IfOk, MatchOption, refl, sym, ap, ◌∙◌, append_assoc, take-append-drop}
 use Rattle.std.specs.Prelude.{if◌then◌else◌, ◌==◌, is_none}
 use Rattle.std.specs.Option.{option_map}
 use Rattle.std.proofs.lemmas.Bool.{eqb-true}
-use Rattle.number_table.specs.Table.{place, with_value, without}
+use Rattle.number_table.specs.Table.{place, without}
 use Rattle.number_table.proofs.Tables.{place_within, place-with_value, without_None}
 use Rattle.nvt_config.specs.declared.edit.Edit.{Edit}
 use Rattle.nvt_config.specs.declared.fault.EditFault.{EditFault}
@@ -17,12 +17,11 @@ use Rattle.target_core.specs.declared.fault.OpenFault.{OpenFault}
 use Rattle.target_core.specs.declared.fault.StepFault.{StepFault}
 use Rattle.target_core.specs.declared.fault.Stepped.{Stepped}
 use Rattle.target_core.specs.declared.fault.Stepped.TheVariants.{Idle, One, Ended}
-use Rattle.target_core.specs.Agreement.{AgreesAfter, AgreesByStep, AgreesStill, AgreesWithReceived, AgreesWithTaken, EditAgrees, EndAgrees, EndedAgrees, OpenAgrees, OutputAgrees, ReceiveAgrees, StandsAt, StepAgrees, StreamAgrees, TakenAgrees, extended}
+use Rattle.target_core.specs.Agreement.{AgreesAfter, AgreesByStep, AgreesStill, AgreesWithReceived, AgreesWithTaken, EditAgrees, EndAgrees, EndedAgrees, OpenAgrees, OutputAgrees, ReceiveAgrees, StandsAt, StepAgrees, StreamAgrees, TakenAgrees}
 use Rattle.target_core.specs.Connection.{ConnectionState}
 use Rattle.target_core.specs.Moves.{Moves, StepsAt, StepsBy}
-use Rattle.target_core.specs.Target.{IsTarget, ReceivesAt, TakenAt, TargetState, conversation_at, free_number, is_ended_at, room_of, with_connection, with_stream, without_connection}
+use Rattle.target_core.specs.Target.{IsTarget, ReceivesAt, TakenAt, TargetState, free_number, is_ended_at, room_of, with_connection, with_stream, without_connection}
 use Rattle.target_decision.specs.declared.session.Conversation.{Conversation}
-use Rattle.target_decision.specs.declared.session.Session.{Session}
 use Rattle.target_decision.specs.declared.session.Session.TheVariants as session
 use Rattle.target_decision.specs.Session.{is_ended}
 use Rattle.target_history.specs.Event.{edited, given_up, opened, took}

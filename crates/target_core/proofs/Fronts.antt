@@ -1,14 +1,13 @@
 -- What stands at the front of a stream is not longer than the stream, and its header fits in a termination.
-use Rattle.std.proofs.Common.{◌≡◌, ℕ, ◌≤◌, Bool, true, false, List, [], length, take, drop, Result, Ok, Err, refl, sym, ap, ◌∙◌, arith}
+use Rattle.std.proofs.Common.{◌≡◌, ℕ, ◌≤◌, Bool, true, false, List, length, take, Result, Ok, Err, arith}
 use Rattle.std.specs.Prelude.{if◌then◌else◌, nat_lt}
 use Rattle.nvt_fields.specs.declared.pdu_type.PduType.{PduType}
 use Rattle.nvt_fields.specs.declared.pdu_type.PduType.TheVariants.{IcReq, IcResp, H2cTermReq, C2hTermReq, CapsuleCmd, CapsuleResp, H2cData, C2hData, R2t}
 use Rattle.pdu_cut.specs.declared.side.Side.{Side}
 use Rattle.pdu_cut.specs.CommonHeader.{header_of, layout_of, type_or_fault}
-use Rattle.pdu_cut.specs.Front.{Front, incomplete, whole, faulty, front, front_by}
+use Rattle.pdu_cut.specs.Front.{Front, incomplete, whole, front, front_by}
 use Rattle.target_decision.specs.Decision.{head_of, taken_of}
 use Rattle.std.proofs.lemmas.List.{length-take}
-use Rattle.pdu_cut.specs.Pdu.{Pdu, header_part}
 
 header_small : (kind : PduType) → (layout_of kind).header_len ≤ 128
 header_small IcReq = omega arith

@@ -1,20 +1,20 @@
 -- What the calls make of a target, place by place.
-use Rattle.std.proofs.Common.{◌≡◌, ℕ, ◌<◌, ◌≤◌, Bool, true, false, List, [], ◌∷◌, length, map, drop, ◌++◌, Option, Some, None, Result, Ok, Err, refl, sym, ap, ◌∙◌, append-nil}
+use Rattle.std.proofs.Common.{◌≡◌, ℕ, ◌<◌, Bool, true, false, List, [], ◌∷◌, length, map, drop, ◌++◌, Option, Some, None, Ok, refl, sym, ap, ◌∙◌, append-nil}
 use Rattle.std.specs.Prelude.{if◌then◌else◌, ◌==◌, is_none, position}
 use Rattle.std.specs.Option.{option_map}
 use Rattle.std.proofs.Math.Dec.{T, eqb_refl}
 use Rattle.std.proofs.lemmas.Bool.{eqb-true}
 use Rattle.discovery_view.specs.View.{Shown, ShowsNext}
 use Rattle.number_table.specs.Table.{place, with_value, without}
-use Rattle.number_table.proofs.Tables.{least_free-Some, length-with_value, length-without, place_within, place-map, place-with_value, place-without, without_None}
+use Rattle.number_table.proofs.Tables.{least_free-Some, place_within, place-map, place-with_value, place-without}
 use Rattle.nvt_config.specs.declared.edit.Edit.{Edit}
 use Rattle.nvt_config.specs.Accept.{accept}
 use Rattle.nvt_config.specs.Configuration.{Configuration}
 use Rattle.pdu_cut.specs.declared.side.Side.TheVariants.{Target}
 use Rattle.pdu_cut.specs.Front.{Front, front}
 use Rattle.target_core.specs.Connection.{ConnectionState, acted, fresh_on, settled}
-use Rattle.target_core.specs.Moves.{Moves, connection_after, connection_moved, stream_moved}
-use Rattle.target_core.specs.Target.{IsTarget, TargetState, is_incomplete, meets, pages_at, world_at}
+use Rattle.target_core.specs.Moves.{Moves, connection_moved}
+use Rattle.target_core.specs.Target.{TargetState, is_incomplete, meets, pages_at, world_at}
 use Rattle.target_decision.specs.declared.decision.Decision.{Decision}
 use Rattle.target_decision.specs.declared.session.Session.TheVariants.{Ended}
 use Rattle.target_decision.specs.Decision.{decide, is_end, taken_of}
@@ -23,7 +23,7 @@ use Rattle.target_decision.specs.World.{World}
 use Rattle.target_history.specs.declared.ending.Ending.{Ending}
 use Rattle.target_history.specs.declared.ending.Ending.TheVariants as ending
 use Rattle.target_history.specs.Ending.{ending_edited, ending_in, ends_by}
-use Rattle.target_history.specs.Event.{Event, edited, front_in, opened, took, given_up}
+use Rattle.target_history.specs.Event.{edited, front_in, opened, took, given_up}
 use Rattle.target_history.specs.Happening.{Happening, decided, is_end_decided, sends_on, session_decided, terminates}
 
 -- what an event makes of a connection, by what is decided on it and what ends elsewhere
@@ -164,8 +164,8 @@ step_at old k found c d j known lasts decides true same =
     let there : place old.connections j ≡ Some c = ap (place old.connections) (eqb-true j k same) ∙ known in
     let met : x.world.conversation j ≡ Some c.conversation = ap (option_map (λ (a : ConnectionState). a.conversation)) there in
     let moves : connection_moved x j c ≡ acted (pages_at old) d found c =
-        moved_is x j c met
-        ∙ ap (λ (b : Option Decision). turned x.world b found ending.Nothing c) (decides_here old k found c d j same there lasts decides) in
+    moved_is x j c met
+    ∙ ap (λ (b : Option Decision). turned x.world b found ending.Nothing c) (decides_here old k found c d j same there lasts decides) in
     ap Some (sym moves) ∙ ap (option_map (connection_moved x j)) (sym there)
 step_at old k found c d j known lasts decides false same =
     same_at (place old.connections j) ∙ silent_at (meets old (took k found)) j (place old.connections j) refl (decides_none old k found j same)

@@ -1,5 +1,5 @@
 -- A target has a stream for each connection that is known: what keeps that.
-use Rattle.std.proofs.Common.{◌≡◌, ℕ, ◌<◌, Bool, true, false, List, [], length, map, replicate, Option, Some, None, refl, sym, ap, ◌∙◌, arith}
+use Rattle.std.proofs.Common.{◌≡◌, ℕ, ◌<◌, Bool, true, false, List, length, map, replicate, Option, Some, None, refl, sym, ap, ◌∙◌, arith}
 use Rattle.std.specs.Prelude.{if◌then◌else◌, ◌==◌, is_none, position}
 use Rattle.std.specs.Option.{option_map}
 use Rattle.std.proofs.lemmas.Bool.{eqb-true}
@@ -52,7 +52,7 @@ pub open_is_target : (t : TargetState) (k : ℕ) (held : List ℕ) (c : Connecti
 open_is_target t k held c is free =
     let empty = least_free-Some t.connections k free in
     record {
-          places = length-with_value t.connections k c ∙ is.places;
+      places = length-with_value t.connections k c ∙ is.places;
       alike = put_alike t.streams t.connections k held c (stream_free t k is free).1 empty.1 is.alike;
       streams = length-with_value t.streams k held ∙ is.streams;
     }

@@ -1,13 +1,9 @@
 -- What a step has done to the target.
-use Rattle.std.proofs.Common.{◌≡◌, ℕ, Bool, true, false, List, length, drop, Option, Some, None, refl, sym, ap, ◌∙◌}
-use Rattle.std.specs.Prelude.{if◌then◌else◌, ◌||◌}
+use Rattle.std.proofs.Common.{◌≡◌, ℕ, Bool, true, false, List, drop, Option, Some, None, refl, ap, ◌∙◌}
 use Rattle.number_table.specs.Table.{place, with_value}
-use Rattle.nvt_config.specs.Configuration.{Configuration}
-use Rattle.discovery_view.specs.View.{Shown}
 use Rattle.pdu_cut.specs.declared.side.Side.TheVariants.{Target}
 use Rattle.pdu_cut.specs.Front.{Front, front}
 use Rattle.target_core.specs.declared.fault.Stepped.{Stepped}
-use Rattle.target_core.specs.declared.fault.Stepped.TheVariants.{One, Ended}
 use Rattle.target_core.specs.Connection.{ConnectionState, acted}
 use Rattle.target_core.specs.Moves.{ActedAt, Moves, StepsBy, stepped_by}
 use Rattle.target_core.specs.Target.{IsTarget, TargetState, is_idle, is_incomplete, meets, pages_at, world_at}

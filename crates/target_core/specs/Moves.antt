@@ -1,5 +1,5 @@
 -- What an event makes of a target, place by place.
-use Rattle.std.specs.Prelude.{◌≡◌, ◌≤◌, ℕ, Bool, length, true, false, List, [], Option, Some, None, Result, Ok, Err, MatchResult, ◌++◌, drop, if◌then◌else◌}
+use Rattle.std.specs.Prelude.{◌≡◌, ◌≤◌, ℕ, Bool, length, true, false, List, [], Option, Some, None, Result, Err, MatchResult, ◌++◌, drop, if◌then◌else◌}
 use Rattle.std.specs.Option.{option_map}
 use Rattle.discovery_view.specs.View.{Shown, ShowsNext}
 use Rattle.number_table.specs.Table.{place, with_value}

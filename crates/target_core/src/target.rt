@@ -260,7 +260,14 @@ impl Target {
             connections: &self.connections,
         };
         let decision = decide(&world, connection.conversation(), &front);
-        match act(&mut self.connections, k, self.alloc, &pages, &decision, &front) {
+        match act(
+            &mut self.connections,
+            k,
+            self.alloc,
+            &pages,
+            &decision,
+            &front,
+        ) {
             Ok(()) => {
                 let len = taken_of(&front);
                 consume(&mut self.streams, k, len);

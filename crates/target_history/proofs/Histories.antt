@@ -1,5 +1,5 @@
 -- Laws of histories.
-use Rattle.std.proofs.Common.{◌≡◌, ◌≤◌, ℕ, ◌+◌, ◌%◌, ◌^◌, Bool, true, false, ◌||◌, ◌&&◌, List, [], ◌∷◌, ◌++◌, Option, Some, None, refl, sym, ap, ◌∙◌, append-nil, arith}
+use Rattle.std.proofs.Common.{◌≡◌, ◌≤◌, ℕ, ◌+◌, ◌%◌, ◌^◌, Bool, true, false, ◌&&◌, List, [], ◌∷◌, Option, Some, None, refl, append-nil, arith}
 use Rattle.std.specs.Prelude.{if◌then◌else◌, not, ◌==◌}
 use Rattle.nvt_config.specs.Configuration.{Configuration}
 use Rattle.nvt_fields.specs.declared.pdu_type.PduType.{PduType}
@@ -18,9 +18,9 @@ use Rattle.target_decision.specs.declared.session.Session.TheVariants.{Opened, I
 use Rattle.target_decision.specs.Decision.{decide, decide_pdu, first_by, is_command, next_by, terminate}
 use Rattle.target_decision.specs.Session.{is_ended}
 use Rattle.target_decision.specs.World.{World}
-use Rattle.target_history.specs.Event.{Event, edited, front_in, gives_up, opened, opens, takes, took, given_up}
-use Rattle.target_history.specs.Happening.{Happening, decided, decided_on, responses, responses_decided, sends, sends_on}
-use Rattle.target_history.specs.History.{config_after, config_of, conversation_of, generation_after, generation_of, happened, has_ended, is_known, page_of, port_of, sent, session_of, world_of}
+use Rattle.target_history.specs.Event.{Event, edited, front_in, opened, opens, takes, took, given_up}
+use Rattle.target_history.specs.Happening.{Happening, decided_on, responses, responses_decided, sends, sends_on}
+use Rattle.target_history.specs.History.{config_after, config_of, generation_after, generation_of, happened, has_ended, is_known, port_of, sent, session_of, world_of}
 use Rattle.target_history.specs.Laws.{EndedAreSentNothing, PagesChangeByEdits, ResponsesAnswerCapsules, capsules_of, is_capsule, is_edit, responses_of}
 
 -- ---- an ended connection

@@ -1,5 +1,5 @@
 -- What one more event makes of what the history says of a connection.
-use Rattle.std.proofs.Common.{◌≡◌, ℕ, ◌+◌, ◌%◌, Bool, true, false, not, ◌&&◌, ◌||◌, List, [], ◌∷◌, Option, Some, None, refl, sym, ap, ◌∙◌, arith}
+use Rattle.std.proofs.Common.{◌≡◌, ℕ, ◌+◌, ◌%◌, Bool, true, false, not, ◌&&◌, ◌||◌, List, ◌∷◌, Option, Some, None, refl, sym, ap, ◌∙◌, arith}
 use Rattle.std.specs.Prelude.{if◌then◌else◌, nat_le, nat_lt, length}
 use Rattle.std.specs.Option.{option_map}
 use Rattle.std.proofs.Math.Nat.{mod-eq_of_lt}
@@ -7,7 +7,7 @@ use Rattle.nvt_fields.specs.declared.pdu_type.PduType.{PduType}
 use Rattle.nvt_fields.specs.declared.pdu_type.PduType.TheVariants.{IcReq, IcResp, H2cTermReq, C2hTermReq, CapsuleCmd, CapsuleResp, H2cData, C2hData, R2t}
 use Rattle.nvt_fields.specs.declared.termination.FatalErrorStatus.TheVariants.{LimitExceeded}
 use Rattle.pdu_cut.specs.Front.{Front, incomplete, whole, faulty}
-use Rattle.pdu_cut.specs.Pdu.{Pdu, data_part}
+use Rattle.pdu_cut.specs.Pdu.{data_part}
 use Rattle.target_decision.specs.declared.controller.Controller.{Controller}
 use Rattle.target_decision.specs.declared.decision.Change.{Change}
 use Rattle.target_decision.specs.declared.decision.Change.TheVariants as change
@@ -18,13 +18,13 @@ use Rattle.target_decision.specs.declared.queue.Queue.{Queue}
 use Rattle.target_decision.specs.declared.registers.Registers.{Registers}
 use Rattle.target_decision.specs.declared.session.Conversation.{Conversation}
 use Rattle.target_decision.specs.declared.session.Session.{Session}
-use Rattle.target_decision.specs.declared.session.Session.TheVariants.{Opened, Initialized, Admin, Ended}
+use Rattle.target_decision.specs.declared.session.Session.TheVariants.{Admin, Ended}
 use Rattle.target_decision.specs.Decision.{decide, host_in, next_by, terminate}
-use Rattle.target_decision.specs.Session.{configured_in, is_ended, move_replied, moved, opened_on, responded_in}
+use Rattle.target_decision.specs.Session.{move_replied, moved, opened_on}
 use Rattle.target_decision.specs.World.{World}
 use Rattle.target_history.specs.Ending.{ending_in, ends_by}
-use Rattle.target_history.specs.Event.{Event, front_in, gives_up, opens, port_in, takes}
-use Rattle.target_history.specs.Happening.{Happening, change_decided, conversation_after, conversation_moved, decided, decided_on, ends, initializes, is_end_decided, is_initialize, own_change, responses, responses_decided, session_decided}
+use Rattle.target_history.specs.Event.{front_in, gives_up, opens, port_in, takes}
+use Rattle.target_history.specs.Happening.{Happening, change_decided, conversation_after, conversation_moved, decided_on, ends, initializes, is_end_decided, is_initialize, own_change, responses, responses_decided, session_decided}
 use Rattle.target_history.specs.History.{Beginning, beginning_by, beginning_of, beginning_or, begins, conversation_of, has_ended, is_initialized, is_known, port_of, registers_by, registers_of, responses_by, responses_since, session_of, session_with}
 use Rattle.target_history.proofs.Heads.{head_goes_round}
 

@@ -1,5 +1,5 @@
 -- What an event ends beside the connection that it is a step of: each cause that lies elsewhere.
-use Rattle.std.specs.Prelude.{ℕ, Bool, true, false, ◌==◌}
+use Rattle.std.specs.Prelude.{Bool, false, ◌==◌}
 use Rattle.nvt_config.specs.declared.edit.Edit.{Edit}
 use Rattle.nvt_config.specs.declared.edit.Edit.TheVariants.{PortDel}
 use Rattle.target_decision.specs.declared.session.Conversation.{Conversation}

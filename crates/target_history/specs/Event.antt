@@ -1,5 +1,5 @@
 -- What happens to a target.
-use Rattle.std.specs.Prelude.{ℕ, Bool, true, false, ◌==◌}
+use Rattle.std.specs.Prelude.{ℕ, Bool, false, ◌==◌}
 use Rattle.nvt_config.specs.declared.edit.Edit.{Edit}
 use Rattle.pdu_cut.specs.Front.{Front, incomplete}
 

@@ -2,7 +2,6 @@
 use Rattle.std.specs.Prelude.{ℕ, Bool, true, false, ◌||◌, List, [], Option, Some, None, if◌then◌else◌}
 use Rattle.std.specs.Option.{option_map}
 use Rattle.pdu_cut.specs.Front.{Front}
-use Rattle.target_decision.specs.declared.decision.Admission.{Admission}
 use Rattle.target_decision.specs.declared.decision.Change.{Change}
 use Rattle.target_decision.specs.declared.decision.Change.TheVariants as change
 use Rattle.target_decision.specs.declared.decision.Decision.{Decision}
