@@ -5,6 +5,9 @@ use Rattle.target_decision.specs.declared.capsule.Success.{Success}
 use Rattle.target_decision.specs.declared.capsule.Refusal.{Refusal}
 use Rattle.target_decision.specs.declared.decision.Change.{Change}
 
+abbrev pub Outcome : Type 0
+Outcome = Result Success Refusal
+
 abbrev pub done : ℕ → Change → Result Success Refusal
 done value change = Ok (record { result = value; «data» = None; change = change })
 

@@ -30,12 +30,12 @@ use Rattle.target_history.proofs.Heads.{head_goes_round}
 
 -- ---- a queue's head
 
-one_more : (n m : ℕ) → (1 + n) % (m + 1) ≡ (if nat_le m (n % (m + 1)) then 0 else n % (m + 1) + 1)
+pub one_more : (n m : ℕ) → (1 + n) % (m + 1) ≡ (if nat_le m (n % (m + 1)) then 0 else n % (m + 1) + 1)
 one_more n m =
     let same : 1 + n ≡ n + 1 = omega arith in
     ap (λ (x : ℕ). x % (m + 1)) same ∙ head_goes_round n m
 
-first_head : (m : ℕ) → (1 + 0) % (m + 1) ≡ (if nat_le m 0 then 0 else 0 + 1)
+pub first_head : (m : ℕ) → (1 + 0) % (m + 1) ≡ (if nat_le m 0 then 0 else 0 + 1)
 first_head m =
     let none : 0 % (m + 1) ≡ 0 = mod-eq_of_lt (omega arith) in
     rw none at (one_more 0 m)

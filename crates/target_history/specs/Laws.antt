@@ -1,10 +1,16 @@
 -- Laws of histories.
-use Rattle.std.specs.Prelude.{◌≡◌, ◌≤◌, ℕ, ◌+◌, Bool, true, false, ◌&&◌, List, [], ◌∷◌, if◌then◌else◌}
+use Rattle.std.specs.Prelude.{◌≡◌, ◌≤◌, ℕ, ◌+◌, ◌%◌, Bool, true, false, ◌||◌, ◌&&◌, List, [], ◌∷◌, Option, Some, None, if◌then◌else◌}
 use Rattle.pdu_cut.specs.Front.{Front, incomplete, whole, faulty}
+use Rattle.target_decision.specs.declared.decision.Decision.TheVariants as decision
+use Rattle.target_decision.specs.declared.decision.Reply.{Reply}
+use Rattle.target_decision.specs.declared.session.Conversation.{Conversation}
+use Rattle.target_decision.specs.Controllers.{free_cntlid}
 use Rattle.target_decision.specs.Decision.{is_command}
+use Rattle.target_decision.specs.Session.{host_of}
+use Rattle.target_decision.specs.World.{World}
 use Rattle.target_history.specs.Event.{Event, edited, front_in, gives_up, opened, opens, takes, took, given_up}
-use Rattle.target_history.specs.Happening.{Happening, responses}
-use Rattle.target_history.specs.History.{happened, has_ended, page_of, sent}
+use Rattle.target_history.specs.Happening.{Happening, decided, responses}
+use Rattle.target_history.specs.History.{Beginning, beginning_of, conversation_of, happened, has_ended, page_of, responses_since, sent}
 
 pub record EndedAreSentNothing : Type 0 where
   pub silent : (units : List ℕ) (events : List Event) (event : Event) (k : ℕ) → has_ended (happened units events) k ≡ true
@@ -39,3 +45,47 @@ is_edit (given_up k) = false
 pub record PagesChangeByEdits : Type 0 where
   pub stays : (units : List ℕ) (x : Happening) (before : List Happening) (host : List ℕ) → is_edit x.event ≡ false
       → page_of units (x ∷ before) host ≡ page_of units before host
+
+-- the size of the queue that a beginning makes, and 0 where there is none
+abbrev pub sqsize_of : Option Beginning → ℕ
+sqsize_of None = 0
+sqsize_of (Some b) = b.admission.sqsize
+
+-- each response carries the number of responses since the Connect, itself included, round the queue's
+-- size; on a connection without a queue that is 0
+pub record HeadsCountResponses : Type 0 where
+  pub counts : (w : World) (event : Event) (before : List Happening) (k : ℕ) (r : Reply)
+      → let x : Happening = record { event = event; world = w } in
+      w.conversation k ≡ conversation_of before k → decided x k ≡ Some (decision.Reply r)
+      → r.sqhd ≡ responses_since (x ∷ before) k % (sqsize_of (beginning_of (x ∷ before) k) + 1)
+
+-- an event opens, steps or gives up connection k
+abbrev pub is_of : Event → ℕ → Bool
+is_of event k = opens event k || (takes event k || gives_up event k)
+
+-- what happened to connection k itself, the newest first
+abbrev pub own : List Happening → ℕ → List Happening
+own [] k = []
+own (x ∷ before) k = if is_of x.event k then x ∷ own before k else own before k
+
+abbrev pub host_at : Option Conversation → List ℕ
+host_at None = []
+host_at (Some v) = host_of v.session
+
+-- two worlds show connection k the same: itself, the identifier that is free, and its own host's page
+pub record ShowAlike (v w : World) (k : ℕ) : Type 0 where
+  pub conversation : v.conversation k ≡ w.conversation k
+  pub free : free_cntlid v.conversation ≡ free_cntlid w.conversation
+  pub page : v.pages.discovery (host_at (v.conversation k)) ≡ w.pages.discovery (host_at (v.conversation k))
+
+-- the same events, each in a world that shows connection k the same
+abbrev pub HappenedAlike : List Happening → List Happening → ℕ → Type 0
+HappenedAlike [] [] k = Unit {0}
+HappenedAlike [] (y ∷ ys) k = ⊥
+HappenedAlike (x ∷ xs) [] k = ⊥
+HappenedAlike (x ∷ xs) (y ∷ ys) k = (y.event ≡ x.event) × ShowAlike x.world y.world k × HappenedAlike xs ys k
+
+-- a connection to which the same happened, and whose worlds showed it the same, is sent the same, whatever
+-- happens to other connections
+pub record SentByOwnAlone : Type 0 where
+  pub same : (g h : List Happening) (k : ℕ) → HappenedAlike (own g k) (own h k) k → sent g k ≡ sent h k
