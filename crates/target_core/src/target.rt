@@ -172,7 +172,6 @@ impl Target {
         })
     }
 
-    #[tactic(auto, using(crate::proofs::Places::map_is_target, crate::proofs::Moving::edit_moves))]
     fn make_edit(&mut self, edit: &Edit) -> Result<(), EditFault>
         ensures ok { OnOk result (accept self.old.config edit.now ≡ Ok self.new.config) }
         ensures moves { OnOk result (Moves (edited edit.now) self.old self.new) }

@@ -7,7 +7,7 @@ use crate::registers::Registers;
 use nvt_fields::Nqn;
 
 /// The controller that a Connect made.
-#[derive(Debug, Drop)]
+#[derive(Drop)]
 pub struct Controller {
     /// Its identifier, from 1 to 32.
     pub cntlid: u16,

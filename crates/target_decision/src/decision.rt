@@ -13,7 +13,7 @@ use pdu_codec::IcReq;
 use pdu_cut::{Cut, PduView};
 
 /// What is owed to a PDU.
-#[derive(Clone, Copy, Debug, PartialEq, Eq)]
+#[derive(Clone, Copy)]
 pub enum Decision {
     /// The connection is initialized, and an ICResp says so.
     Initialize,
@@ -35,7 +35,7 @@ impl Decision {
 }
 
 /// Why a connection is terminated (TCP Transport 1.0, section 3.6).
-#[derive(Clone, Copy, Debug, PartialEq, Eq)]
+#[derive(Clone, Copy)]
 pub struct Termination {
     pub fes: FatalErrorStatus,
     /// The offset of the field in error, where the status asks for one.
@@ -43,7 +43,7 @@ pub struct Termination {
 }
 
 /// The answer to a command, and what it changes.
-#[derive(Clone, Copy, Debug, PartialEq, Eq)]
+#[derive(Clone, Copy)]
 pub struct Reply {
     pub cid: u16,
     /// Submission queue head.
@@ -55,7 +55,7 @@ pub struct Reply {
 }
 
 /// What a reply changes beside the count of responses.
-#[derive(Clone, Copy, Debug, PartialEq, Eq)]
+#[derive(Clone, Copy)]
 pub enum Change {
     Stay,
     /// A Connect makes a controller and its queue.
@@ -65,7 +65,7 @@ pub enum Change {
 }
 
 /// The controller and the queue that a Connect gets.
-#[derive(Clone, Copy, Debug, PartialEq, Eq)]
+#[derive(Clone, Copy)]
 pub struct Admission {
     pub cntlid: u16,
     /// The size of the submission queue, 0's based: 1 to 63.

@@ -9,14 +9,14 @@ use bytes::BytesMut;
 use std::alloc::{AllocError, Global};
 
 /// A page of bytes that is kept ready for hosts.
-#[derive(Clone, Copy, Debug, PartialEq, Eq)]
+#[derive(Clone, Copy)]
 pub enum Page {
     /// The discovery log page of the controller's host (Base 2.0, section 5.16.1.23).
     Discovery,
 }
 
 /// A part of a page.
-#[derive(Clone, Copy, Debug, PartialEq, Eq)]
+#[derive(Clone, Copy)]
 pub struct PagePart {
     pub page: Page,
     /// The offset of its first byte.

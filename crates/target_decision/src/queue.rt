@@ -5,7 +5,7 @@ ghost use Rattle.target_decision.specs.Queue.{new_queue, next_head, next_head_of
 use crate::decision::Admission;
 
 /// The submission queue that a Connect made.
-#[derive(Clone, Copy, Debug, PartialEq, Eq)]
+#[derive(Clone, Copy)]
 pub struct Queue {
     /// Its size, 0's based: 1 to 63.
     pub sqsize: u16,

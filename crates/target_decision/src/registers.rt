@@ -16,14 +16,14 @@ const VS: u64 = 0x0002_0000;
 const CRTO: u64 = 0x0000_0002;
 
 /// How far a shutdown has come, CSTS.SHST.
-#[derive(Clone, Copy, Debug, PartialEq, Eq)]
+#[derive(Clone, Copy, PartialEq, Eq)]
 pub enum ShutdownStatus {
     Normal,
     Complete,
 }
 
 /// The properties that change: Controller Configuration, and of Controller Status what the host sees.
-#[derive(Clone, Copy, Debug, PartialEq, Eq)]
+#[derive(Clone, Copy)]
 pub struct Registers {
     /// Controller Configuration as it was written.
     cc: u32,

@@ -6,7 +6,7 @@ use crate::controller::Controller;
 use crate::queue::Queue;
 
 /// A connection, as far as a decision may look at it.
-#[derive(Debug, Drop)]
+#[derive(Drop)]
 pub struct Conversation {
     /// The port that it was opened on.
     pub port: u16,
@@ -26,7 +26,7 @@ impl Conversation {
 }
 
 /// How far target and host have come.
-#[derive(Debug, Drop)]
+#[derive(Drop)]
 pub enum Session {
     /// Nothing has come yet: the host owes an ICReq.
     Opened,

@@ -127,7 +127,7 @@ counts_here w (opened port n) before k r met h = cc
 counts_here w (given_up n) before k r met h = cc
 counts_here w (took n front) before k r met h =
     let carries = told (k == n) (is_known before k) (has_ended before k) w (port_of before k)
-        (session_with (beginning_of before k) (is_initialized before k) (registers_of before k) (responses_since before k)) front r (rw met at h) in
+    (session_with (beginning_of before k) (is_initialized before k) (registers_of before k) (responses_since before k)) front r (rw met at h) in
     rw h (carries ∙ head_counts r.change front (beginning_of before k) (is_initialized before k) (registers_of before k) (responses_since before k))
 
 pub heads_count_responses : HeadsCountResponses

@@ -6,7 +6,7 @@ use nvt_config::Edit;
 use target_decision::Conversation;
 
 /// What an event ends: each cause that lies elsewhere than on the connection itself.
-#[derive(Clone, Copy, Debug, PartialEq, Eq)]
+#[derive(Clone, Copy)]
 pub enum Ending {
     Nothing,
     /// The connections on the port of this number, which is deleted.
