@@ -20,9 +20,9 @@ use Rattle.target_decision.specs.Session.{opened_on}
 use Rattle.target_core.specs.Moves.{Moves, Stands, StandsIn, connection_after, connection_moved, ShowsAfter}
 use Rattle.target_core.specs.Target.{TargetState, meets, IsNewTarget, world_at}
 use Rattle.target_decision.specs.declared.session.Conversation.{Conversation}
-use Rattle.target_decision.specs.Decision.{taken_of}
+use Rattle.target_decision.specs.Decision.{consumed_of}
 use Rattle.target_decision.specs.World.{Pages, World}
-use Rattle.target_history.specs.Event.{Event, edited, port_in, front_in, gives_up, opened, opens, takes, took, given_up}
+use Rattle.target_history.specs.Event.{Event, edited, port_in, front_in, gives_up, opened, opens, steps, stepped, given_up}
 use Rattle.target_history.specs.Happening.{Happening, conversation_after, conversation_moved, sends}
 use Rattle.target_history.specs.History.{config_after, config_of, generation_after, generation_of, happened, last_front, pdus_of, sent, with_pdu, world_of}
 use Rattle.target_history.proofs.Steps.{conversation_step}
@@ -50,14 +50,14 @@ counts_step : (event : Event) (old new : Shown) (c : Configuration) (n : ℕ) (h
 counts_step (edited edit) old new c n host shows records counts =
     shows.counts host ∙ rw (shows.records host, records, counts) (sym (count_goes_on c (config_after (edited edit) c) host n))
 counts_step (opened port k) old new c n host shows records counts = rw shows counts
-counts_step (took k found) old new c n host shows records counts = rw shows counts
+counts_step (stepped k found) old new c n host shows records counts = rw shows counts
 counts_step (given_up k) old new c n host shows records counts = rw shows counts
 
 records_step : (event : Event) (old new : Shown) (c : Configuration) (host : List ℕ) → ShowsAfter event (config_after event c) old new
     → records_in old host ≡ records_of c host → records_in new host ≡ records_of (config_after event c) host
 records_step (edited edit) old new c host shows records = shows.records host
 records_step (opened port k) old new c host shows records = rw shows records
-records_step (took k found) old new c host shows records = rw shows records
+records_step (stepped k found) old new c host shows records = rw shows records
 records_step (given_up k) old new c host shows records = rw shows records
 
 -- ---- connections
@@ -91,39 +91,39 @@ output_step x before k o t met agrees = by (opens x.event k) (gives_up x.event k
 
 -- ---- streams
 
--- what is taken is the next PDU of the stream, or a fault that stays
-took_step : (held received : List ℕ) (pdus : List Pdu) (last found : Front) → StandsIn found (Some held)
+-- what a step finds is the next PDU of the stream, or a fault that stays
+consumed_step : (held received : List ℕ) (pdus : List Pdu) (last found : Front) → StandsIn found (Some held)
     → StreamAgrees (Some held) pdus last received
-    → StreamAgrees (Some (drop (taken_of found) held)) (with_pdu found pdus) found received
-took_step held received pdus last incomplete stands agrees = let complete = stands.1 in cc
-took_step held received pdus last (whole pdu) stands agrees =
+    → StreamAgrees (Some (drop (consumed_of found) held)) (with_pdu found pdus) found received
+consumed_step held received pdus last incomplete stands agrees = let complete = stands.1 in cc
+consumed_step held received pdus last (whole pdu) stands agrees =
     (begins_with_taken Target received pdus held pdu agrees.0 stands.0, tt)
-took_step held received pdus last (faulty fault head) stands agrees = (agrees.0, stands.0)
+consumed_step held received pdus last (faulty fault head) stands agrees = (agrees.0, stands.0)
 
 abbrev stands_at : Bool → Front → Option (List ℕ) → Type 0
 stands_at true found o = StandsIn found o
 stands_at false found o = Unit {0}
 
 stream_by : (event : Event) (k : ℕ) (o : Option (List ℕ)) (pdus : List Pdu) (last : Front) (received : List ℕ)
-    → (opening giving taking : Bool) → stands_at taking (front_in event) o → StreamAgrees o pdus last received
-    → StreamAgrees (if opening then Some [] else if giving then None else option_map (λ held. if taking then drop (taken_of (front_in event)) held else held) o)
-    (if opening || giving then [] else if taking then with_pdu (front_in event) pdus else pdus)
-    (if opening || giving then incomplete else if taking then front_in event else last)
+    → (opening giving stepping : Bool) → stands_at stepping (front_in event) o → StreamAgrees o pdus last received
+    → StreamAgrees (if opening then Some [] else if giving then None else option_map (λ held. if stepping then drop (consumed_of (front_in event)) held else held) o)
+    (if opening || giving then [] else if stepping then with_pdu (front_in event) pdus else pdus)
+    (if opening || giving then incomplete else if stepping then front_in event else last)
     (if opening || giving then [] else received)
-stream_by event k o pdus last received true giving taking stands agrees = (begins_with_none Target [], tt)
-stream_by event k o pdus last received false true taking stands agrees = refl
+stream_by event k o pdus last received true giving stepping stands agrees = (begins_with_none Target [], tt)
+stream_by event k o pdus last received false true stepping stands agrees = refl
 stream_by event k None pdus last received false false true stands agrees = agrees
 stream_by event k None pdus last received false false false stands agrees = agrees
 stream_by event k (Some held) pdus last received false false true stands agrees =
-    took_step held received pdus last (front_in event) stands agrees
+    consumed_step held received pdus last (front_in event) stands agrees
 stream_by event k (Some held) pdus last received false false false stands agrees = agrees
 
 -- what stands in the stream of a step is what stands in that of its number
-stands_here : (event : Event) (t : TargetState) (k : ℕ) → Stands event t → stands_at (takes event k) (front_in event) (place t.streams k)
+stands_here : (event : Event) (t : TargetState) (k : ℕ) → Stands event t → stands_at (steps event k) (front_in event) (place t.streams k)
 stands_here (edited edit) t k stands = tt
 stands_here (opened port n) t k stands = tt
 stands_here (given_up n) t k stands = tt
-stands_here (took n found) t k stands = by (k == n) refl where
+stands_here (stepped n found) t k stands = by (k == n) refl where
   by : (same : Bool) → (k == n) ≡ same → stands_at same found (place t.streams k)
   by true is = rw (eqb-true k n is) stands
   by false is = tt
@@ -150,7 +150,7 @@ moves_agree event old new moves = record {
             ∙ sym (conversation_step x before k refl);
         stream = λ k. rw (moves.stream k)
             (stream_by event k (place old.streams k) (pdus_of before k) (last_front before k) (received k) (opens event k) (gives_up event k)
-            (takes event k) (stands_here event old k moves.stands) (agrees.stream k));
+            (steps event k) (stands_here event old k moves.stands) (agrees.stream k));
         output = λ k. rw (moves.connection k, met) (output_step x before k (place old.connections k) (taken k) (sym (agrees.conversation k)) (agrees.output k));
       };
 }

@@ -24,7 +24,7 @@ use Rattle.target_core.specs.Target.{IsTarget, ReceivesAt, TakenAt, TargetState,
 use Rattle.target_decision.specs.declared.session.Conversation.{Conversation}
 use Rattle.target_decision.specs.declared.session.Session.TheVariants as session
 use Rattle.target_decision.specs.Session.{is_ended}
-use Rattle.target_history.specs.Event.{edited, given_up, opened, took}
+use Rattle.target_history.specs.Event.{edited, given_up, opened, stepped}
 use Rattle.target_history.specs.Happening.{Happening}
 use Rattle.target_history.specs.History.{Beginning, beginning_of, conversation_of, happened, has_ended, is_initialized, is_known, last_front, pdus_of, port_of, registers_of, responses_since, sent, session_of, session_with}
 use Rattle.target_core.proofs.Agreements.{moves_agree, same_agrees}
@@ -46,8 +46,8 @@ open_keeps old new port (Err fault) opens err = same_agrees old new err
 step_keeps_by : (old new : TargetState) (k : ℕ) (held : List ℕ) (c : ConnectionState) (s : Stepped) → place old.streams k ≡ Some held
     → StepsBy k held c s old new → AgreesByStep k s old new
 step_keeps_by old new k held c Idle known h = same_agrees old new h.1
-step_keeps_by old new k held c One known h = rw known (moves_agree (took k (front Target held)) old new h.1)
-step_keeps_by old new k held c Ended known h = rw known (moves_agree (took k (front Target held)) old new h.1)
+step_keeps_by old new k held c One known h = rw known (moves_agree (stepped k (front Target held)) old new h.1)
+step_keeps_by old new k held c Ended known h = rw known (moves_agree (stepped k (front Target held)) old new h.1)
 
 step_keeps_at : (old new : TargetState) (k : ℕ) (s : Option (List ℕ)) (o : Option ConnectionState) (result : Result Stepped StepFault)
     → place old.streams k ≡ s → StepsAt k s o old result new → StepAgrees k old result new

@@ -6,7 +6,7 @@ use Rattle.nvt_fields.specs.declared.pdu_type.PduType.TheVariants.{IcReq, IcResp
 use Rattle.pdu_cut.specs.declared.side.Side.{Side}
 use Rattle.pdu_cut.specs.CommonHeader.{header_of, layout_of, type_or_fault}
 use Rattle.pdu_cut.specs.Front.{Front, incomplete, whole, front, front_by}
-use Rattle.target_decision.specs.Decision.{head_of, taken_of}
+use Rattle.target_decision.specs.Decision.{head_of, consumed_of}
 use Rattle.std.proofs.lemmas.List.{length-take}
 
 header_small : (kind : PduType) → (layout_of kind).header_len ≤ 128
@@ -38,14 +38,14 @@ head_here side held = by (nat_lt (length held) 8) (type_or_fault side (header_of
   by false (Err fault) = let taken = length-take 8 held in omega (arith, taken)
   by false (Ok kind) = whole_by kind (nat_lt (length held) (header_of held).plen)
 
-within_here : (side : Side) (held : List ℕ) → taken_of (front side held) ≤ length held
+within_here : (side : Side) (held : List ℕ) → consumed_of (front side held) ≤ length held
 within_here side held = by (nat_lt (length held) 8) (type_or_fault side (header_of held)) where
   whole_by : (kind : PduType) (short : Bool)
-      → taken_of (if short then incomplete else whole (record { kind = kind; bytes = take (header_of held).plen held })) ≤ length held
+      → consumed_of (if short then incomplete else whole (record { kind = kind; bytes = take (header_of held).plen held })) ≤ length held
   whole_by kind true = omega arith
   whole_by kind false = let taken = length-take (header_of held).plen held in omega (arith, taken)
 
-  by : (short : Bool) (found : Result PduType _) → taken_of (if short then incomplete else front_by found held) ≤ length held
+  by : (short : Bool) (found : Result PduType _) → consumed_of (if short then incomplete else front_by found held) ≤ length held
   by true found = omega arith
   by false (Err fault) = omega arith
   by false (Ok kind) = whole_by kind (nat_lt (length held) (header_of held).plen)
@@ -53,5 +53,5 @@ within_here side held = by (nat_lt (length held) 8) (type_or_fault side (header_
 pub head_bound : (side : Side) (held : List ℕ) (found : Front) → found ≡ front side held → length (head_of found) ≤ 128
 head_bound side held found is = rw is (head_here side held)
 
-pub front_within : (side : Side) (held : List ℕ) (found : Front) → found ≡ front side held → taken_of found ≤ length held
+pub front_within : (side : Side) (held : List ℕ) (found : Front) → found ≡ front side held → consumed_of found ≤ length held
 front_within side held found is = rw is (within_here side held)

@@ -17,13 +17,13 @@ use Rattle.target_core.specs.Moves.{Moves, connection_moved}
 use Rattle.target_core.specs.Target.{TargetState, is_incomplete, meets, pages_at, world_at}
 use Rattle.target_decision.specs.declared.decision.Decision.{Decision}
 use Rattle.target_decision.specs.declared.session.Session.TheVariants.{Ended}
-use Rattle.target_decision.specs.Decision.{decide, is_end, taken_of}
+use Rattle.target_decision.specs.Decision.{decide, is_end, consumed_of}
 use Rattle.target_decision.specs.Session.{is_ended}
 use Rattle.target_decision.specs.World.{World}
 use Rattle.target_history.specs.declared.ending.Ending.{Ending}
 use Rattle.target_history.specs.declared.ending.Ending.TheVariants as ending
 use Rattle.target_history.specs.Ending.{ending_edited, ending_in, ends_by}
-use Rattle.target_history.specs.Event.{edited, front_in, opened, took, given_up}
+use Rattle.target_history.specs.Event.{edited, front_in, opened, stepped, given_up}
 use Rattle.target_history.specs.Happening.{Happening, decided, is_end_decided, sends_on, session_decided, terminates}
 
 -- what an event makes of a connection, by what is decided on it and what ends elsewhere
@@ -148,19 +148,19 @@ end_moves old new k config shown streams connections = record {
 -- what is decided on the connection that a step is of, and on the others
 decides_here : (old : TargetState) (k : ℕ) (found : Front) (c : ConnectionState) (d : Decision) (j : ℕ) → (j == k) ≡ true
     → place old.connections j ≡ Some c → is_ended c.conversation.session ≡ false → d ≡ decide (world_at old) c.conversation found
-    → decided (meets old (took k found)) j ≡ Some d
+    → decided (meets old (stepped k found)) j ≡ Some d
 decides_here old k found c d j same there lasts decides = rw (same, there, lasts, decides) refl
 
-decides_none : (old : TargetState) (k : ℕ) (found : Front) (j : ℕ) → (j == k) ≡ false → decided (meets old (took k found)) j ≡ None
+decides_none : (old : TargetState) (k : ℕ) (found : Front) (j : ℕ) → (j == k) ≡ false → decided (meets old (stepped k found)) j ≡ None
 decides_none old k found j same = rw same refl
 
 step_at : (old : TargetState) (k : ℕ) (found : Front) (c : ConnectionState) (d : Decision) (j : ℕ)
     → place old.connections k ≡ Some c → is_ended c.conversation.session ≡ false → d ≡ decide (world_at old) c.conversation found
     → (same : Bool) → (j == k) ≡ same
     → (if same then Some (acted (pages_at old) d found c) else place old.connections j)
-    ≡ option_map (connection_moved (meets old (took k found)) j) (place old.connections j)
+    ≡ option_map (connection_moved (meets old (stepped k found)) j) (place old.connections j)
 step_at old k found c d j known lasts decides true same =
-    let x = meets old (took k found) in
+    let x = meets old (stepped k found) in
     let there : place old.connections j ≡ Some c = ap (place old.connections) (eqb-true j k same) ∙ known in
     let met : x.world.conversation j ≡ Some c.conversation = ap (option_map (λ (a : ConnectionState). a.conversation)) there in
     let moves : connection_moved x j c ≡ acted (pages_at old) d found c =
@@ -168,10 +168,10 @@ step_at old k found c d j known lasts decides true same =
     ∙ ap (λ (b : Option Decision). turned x.world b found ending.Nothing c) (decides_here old k found c d j same there lasts decides) in
     ap Some (sym moves) ∙ ap (option_map (connection_moved x j)) (sym there)
 step_at old k found c d j known lasts decides false same =
-    same_at (place old.connections j) ∙ silent_at (meets old (took k found)) j (place old.connections j) refl (decides_none old k found j same)
+    same_at (place old.connections j) ∙ silent_at (meets old (stepped k found)) j (place old.connections j) refl (decides_none old k found j same)
 
 stream_at : (found : Front) (held : List ℕ) (o : Option (List ℕ)) (same : Bool) → (same ≡ true → o ≡ Some held)
-    → (if same then Some (drop (taken_of found) held) else o) ≡ option_map (λ held. if same then drop (taken_of found) held else held) o
+    → (if same then Some (drop (consumed_of found) held) else o) ≡ option_map (λ held. if same then drop (consumed_of found) held else held) o
 stream_at found held o true here = rw (here refl) refl
 stream_at found held o false here = stream_stays o
 
@@ -181,8 +181,8 @@ pub step_moves : (old new : TargetState) (k : ℕ) (held : List ℕ) (c : Connec
     → d ≡ decide (world_at old) c.conversation (front Target held)
     → new.config ≡ old.config → new.shown ≡ old.shown
     → new.connections ≡ with_value old.connections k (acted (pages_at old) d (front Target held) c)
-    → new.streams ≡ with_value old.streams k (drop (taken_of (front Target held)) held)
-    → Moves (took k (front Target held)) old new
+    → new.streams ≡ with_value old.streams k (drop (consumed_of (front Target held)) held)
+    → Moves (stepped k (front Target held)) old new
 step_moves old new k held c d stream known lasts complete decides config shown connections streams =
     let found = front Target held in
     let within : k < length old.connections = place_within old.connections k c known in
@@ -193,7 +193,7 @@ step_moves old new k held c d stream known lasts complete decides config shown c
       shown = shown;
       connection = λ j. rw (connections, place-with_value old.connections k (acted (pages_at old) d found c) j within)
           (step_at old k found c d j known lasts decides (j == k) refl);
-      stream = λ j. rw (streams, place-with_value old.streams k (drop (taken_of found) held) j stream_within)
+      stream = λ j. rw (streams, place-with_value old.streams k (drop (consumed_of found) held) j stream_within)
           (stream_at found held (place old.streams j) (j == k) (λ is. ap (place old.streams) (eqb-true j k is) ∙ stream));
     }
 
@@ -206,6 +206,6 @@ same_here k = T_true (k == k) (eqb_refl k) where
 -- .. and whether it ends the connection
 pub step_ends : (old : TargetState) (k : ℕ) (found : Front) (c : ConnectionState) (d : Decision)
     → place old.connections k ≡ Some c → is_ended c.conversation.session ≡ false → d ≡ decide (world_at old) c.conversation found
-    → terminates (meets old (took k found)) k ≡ is_end d
+    → terminates (meets old (stepped k found)) k ≡ is_end d
 step_ends old k found c d known lasts decides =
     ap is_end_decided (decides_here old k found c d k (same_here k) known lasts decides)

@@ -8,9 +8,9 @@ use Rattle.target_core.specs.Connection.{ConnectionState, acted}
 use Rattle.target_core.specs.Moves.{ActedAt, Moves, StepsBy, stepped_by}
 use Rattle.target_core.specs.Target.{IsTarget, TargetState, is_idle, is_incomplete, meets, pages_at, world_at}
 use Rattle.target_decision.specs.declared.decision.Decision.{Decision}
-use Rattle.target_decision.specs.Decision.{decide, is_end, taken_of}
+use Rattle.target_decision.specs.Decision.{decide, is_end, consumed_of}
 use Rattle.target_decision.specs.Session.{is_ended}
-use Rattle.target_history.specs.Event.{took}
+use Rattle.target_history.specs.Event.{stepped}
 use Rattle.target_history.specs.Happening.{terminates}
 use Rattle.target_core.proofs.Moving.{step_ends, step_moves}
 use Rattle.target_core.proofs.Places.{connection_is_target, stream_is_target}
@@ -31,7 +31,7 @@ step_is_target t k held after c turned is stream known =
     stream_is_target mid k held after (connection_is_target t k c turned is known) stream
 
 steps_by : (old new : TargetState) (k : ℕ) (held : List ℕ) (c : ConnectionState) (ended : Bool) → is_idle held c ≡ false
-    → Moves (took k (front Target held)) old new → terminates (meets old (took k (front Target held))) k ≡ ended
+    → Moves (stepped k (front Target held)) old new → terminates (meets old (stepped k (front Target held))) k ≡ ended
     → StepsBy k held c (stepped_by ended) old new
 steps_by old new k held c true idle moves ends = (idle, moves, ends)
 steps_by old new k held c false idle moves ends = (idle, moves, ends)
@@ -42,7 +42,7 @@ pub step_done : (old new : TargetState) (k : ℕ) (held : List ℕ) (c : Connect
     → d ≡ decide (world_at old) c.conversation found
     → new.config ≡ old.config → new.shown ≡ old.shown
     → new.connections ≡ with_value old.connections k (acted (pages_at old) d found c)
-    → new.streams ≡ with_value old.streams k (drop (taken_of found) held)
+    → new.streams ≡ with_value old.streams k (drop (consumed_of found) held)
     → s ≡ stepped_by (is_end d) → StepsBy k held c s old new
 step_done old new k held c found d s stream known lasts stands complete decides config shown connections streams steps =
     let here : is_incomplete (front Target held) ≡ false = rw stands at complete in

@@ -17,17 +17,17 @@ use Rattle.target_core.specs.declared.fault.Stepped.{Stepped}
 use Rattle.target_core.specs.declared.fault.Stepped.TheVariants.{Idle, One, Ended}
 use Rattle.target_core.specs.Connection.{ConnectionState}
 use Rattle.target_core.specs.Target.{TargetState, conversation_at}
-use Rattle.target_history.specs.Event.{Event, edited, gives_up, opened, opens, took, given_up}
+use Rattle.target_history.specs.Event.{Event, edited, gives_up, opened, opens, stepped, given_up}
 use Rattle.target_history.specs.Happening.{Happening}
 use Rattle.target_history.specs.History.{config_of, conversation_of, generation_of, happened, has_ended, is_known, last_front, pdus_of, sent}
 
--- what was taken last, where it is a fault, stands at the front of the bytes that are held
+-- what was found last, where it is a fault, stands at the front of the bytes that are held
 abbrev pub StandsAt : Front → List ℕ → Type 0
 StandsAt (whole pdu) held = Unit {0}
 StandsAt incomplete held = Unit {0}
 StandsAt (faulty fault head) held = front Target held ≡ faulty fault head
 
--- what a connection received is the PDUs taken, in their order, and then what it holds; a connection that
+-- what a connection received is the PDUs consumed, in their order, and then what it holds; a connection that
 -- is not known has received nothing
 abbrev pub StreamAgrees : Option (List ℕ) → List Pdu → Front → List ℕ → Type 0
 StreamAgrees None pdus last received = received ≡ []
@@ -92,8 +92,8 @@ front_of (Some held) = front Target held
 
 abbrev pub AgreesByStep : ℕ → Stepped → TargetState → TargetState → Type 0
 AgreesByStep k Idle old new = AgreesStill old new
-AgreesByStep k One old new = AgreesAfter (took k (front_of (place old.streams k))) old new
-AgreesByStep k Ended old new = AgreesAfter (took k (front_of (place old.streams k))) old new
+AgreesByStep k One old new = AgreesAfter (stepped k (front_of (place old.streams k))) old new
+AgreesByStep k Ended old new = AgreesAfter (stepped k (front_of (place old.streams k))) old new
 
 abbrev pub EditAgrees : Edit → TargetState → Result (Unit {0}) EditFault → TargetState → Type 0
 EditAgrees edit old result new = MatchResult result (λ done. AgreesAfter (edited edit) old new) (λ fault. AgreesStill old new)

@@ -12,8 +12,8 @@ use Rattle.target_core.specs.declared.fault.Stepped.{Stepped}
 use Rattle.target_core.specs.declared.fault.Stepped.TheVariants.{Idle, One, Ended}
 use Rattle.target_core.specs.Connection.{ConnectionState, fresh_on}
 use Rattle.target_core.specs.Target.{TargetState, is_idle, is_incomplete, meets}
-use Rattle.target_decision.specs.Decision.{taken_of}
-use Rattle.target_history.specs.Event.{Event, edited, front_in, gives_up, opened, opens, port_in, takes, took, given_up}
+use Rattle.target_decision.specs.Decision.{consumed_of}
+use Rattle.target_history.specs.Event.{Event, edited, front_in, gives_up, opened, opens, port_in, steps, stepped, given_up}
 use Rattle.target_history.specs.Happening.{Happening, conversation_moved, sends, terminates}
 use Rattle.target_history.specs.History.{config_after}
 
@@ -21,7 +21,7 @@ use Rattle.target_history.specs.History.{config_after}
 abbrev pub ShowsAfter : Event → Configuration → Shown → Shown → Type 0
 ShowsAfter (edited edit) c old new = ShowsNext c old new
 ShowsAfter (opened port n) c old new = new ≡ old
-ShowsAfter (took n found) c old new = new ≡ old
+ShowsAfter (stepped n found) c old new = new ≡ old
 ShowsAfter (given_up n) c old new = new ≡ old
 
 abbrev pub connection_moved : Happening → ℕ → ConnectionState → ConnectionState
@@ -33,20 +33,20 @@ connection_after x k o =
     if gives_up x.event k then None else option_map (connection_moved x k) o
 
 abbrev pub stream_moved : Event → ℕ → List ℕ → List ℕ
-stream_moved event k held = if takes event k then drop (taken_of (front_in event)) held else held
+stream_moved event k held = if steps event k then drop (consumed_of (front_in event)) held else held
 
 abbrev pub stream_after : Event → ℕ → Option (List ℕ) → Option (List ℕ)
 stream_after event k o =
     if opens event k then Some [] else
     if gives_up event k then None else option_map (stream_moved event k) o
 
--- a step takes what stands at the front of its stream
+-- a step consumes what stands at the front of its stream
 abbrev pub StandsIn : Front → Option (List ℕ) → Type 0
 StandsIn found None = ⊥
 StandsIn found (Some held) = (front Target held ≡ found) × (is_incomplete found ≡ false)
 
 abbrev pub Stands : Event → TargetState → Type 0
-Stands (took n found) t = StandsIn found (place t.streams n)
+Stands (stepped n found) t = StandsIn found (place t.streams n)
 Stands (edited edit) t = Unit {0}
 Stands (opened port n) t = Unit {0}
 Stands (given_up n) t = Unit {0}
@@ -77,15 +77,15 @@ stepped_by ended = if ended then Ended else One
 abbrev pub StepsBy : ℕ → List ℕ → ConnectionState → Stepped → TargetState → TargetState → Type 0
 StepsBy k held c Idle old new = (is_idle held c ≡ true) × (new ≡ old)
 StepsBy k held c One old new =
-    (is_idle held c ≡ false) × Moves (took k (front Target held)) old new
-    × (terminates (meets old (took k (front Target held))) k ≡ false)
+    (is_idle held c ≡ false) × Moves (stepped k (front Target held)) old new
+    × (terminates (meets old (stepped k (front Target held))) k ≡ false)
 StepsBy k held c Ended old new =
-    (is_idle held c ≡ false) × Moves (took k (front Target held)) old new
-    × (terminates (meets old (took k (front Target held))) k ≡ true)
+    (is_idle held c ≡ false) × Moves (stepped k (front Target held)) old new
+    × (terminates (meets old (stepped k (front Target held))) k ≡ true)
 
 -- a step of connection k: NoConn where none is known, and else its own, which memory alone refuses
 abbrev pub StepsAt : ℕ → Option (List ℕ) → Option ConnectionState → TargetState → Result Stepped StepFault → TargetState → Type 0
 StepsAt k None o old result new = (result ≡ Err NoConn) × (new ≡ old)
 StepsAt k (Some held) None old result new = (result ≡ Err NoConn) × (new ≡ old)
 StepsAt k (Some held) (Some c) old result new =
-    MatchResult result (λ stepped. StepsBy k held c stepped old new) (λ fault. (fault ≡ Memory) × (new ≡ old))
+    MatchResult result (λ s. StepsBy k held c s old new) (λ fault. (fault ≡ Memory) × (new ≡ old))

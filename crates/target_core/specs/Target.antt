@@ -18,7 +18,7 @@ use Rattle.target_history.specs.Event.{Event}
 use Rattle.target_history.specs.Happening.{Happening}
 
 -- the configuration, what its discovery view shows, and of each connection that is known the bytes
--- received and not taken, and what else is known of it
+-- received and not consumed, and what else is known of it
 pub record TargetState : Type 0 where
   pub config : Configuration
   pub shown : Shown
@@ -42,6 +42,13 @@ pub record IsTarget (t : TargetState) : Type 0 where
 
 abbrev pub conversation_at : TargetState → ℕ → Option Conversation
 conversation_at t k = option_map (λ (c : ConnectionState). c.conversation) (place t.connections k)
+
+-- .. of a target with these pages and connections
+abbrev pub world_of : Pages → List (Option ConnectionState) → World
+world_of pages connections = record {
+  pages = pages;
+  conversation = λ k. option_map (λ (c : ConnectionState). c.conversation) (place connections k);
+}
 
 abbrev pub pages_at : TargetState → Pages
 pages_at t = record { discovery = page_in t.shown }

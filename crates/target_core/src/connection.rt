@@ -63,7 +63,8 @@ impl Connection {
     /// Takes the first `len` bytes of the output away.
     pub(crate) fn taken(&mut self, len: usize)
         requires { len ≤ length self.old.output }
-        ensures { self.new ≡ record { conversation = self.old.conversation; output = drop len self.old.output } }
+        ensures { self.new ≡ record {
+            conversation = self.old.conversation; output = drop len self.old.output } }
     {
         self.output.advance(len);
     }
@@ -77,7 +78,8 @@ impl Connection {
         front: &Cut<'_>,
     ) -> Result<(), AllocError>
         requires { length (head_of (front_shown front.now)) ≤ 128 }
-        ensures acted { OnOk result (self.new ≡ acted (pages_in pages.now) decision.now (front_shown front.now) self.old) }
+        ensures acted { let found = front_shown front.now in
+            OnOk result (self.new ≡ acted (pages_in pages.now) decision.now found self.old) }
         ensures err { OnErr result (self.new ≡ self.old) }
     {
         perform(

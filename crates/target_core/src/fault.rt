@@ -6,9 +6,9 @@ use thiserror::Error;
 pub enum Stepped {
     /// Nothing: no whole PDU and no fault is there, or the connection is ended.
     Idle,
-    /// One PDU was taken.
+    /// One PDU was consumed.
     One,
-    /// One PDU, or a fault in its place, was taken, and it ended the connection.
+    /// One PDU was consumed, or a fault found in its place, and it ended the connection.
     Ended,
 }
 

@@ -1,6 +1,6 @@
-//! The state machine of an NVMe over TCP target: bytes and edits come in by calls, and the PDUs that
-//! it owes go out by `output` and `taken`. Nothing in it waits, reads a clock or a socket. It serves
-//! discovery controllers on up to 64 connections, with edits between their PDUs.
+//! The state machine of an NVMe over TCP target: bytes and edits come in by calls, and the PDUs
+//! that it owes go out by `output` and `taken`. Nothing in it waits, reads a clock or a socket. It
+//! serves discovery controllers on up to 64 connections, with edits between their PDUs.
 //!
 //! A caller with a connection's bytes does this:
 //!

@@ -1,9 +1,9 @@
-//! The bytes that a host has sent on a connection and that no step has taken.
+//! The bytes that a host has sent on a connection and that no step has consumed.
 ghost use Rattle.std.specs.Prelude.{◌≡◌, ◌-◌, ◌≤◌, [], ◌++◌, IfOk, length, take, drop, min};
 ghost use Rattle.pdu_cut.specs.declared.side.Side.TheVariants as side;
 ghost use Rattle.pdu_cut.specs.Cut.{front_shown};
 ghost use Rattle.pdu_cut.specs.Front.{front};
-ghost use Rattle.target_decision.specs.Decision.{head_of, taken_of};
+ghost use Rattle.target_decision.specs.Decision.{head_of, consumed_of};
 
 use pdu_cut::{Cut, RxBuf, Side};
 use std::alloc::{AllocError, Global};
@@ -55,7 +55,7 @@ impl Stream {
     pub(crate) fn peek(&self) -> Cut<'_>
         ensures front { front_shown result ≡ front side.Target self.now }
         ensures head { length (head_of (front_shown result)) ≤ 128 }
-        ensures within { taken_of (front_shown result) ≤ length self.now }
+        ensures within { consumed_of (front_shown result) ≤ length self.now }
     {
         self.buffer.peek()
     }

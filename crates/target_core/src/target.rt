@@ -9,9 +9,9 @@ ghost use Rattle.target_core.specs.Agreement.{Agrees, EditAgrees, EndAgrees, End
 ghost use Rattle.pdu_cut.specs.Cut.{front_shown};
 ghost use Rattle.target_core.specs.Connection.{acted};
 ghost use Rattle.target_core.specs.Moves.{ActedAt, CanConsume, Moves, StepsAt, stepped_by};
-ghost use Rattle.target_decision.specs.Decision.{head_of, is_end};
+ghost use Rattle.target_decision.specs.Decision.{decide, head_of, is_end};
 ghost use Rattle.target_decision.specs.World.{pages_in};
-ghost use Rattle.target_core.specs.Target.{free_number, is_ended_at, is_incomplete, open_fault, output_at, room_at, without_connection, IsNewTarget, ReceivesAt, TakenAt};
+ghost use Rattle.target_core.specs.Target.{free_number, is_ended_at, is_incomplete, open_fault, output_at, room_at, without_connection, world_of, IsNewTarget, ReceivesAt, TakenAt};
 ghost use Rattle.target_history.specs.Event.{edited, given_up, opened};
 
 use crate::connection::Connection;
@@ -24,10 +24,11 @@ use nvt_config::{Config, Edit, EditFault, NewFault};
 use pdu_cut::Cut;
 use std::alloc::{AllocError, Global};
 use std::marker::Model;
-use target_decision::{CONNECTIONS_MAX, Converses, Decision, Pages, World, decide, taken_of};
+use target_decision::{CONNECTIONS_MAX, Converses, Decision, Pages, World, decide, consumed_of};
 use target_history::Ending;
 
-/// A target. It serves up to 64 connections, each by the least number that was free when it was opened.
+/// A target. It serves up to 64 connections, each by the least number that was free when it was
+/// opened.
 #[derive(Drop)]
 pub struct Target {
     alloc: Global,
@@ -42,9 +43,11 @@ impl Model for Target {
 
     ghost Value = { TargetState };
 
-    ghost view = { λ t. record { config = t.config; shown = t.view.shown; streams = t.streams; connections = t.connections } };
+    ghost view = { λ t. record {
+      config = t.config; shown = t.view.shown; streams = t.streams; connections = t.connections } };
 
-    ghost invariant = { λ t. IsTarget (record { config = t.config; shown = t.view.shown; streams = t.streams; connections = t.connections }) };
+    ghost invariant = { λ t. IsTarget (record {
+      config = t.config; shown = t.view.shown; streams = t.streams; connections = t.connections }) };
 }
 
 // What each call promises is in two parts: what becomes of the target's own state, exactly, and that
@@ -75,7 +78,8 @@ impl Target {
     pub fn edit(&mut self, edit: &Edit) -> Result<(), EditFault>
         ensures ok { OnOk result (accept self.old.config edit.now ≡ Ok self.new.config) }
         ensures moves { OnOk result (Moves (edited edit.now) self.old self.new) }
-        ensures accepted { OnOk (accept self.old.config edit.now) (IsOkUnless result EditFault.Memory) }
+        ensures accepted { OnOk (accept self.old.config edit.now)
+            (IsOkUnless result EditFault.Memory) }
         ensures refused { IfErr (accept self.old.config edit.now) (λ fault. result ≡ Err fault) }
         ensures err { OnErr result (self.new ≡ self.old) }
         ensures agrees { EditAgrees edit.now self.old result self.new }
@@ -86,8 +90,10 @@ impl Target {
     /// Opens a connection on a port, and returns its number, the least that is free. After a refusal,
     /// `Memory` included, the target is as it was.
     pub fn open(&mut self, port: u16) -> Result<usize, OpenFault>
-        ensures refused { MatchOption (open_fault self.old port) (IsOkUnless result OpenFault.Memory) (λ fault. result ≡ Err fault) }
-        ensures opened { IfOk result (λ k. (free_number self.old ≡ Some k) × Moves (opened port k) self.old self.new) }
+        ensures refused { MatchOption (open_fault self.old port)
+            (IsOkUnless result OpenFault.Memory) (λ fault. result ≡ Err fault) }
+        ensures opened { IfOk result (λ k.
+            (free_number self.old ≡ Some k) × Moves (opened port k) self.old self.new) }
         ensures err { OnErr result (self.new ≡ self.old) }
         ensures agrees { OpenAgrees port self.old result self.new }
     {
@@ -105,19 +111,21 @@ impl Target {
     /// Takes as many of the piece's first bytes as there is room for, and returns their number. A
     /// number that is not known is refused, and changes nothing.
     pub fn receive(&mut self, k: usize, piece: &[u8]) -> Result<usize, NoConn>
-        ensures receives { ReceivesAt k (place self.old.streams k) (place self.old.connections k) self.old piece.now result self.new }
+        ensures receives { ReceivesAt k (place self.old.streams k) (place self.old.connections k)
+            self.old piece.now result self.new }
         ensures agrees { ReceiveAgrees k piece.now self.old result self.new }
     {
-        self.take_in(k, piece)
+        self.bring_in(k, piece)
     }
 
     /// Takes one PDU of the connection's stream, or the fault in its place. After a refusal, `Memory`
     /// included, and after Idle, the target is as it was.
     pub fn step(&mut self, k: usize) -> Result<Stepped, StepFault>
-        ensures steps { StepsAt k (place self.old.streams k) (place self.old.connections k) self.old result self.new }
+        ensures steps { StepsAt k (place self.old.streams k) (place self.old.connections k)
+            self.old result self.new }
         ensures agrees { StepAgrees k self.old result self.new }
     {
-        self.take_one(k)
+        self.step_on(k)
     }
 
     /// What the connection has to send and was not taken; nothing where it is not known.
@@ -137,11 +145,11 @@ impl Target {
         ensures taken { TakenAt k (place self.old.connections k) self.old len self.new }
         ensures agrees { TakenAgrees k len self.old self.new }
     {
-        self.take_out(k, len);
+        self.hand_out(k, len);
     }
 
-    /// Whether the connection is known and ended: nothing more is taken of its stream or added to its
-    /// output.
+    /// Whether the connection is known and ended: nothing more of its stream is consumed or added to
+    /// its output.
     pub fn ended(&self, k: usize) -> bool
         ensures value { result ≡ is_ended_at (place self.now.connections k) }
         ensures agrees { EndedAgrees k self.now result }
@@ -154,7 +162,8 @@ impl Target {
     #[tactic(auto, using(crate::proofs::Calls::end_keeps))]
     pub fn end(&mut self, k: usize)
         ensures without { self.new ≡ without_connection self.old k }
-        ensures moves { MatchOption (place self.old.connections k) (self.new ≡ self.old) (λ c. Moves (given_up k) self.old self.new) }
+        ensures moves { MatchOption (place self.old.connections k) (self.new ≡ self.old)
+            (λ c. Moves (given_up k) self.old self.new) }
         ensures agrees { EndAgrees k self.old self.new }
     {
         self.give_up(k);
@@ -175,7 +184,8 @@ impl Target {
     fn make_edit(&mut self, edit: &Edit) -> Result<(), EditFault>
         ensures ok { OnOk result (accept self.old.config edit.now ≡ Ok self.new.config) }
         ensures moves { OnOk result (Moves (edited edit.now) self.old self.new) }
-        ensures accepted { OnOk (accept self.old.config edit.now) (IsOkUnless result EditFault.Memory) }
+        ensures accepted { OnOk (accept self.old.config edit.now)
+            (IsOkUnless result EditFault.Memory) }
         ensures refused { IfErr (accept self.old.config edit.now) (λ fault. result ≡ Err fault) }
         ensures err { OnErr result (self.new ≡ self.old) }
     {
@@ -199,8 +209,10 @@ impl Target {
 
     #[tactic(auto, using(crate::proofs::Places::stream_free, crate::proofs::Places::open_is_target, number_table::proofs::Tables::laws, crate::proofs::Moving::open_moves))]
     fn open_on(&mut self, port: u16) -> Result<usize, OpenFault>
-        ensures refused { MatchOption (open_fault self.old port) (IsOkUnless result OpenFault.Memory) (λ fault. result ≡ Err fault) }
-        ensures opened { IfOk result (λ k. (free_number self.old ≡ Some k) × Moves (opened port k) self.old self.new) }
+        ensures refused { MatchOption (open_fault self.old port)
+            (IsOkUnless result OpenFault.Memory) (λ fault. result ≡ Err fault) }
+        ensures opened { IfOk result (λ k.
+            (free_number self.old ≡ Some k) × Moves (opened port k) self.old self.new) }
         ensures err { OnErr result (self.new ≡ self.old) }
     {
         if self.config.port(port).is_none() {
@@ -220,8 +232,9 @@ impl Target {
     }
 
     #[tactic(auto, using(crate::proofs::Places::stream_is_target))]
-    fn take_in(&mut self, k: usize, piece: &[u8]) -> Result<usize, NoConn>
-        ensures { ReceivesAt k (place self.old.streams k) (place self.old.connections k) self.old piece.now result self.new }
+    fn bring_in(&mut self, k: usize, piece: &[u8]) -> Result<usize, NoConn>
+        ensures { ReceivesAt k (place self.old.streams k) (place self.old.connections k)
+            self.old piece.now result self.new }
     {
         let Some(connection) = self.connections.get(k) else {
             return Err(NoConn);
@@ -235,8 +248,9 @@ impl Target {
         Ok(stream.receive(piece))
     }
 
-    fn take_one(&mut self, k: usize) -> Result<Stepped, StepFault>
-        ensures { StepsAt k (place self.old.streams k) (place self.old.connections k) self.old result self.new }
+    fn step_on(&mut self, k: usize) -> Result<Stepped, StepFault>
+        ensures { StepsAt k (place self.old.streams k) (place self.old.connections k)
+            self.old result self.new }
     {
         let Some(stream) = self.streams.get(k) else {
             return Err(StepFault::NoConn);
@@ -254,21 +268,10 @@ impl Target {
         let pages = Pages {
             discovery: &self.view,
         };
-        let world = World {
-            pages: &pages,
-            connections: &self.connections,
-        };
-        let decision = decide(&world, connection.conversation(), &front);
-        match act(
-            &mut self.connections,
-            k,
-            self.alloc,
-            &pages,
-            &decision,
-            &front,
-        ) {
+        let decision = decide_on(&pages, &self.connections, connection, &front);
+        let len = consumed_of(&front);
+        match act(&mut self.connections, k, self.alloc, &pages, &decision, &front) {
             Ok(()) => {
-                let len = taken_of(&front);
                 consume(&mut self.streams, k, len);
                 Ok(stepped(&decision))
             }
@@ -277,7 +280,7 @@ impl Target {
     }
 
     #[tactic(auto, using(crate::proofs::Places::connection_is_target))]
-    fn take_out(&mut self, k: usize, len: usize)
+    fn hand_out(&mut self, k: usize, len: usize)
         requires { len ≤ length (output_at (place self.old.connections k)) }
         ensures { TakenAt k (place self.old.connections k) self.old len self.new }
     {
@@ -289,7 +292,8 @@ impl Target {
     #[tactic(auto, using(crate::proofs::Places::end_is_target, crate::proofs::Calls::gives_up))]
     fn give_up(&mut self, k: usize)
         ensures without { self.new ≡ without_connection self.old k }
-        ensures moves { MatchOption (place self.old.connections k) (self.new ≡ self.old) (λ c. Moves (given_up k) self.old self.new) }
+        ensures moves { MatchOption (place self.old.connections k) (self.new ≡ self.old)
+            (λ c. Moves (given_up k) self.old self.new) }
     {
         drop(self.streams.remove(k));
         drop(self.connections.remove(k));
@@ -311,6 +315,20 @@ fn is_incomplete(front: &Cut<'_>) -> bool
     matches!(front, Cut::More)
 }
 
+// What is owed to this front of a connection's stream, in the world of these pages and connections.
+fn decide_on(
+    pages: &Pages<'_>,
+    connections: &NumberTable<Connection>,
+    connection: &Connection,
+    front: &Cut<'_>,
+) -> Decision
+    ensures { let w = world_of (pages_in pages.now) connections.now in
+        result ≡ decide w connection.now.conversation (front_shown front.now) }
+{
+    let world = World { pages, connections };
+    decide(&world, connection.conversation(), front)
+}
+
 // Does what was decided to its own connection, where that is known.
 fn act(
     connections: &mut NumberTable<Connection>,
@@ -321,7 +339,8 @@ fn act(
     front: &Cut<'_>,
 ) -> Result<(), AllocError>
     requires { length (head_of (front_shown front.now)) ≤ 128 }
-    ensures acted { OnOk result (ActedAt k (acted (pages_in pages.now) decision.now (front_shown front.now)) (place connections.old k) connections.old connections.new) }
+    ensures acted { let f = acted (pages_in pages.now) decision.now (front_shown front.now) in
+        OnOk result (ActedAt k f (place connections.old k) connections.old connections.new) }
     ensures err { OnErr result (connections.new ≡ connections.old) }
 {
     match connections.get_mut(k) {

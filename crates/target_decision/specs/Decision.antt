@@ -120,7 +120,7 @@ head_of (faulty fault head) = head
 abbrev pub sent_by : Pages → Session → Decision → Front → List ℕ
 sent_by pages session d front = wire_of d (head_of front) (data_of pages session d)
 
--- ---- what else a step takes of the front
+-- ---- what else a step does with the front
 
 abbrev pub is_command : PduType → Bool
 is_command CapsuleCmd = true
@@ -132,8 +132,8 @@ host_in (whole pdu) = if is_command pdu.kind then host_named (entry_of pdu) (dat
 host_in incomplete = []
 host_in (faulty fault head) = []
 
--- how many bytes a step takes: the PDU at the front
-abbrev pub taken_of : Front → ℕ
-taken_of incomplete = 0
-taken_of (whole pdu) = length pdu.bytes
-taken_of (faulty fault head) = 0
+-- how many bytes a step consumes: the PDU at the front
+abbrev pub consumed_of : Front → ℕ
+consumed_of incomplete = 0
+consumed_of (whole pdu) = length pdu.bytes
+consumed_of (faulty fault head) = 0

@@ -14,7 +14,7 @@ abbrev pub is_normal : ShutdownStatus → Bool
 is_normal Normal = true
 is_normal Complete = false
 
--- whether the controller takes admin commands: enabled, and not shut down
+-- whether the controller serves admin commands: enabled, and not shut down
 abbrev pub is_ready : Registers → Bool
 is_ready r = r.ready && is_normal r.shutdown
 

@@ -17,7 +17,7 @@ use Rattle.target_decision.specs.Queue.{new_queue, responded}
 abbrev pub opened_on : ℕ → Conversation
 opened_on port = record { port = port; session = Opened }
 
--- whether it is ended: nothing more is taken or sent
+-- whether it is ended: nothing more is consumed or sent
 abbrev pub is_ended : Session → Bool
 is_ended Opened = false
 is_ended Initialized = false
@@ -38,7 +38,7 @@ has_controller cntlid Initialized = false
 has_controller cntlid (Admin controller queue) = controller.cntlid == cntlid
 has_controller cntlid Ended = false
 
--- ---- where a decision takes it
+-- ---- where a decision leads it
 
 abbrev pub move_begun : Admission → List ℕ → SessionMove
 move_begun a host = move.Begin (new_controller a host) (responded (new_queue a))

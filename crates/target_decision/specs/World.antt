@@ -6,7 +6,8 @@ use Rattle.number_table.specs.Table.{place}
 use Rattle.target_decision.specs.declared.page.Page.{Page}
 use Rattle.target_decision.specs.declared.page.Page.TheVariants.{Discovery}
 use Rattle.target_decision.specs.declared.session.Conversation.{Conversation}
-use Rattle.target_decision.specs.declared.world.Pages as lent
+use Rattle.target_decision.specs.declared.world.Pages.{Pages as PagesLent}
+use Rattle.target_decision.specs.declared.world.World.{World as WorldLent}
 
 -- the log pages of each host, one function for each page that there is
 pub record Pages : Type 0 where
@@ -22,13 +23,13 @@ abbrev pub page_named : Page → Pages → List ℕ → List ℕ
 page_named Discovery pages host = pages.discovery host
 
 -- the pages that views lend
-abbrev pub pages_in : lent.Pages → Pages
+abbrev pub pages_in : PagesLent → Pages
 pages_in p = record { discovery = page_in p.discovery.now.shown }
 
 module _ {T : Type 0} where
   -- .. and the connections of a table, of each of which this is the conversation
-  abbrev pub world_in : (T → Conversation) → lent.Pages → List (Option T) → World
-  world_in conversation_of p connections = record {
-    pages = pages_in p;
-    conversation = λ k. option_map conversation_of (place connections k);
+  abbrev pub world_in : (T → Conversation) → WorldLent T → World
+  world_in conversation_of w = record {
+    pages = pages_in w.pages.now;
+    conversation = λ k. option_map conversation_of (place w.connections.now k);
   }

@@ -1,7 +1,7 @@
 //! What follows from a decision on its own connection: its PDUs are sent, and the session moves.
 ghost use Rattle.std.specs.Prelude.{◌≡◌, ◌≤◌, ◌++◌, IfOk, OnErr, OnOk, length};
 ghost use Rattle.pdu_cut.specs.Cut.{front_shown};
-ghost use Rattle.target_decision.specs.Decision.{head_of, host_in, sent_by, taken_of};
+ghost use Rattle.target_decision.specs.Decision.{head_of, host_in, sent_by, consumed_of};
 ghost use Rattle.target_decision.specs.Session.{move_begun, move_of, session_after};
 ghost use Rattle.target_decision.specs.World.{pages_in};
 
@@ -18,8 +18,8 @@ use nvt_fields::Nqn;
 use pdu_cut::Cut;
 use std::alloc::{AllocError, Global};
 
-/// Sends what the decision on this front owes in the session, and moves the session. All growth comes
-/// first: want of memory changes nothing.
+/// Sends what the decision on this front owes in the session, and moves the session. All growth
+/// comes first: want of memory changes nothing.
 pub fn perform(
     alloc: Global,
     pages: &Pages<'_>,
@@ -29,10 +29,13 @@ pub fn perform(
     front: &Cut<'_>,
 ) -> Result<(), AllocError>
     requires { length (head_of (front_shown front.now)) ≤ 128 }
-    ensures session { OnOk result (session.new ≡ session_after session.old decision.now (host_in (front_shown front.now))) }
-    ensures output { OnOk result (output.new.items
-        ≡ output.old.items ++ sent_by (pages_in pages.now) session.old decision.now (front_shown front.now)) }
-    ensures err { OnErr result ((session.new ≡ session.old) × (output.new.items ≡ output.old.items)) }
+    ensures session { let host = host_in (front_shown front.now) in
+        OnOk result (session.new ≡ session_after session.old decision.now host) }
+    ensures output {
+        let sent = sent_by (pages_in pages.now) session.old decision.now (front_shown front.now) in
+        OnOk result (output.new.items ≡ output.old.items ++ sent) }
+    ensures err { OnErr result
+        ((session.new ≡ session.old) × (output.new.items ≡ output.old.items)) }
 {
     let head = head_of(front);
     let data = match decision {
@@ -42,13 +45,13 @@ pub fn perform(
     let move_made = move_of(alloc, decision, host_in(front))?;
     output.reserve(WIRE_MAX + head.len() + data.len())?;
     wire::write(output, decision, head, data.as_slice());
-    session.take(move_made);
+    session.go(move_made);
     Ok(())
 }
 
-/// How many bytes a step takes of this front: the whole PDU.
-pub fn taken_of(front: &Cut<'_>) -> usize
-    ensures { result ≡ taken_of (front_shown front.now) }
+/// How many bytes a step consumes of this front: the whole PDU.
+pub fn consumed_of(front: &Cut<'_>) -> usize
+    ensures { result ≡ consumed_of (front_shown front.now) }
 {
     match front {
         Cut::Pdu(pdu) => pdu.plen() as usize,
@@ -77,7 +80,7 @@ fn host_in<'a>(front: &Cut<'a>) -> &'a [u8]
     }
 }
 
-// Where a decision takes the session, where the PDU names this host.
+// Where a decision leads the session, where the PDU names this host.
 fn move_of(alloc: Global, decision: &Decision, host: &[u8]) -> Result<SessionMove, AllocError>
     ensures { IfOk result (λ move. move ≡ move_of decision.now host.now) }
 {

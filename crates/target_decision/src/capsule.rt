@@ -48,7 +48,7 @@ pub(crate) fn decide<T: Converses>(
     pdu: &PduView<'_>,
 ) -> Decision
     requires { pdu.now.kind ≡ PduType.CapsuleCmd }
-    ensures { result ≡ capsule (world_in T.conversation_of world.now.pages.now world.now.connections.now) session.now pdu.now }
+    ensures { result ≡ capsule (world_in T.conversation_of world.now) session.now pdu.now }
 {
     let payload = pdu.data();
     if payload.len() > IN_CAPSULE_MAX {
@@ -77,7 +77,8 @@ fn command<T: Converses>(
     sqe: &Sqe<'_>,
     payload: &[u8],
 ) -> Outcome
-    ensures { result ≡ command (world_in T.conversation_of world.now.pages.now world.now.connections.now) session.now sqe.now.entry.now payload.now }
+    ensures { let w = world_in T.conversation_of world.now in
+        result ≡ command w session.now sqe.now.entry.now payload.now }
 {
     if sqe.fuse() != 0 {
         return refused(Status::INVALID_FIELD);
@@ -89,7 +90,8 @@ fn command<T: Converses>(
 }
 
 fn before_connect<T: Converses>(world: &World<'_, T>, sqe: &Sqe<'_>, payload: &[u8]) -> Outcome
-    ensures { result ≡ first_command (world_in T.conversation_of world.now.pages.now world.now.connections.now) sqe.now.entry.now payload.now }
+    ensures { let w = world_in T.conversation_of world.now in
+        result ≡ first_command w sqe.now.entry.now payload.now }
 {
     if sqe.opcode() == FABRICS && sqe.fctype() == fabrics::CONNECT {
         connect::command(world, sqe, payload)

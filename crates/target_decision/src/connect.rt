@@ -33,7 +33,8 @@ const HOSTNQN: u64 = DATA + 0x200;
 /// Answers a Connect: with a new controller, or with the first reason against it.
 #[tactic(auto, unfolding(crate::specs::Connect::connect))]
 pub(crate) fn command<T: Converses>(world: &World<'_, T>, sqe: &Sqe<'_>, payload: &[u8]) -> Outcome
-    ensures { result ≡ connect (free_cntlid (world_in T.conversation_of world.now.pages.now world.now.connections.now).conversation) sqe.now.entry.now payload.now }
+    ensures { let w = world_in T.conversation_of world.now in
+        result ≡ connect (free_cntlid w.conversation) sqe.now.entry.now payload.now }
 {
     match in_capsule(&sqe.sgl1(), payload) {
         Ok(bytes) => admit(world, &Connect::read(sqe), bytes),
@@ -58,7 +59,8 @@ pub(crate) fn host_name<'a>(sqe: &Sqe<'_>, payload: &'a [u8]) -> &'a [u8]
 // A new controller gets the identifier that is free, if there is one.
 #[tactic(auto, unfolding(crate::specs::Connect::admitted))]
 fn admit<T: Converses>(world: &World<'_, T>, connect: &Connect, bytes: &[u8; 1024]) -> Outcome
-    ensures { result ≡ admitted (free_cntlid (world_in T.conversation_of world.now.pages.now world.now.connections.now).conversation) connect.now bytes.now }
+    ensures { let w = world_in T.conversation_of world.now in
+        result ≡ admitted (free_cntlid w.conversation) connect.now bytes.now }
 {
     if connect.recfmt != 0 {
         return refused(Status::INCOMPATIBLE_FORMAT);
@@ -82,7 +84,9 @@ fn admit<T: Converses>(world: &World<'_, T>, connect: &Connect, bytes: &[u8; 102
 // The command's data, which has to be in the capsule and whole.
 #[tactic(auto, unfolding(crate::specs::Connect::connect_data))]
 fn in_capsule<'a>(sgl: &Sgl, payload: &'a [u8]) -> Result<&'a [u8; 1024], Status>
-    ensures { MatchResult result (λ bytes. connect_data sgl.now payload.now ≡ Ok bytes.now) (λ status. connect_data sgl.now payload.now ≡ Err status) }
+    ensures { MatchResult result
+        (λ bytes. connect_data sgl.now payload.now ≡ Ok bytes.now)
+        (λ status. connect_data sgl.now payload.now ≡ Err status) }
 {
     if sgl.sgl_type != SglType::CapsuleOffset {
         return Err(Status::SGL_TYPE_INVALID);

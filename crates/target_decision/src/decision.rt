@@ -78,7 +78,8 @@ pub fn decide<T: Converses>(
     conversation: &Conversation,
     front: &Cut<'_>,
 ) -> Decision
-    ensures { result ≡ decide (world_in T.conversation_of world.now.pages.now world.now.connections.now) conversation.now (front_shown front.now) }
+    ensures { let w = world_in T.conversation_of world.now in
+        result ≡ decide w conversation.now (front_shown front.now) }
 {
     match front {
         Cut::More => Decision::Close,
@@ -88,7 +89,7 @@ pub fn decide<T: Converses>(
 }
 
 fn decide_pdu<T: Converses>(world: &World<'_, T>, session: &Session, pdu: &PduView<'_>) -> Decision
-    ensures { result ≡ decide_pdu (world_in T.conversation_of world.now.pages.now world.now.connections.now) session.now pdu.now }
+    ensures { result ≡ decide_pdu (world_in T.conversation_of world.now) session.now pdu.now }
 {
     match session {
         Session::Opened => first(pdu),
@@ -109,7 +110,8 @@ fn first(pdu: &PduView<'_>) -> Decision
 }
 
 fn next<T: Converses>(world: &World<'_, T>, session: &Session, pdu: &PduView<'_>) -> Decision
-    ensures { result ≡ next_by pdu.now.kind (world_in T.conversation_of world.now.pages.now world.now.connections.now) session.now pdu.now }
+    ensures { let w = world_in T.conversation_of world.now in
+        result ≡ next_by pdu.now.kind w session.now pdu.now }
 {
     match pdu.kind() {
         PduType::H2cTermReq => Decision::Close,

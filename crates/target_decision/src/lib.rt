@@ -1,7 +1,7 @@
-//! What a target owes to a PDU. `decide` looks at what stands at the front of a connection's stream,
-//! and at what a decision may look at beside it, and answers a value: a reply with what it changes, or
-//! the connection's end. `perform` then makes room for all that this sends, writes it, and moves the
-//! session. Nothing here keeps anything.
+//! What a target owes to a PDU. `decide` looks at what stands at the front of a connection's
+//! stream, and at what a decision may look at beside it, and answers a value: a reply with what it
+//! changes, or the connection's end. `perform` then makes room for all that this sends, writes it,
+//! and moves the session. Nothing here keeps anything.
 #![tactic(auto)]
 
 mod act;
@@ -19,7 +19,7 @@ mod session;
 mod wire;
 mod world;
 
-pub use act::{perform, taken_of};
+pub use act::{perform, consumed_of};
 pub use controller::Controller;
 pub use decision::{Admission, Change, Decision, Reply, Termination, decide};
 pub use page::{Page, PagePart};

@@ -36,7 +36,8 @@ fn page_of_lid(lid: u8) -> Option<Page>
 }
 
 fn read_page(page: Page, pages: &Pages<'_>, host: &Nqn, sqe: &Sqe<'_>) -> Outcome
-    ensures { result ≡ read_page page (page_named page (pages_in pages.now) host.now) sqe.now.entry.now }
+    ensures { let bytes = page_named page (pages_in pages.now) host.now in
+        result ≡ read_page page bytes sqe.now.entry.now }
 {
     let request = GetLogPage::read(sqe);
     let len = (u64::from(request.numd) + 1) * 4;

@@ -32,7 +32,8 @@ pub(crate) fn data(
     host: &[u8],
     part: &Option<PagePart>,
 ) -> Result<BytesMut, AllocError>
-    ensures data { IfOk result (λ bytes. bytes.items ≡ part_of (pages_in pages.now) host.now part.now) }
+    ensures data { IfOk result (λ bytes.
+        bytes.items ≡ part_of (pages_in pages.now) host.now part.now) }
     ensures bound { IfOk result (λ bytes. length bytes.items < 2 ^ 18) }
 {
     match part {
@@ -47,8 +48,8 @@ fn copied(
     host: &[u8],
     part: &PagePart,
 ) -> Result<BytesMut, AllocError>
-    ensures data { IfOk result (λ bytes.
-        bytes.items ≡ window (page_named part.now.page (pages_in pages.now) host.now) part.now.offset (4 * part.now.dwords)) }
+    ensures data { let page = page_named part.now.page (pages_in pages.now) host.now in
+        IfOk result (λ bytes. bytes.items ≡ window page part.now.offset (4 * part.now.dwords)) }
     ensures bound { IfOk result (λ bytes. length bytes.items < 2 ^ 18) }
 {
     let mut bytes = BytesMut::new(alloc);

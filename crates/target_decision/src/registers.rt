@@ -22,7 +22,8 @@ pub enum ShutdownStatus {
     Complete,
 }
 
-/// The properties that change: Controller Configuration, and of Controller Status what the host sees.
+/// The properties that change: Controller Configuration, and what the host sees of Controller
+/// Status.
 #[derive(Clone, Copy)]
 pub struct Registers {
     /// Controller Configuration as it was written.
@@ -46,7 +47,7 @@ impl Registers {
         }
     }
 
-    /// Whether the controller takes admin commands: enabled, and not shut down.
+    /// Whether the controller serves admin commands: enabled, and not shut down.
     pub(crate) fn is_ready(&self) -> bool
         ensures { result ≡ is_ready self.now }
     {
@@ -77,8 +78,8 @@ impl Registers {
         }
     }
 
-    /// The properties after Controller Configuration is set: CC.EN rising makes the controller ready,
-    /// and falling resets it; a CC.SHN that is not 0 then shuts it down.
+    /// The properties after Controller Configuration is set: CC.EN rising makes the controller
+    /// ready, and falling resets it; a CC.SHN that is not 0 then shuts it down.
     pub(crate) fn configured(&self, cc: u32) -> Registers
         ensures { result ≡ configured self.now cc }
     {

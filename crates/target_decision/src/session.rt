@@ -37,11 +37,11 @@ pub enum Session {
         controller: Controller,
         queue: Queue,
     },
-    /// It is ended: nothing more is taken or sent.
+    /// It is ended: nothing more is consumed or sent.
     Ended,
 }
 
-/// Where a decision takes a session.
+/// Where a decision leads a session.
 #[derive(Drop)]
 pub(crate) enum SessionMove {
     Initialize,
@@ -59,10 +59,10 @@ pub(crate) enum SessionMove {
 
 impl Session {
     /// Makes a move. On a connection that has no queue a response counts nothing.
-    pub(crate) fn take(&mut self, made: SessionMove)
-        ensures { self.new ≡ moved self.old made }
+    pub(crate) fn go(&mut self, to: SessionMove)
+        ensures { self.new ≡ moved self.old to }
     {
-        match made {
+        match to {
             SessionMove::Initialize => *self = Session::Initialized,
             SessionMove::Begin { controller, queue } => {
                 *self = Session::Admin { controller, queue };

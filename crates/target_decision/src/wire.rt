@@ -37,7 +37,8 @@ pub(crate) fn write(output: &mut BytesMut, decision: &Decision, head: &[u8], pay
 
 fn write_initialized(output: &mut BytesMut)
     requires { 128 ≤ output.old.spare }
-    ensures { output.new.items ≡ output.old.items ++ ic_resp (record { pfv = 0; cpda = 0; dgst = 0; maxh2cdata = 16384 }) }
+    ensures { output.new.items ≡ output.old.items
+        ++ ic_resp (record { pfv = 0; cpda = 0; dgst = 0; maxh2cdata = 16384 }) }
 {
     let response = IcResp {
         pfv: 0,
@@ -83,7 +84,8 @@ fn write_response(output: &mut BytesMut, reply: &Reply)
 fn write_termination(output: &mut BytesMut, termination: &Termination, head: &[u8])
     requires room { 24 + length head.now ≤ output.old.spare }
     requires head { length head.now ≤ 128 }
-    ensures { output.new.items ≡ output.old.items ++ c2h_term_req (fatal_code_of termination.now.fes) termination.now.fei head.now }
+    ensures { output.new.items ≡ output.old.items
+        ++ c2h_term_req (fatal_code_of termination.now.fes) termination.now.fei head.now }
 {
     TermReq::write_c2h(output, termination.fes, termination.fei, head).unwrap();
 }

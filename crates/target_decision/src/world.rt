@@ -3,6 +3,7 @@ ghost use Rattle.std.specs.Prelude.{◌≡◌};
 ghost use Rattle.std.specs.Option.{option_copied, option_map};
 ghost use Rattle.number_table.specs.Table.{place};
 ghost use Rattle.target_decision.specs.Controllers.{free_cntlid, has_controller_at, is_used};
+ghost use Rattle.target_decision.specs.World.{world_in};
 
 use crate::session::Conversation;
 use discovery_view::DiscoveryView;
@@ -41,7 +42,7 @@ impl<'a, T: Converses> World<'a, T> {
     /// The least controller identifier from 1 to 32 that no connection's controller has.
     #[tactic(auto, unfolding(crate::specs::Controllers::free_cntlid))]
     pub(crate) fn free_cntlid(&self) -> Option<u16>
-        ensures { result ≡ free_cntlid (λ k. option_map T.conversation_of (place self.now.connections.now k)) }
+        ensures { result ≡ free_cntlid (world_in T.conversation_of self.now).conversation }
     {
         (1..CONTROLLERS_MAX + 1).find(|cntlid| !is_used(self.connections, *cntlid))
     }
@@ -49,13 +50,15 @@ impl<'a, T: Converses> World<'a, T> {
 
 #[tactic(auto, unfolding(crate::specs::Controllers::is_used))]
 fn is_used<T: Converses>(connections: &NumberTable<T>, cntlid: u16) -> bool
-    ensures { result ≡ is_used (λ k. option_map T.conversation_of (place connections.now k)) cntlid }
+    ensures {
+        result ≡ is_used (λ k. option_map T.conversation_of (place connections.now k)) cntlid }
 {
     (0..CONNECTIONS_MAX).any(|k| has_controller(connections.get(k), cntlid))
 }
 
 fn has_controller<T: Converses>(connection: Option<&T>, cntlid: u16) -> bool
-    ensures { result ≡ has_controller_at cntlid (option_map T.conversation_of (option_copied connection.entry)) }
+    ensures { let conversation = option_map T.conversation_of (option_copied connection.entry) in
+        result ≡ has_controller_at cntlid conversation }
 {
     match connection {
         Some(connection) => connection.conversation().session.has_controller(cntlid),

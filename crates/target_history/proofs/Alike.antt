@@ -27,7 +27,7 @@ use Rattle.target_decision.specs.Registers.{is_ready}
 use Rattle.target_decision.specs.Session.{host_of, is_ended}
 use Rattle.target_decision.specs.World.{Pages, World, page_named}
 use Rattle.nvt_fields.specs.Window.{window}
-use Rattle.target_history.specs.Event.{Event, front_in, gives_up, opens, takes}
+use Rattle.target_history.specs.Event.{Event, front_in, gives_up, opens, steps}
 use Rattle.target_history.specs.Happening.{Happening, decided_on, sends, sends_on}
 use Rattle.target_history.specs.History.{sent}
 use Rattle.target_history.specs.Laws.{HappenedAlike, SentByOwnAlone, ShowAlike, host_at, is_of, own}
@@ -112,10 +112,10 @@ on_alike : (v w : World) (c : Conversation) (d : Option Decision) (front : Front
 on_alike v w c None front page = refl
 on_alike v w c (Some d) front page = ap (wire_of d (head_of front)) (data_alike v.pages w.pages c.session d page)
 
-sends_by : (taking : Bool) (v w : World) (o : Option Conversation) (front : Front) → free_cntlid v.conversation ≡ free_cntlid w.conversation
+sends_by : (stepping : Bool) (v w : World) (o : Option Conversation) (front : Front) → free_cntlid v.conversation ≡ free_cntlid w.conversation
     → v.pages.discovery (host_at o) ≡ w.pages.discovery (host_at o)
-    → sends_on v o (if taking then decided_on v o front else None) front ≡ sends_on w o (if taking then decided_on w o front else None) front
-sends_by taking v w None front free page = refl
+    → sends_on v o (if stepping then decided_on v o front else None) front ≡ sends_on w o (if stepping then decided_on w o front else None) front
+sends_by stepping v w None front free page = refl
 sends_by false v w (Some c) front free page = refl
 sends_by true v w (Some c) front free page =
     on_alike v w c (decided_on v (Some c) front) front page
@@ -124,7 +124,7 @@ sends_by true v w (Some c) front free page =
 sends_alike : (event : Event) (v w : World) (k : ℕ) → ShowAlike v w k
     → sends (record { event = event; world = v }) k ≡ sends (record { event = event; world = w }) k
 sends_alike event v w k shows =
-    rw (← shows.conversation) (sends_by (takes event k) v w (v.conversation k) (front_in event) shows.free shows.page)
+    rw (← shows.conversation) (sends_by (steps event k) v w (v.conversation k) (front_in event) shows.free shows.page)
 
 alike_sent : (g h : List Happening) (k : ℕ) → HappenedAlike g h k → sent g k ≡ sent h k
 alike_sent [] [] k alike = refl
@@ -152,7 +152,7 @@ own_sent (x ∷ before) k = by (is_of x.event k) refl (own_sent before k) where
       → sent (x ∷ before) k ≡ sent (if mine then x ∷ own before k else own before k) k
   by true is earlier = ap (λ (s : List ℕ). if opens x.event k || gives_up x.event k then [] else s ++ sends x k) earlier
   by false is earlier =
-      let parts = none_of (opens x.event k) (takes x.event k) (gives_up x.event k) is in
+      let parts = none_of (opens x.event k) (steps x.event k) (gives_up x.event k) is in
       rw (parts.0, parts.1, parts.2, silent x.world (x.world.conversation k) (front_in x.event)) (append-nil (sent before k) ∙ earlier)
 
 pub sent_by_own_alone : SentByOwnAlone

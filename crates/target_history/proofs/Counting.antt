@@ -23,7 +23,7 @@ use Rattle.target_decision.specs.Decision.{decide, decide_pdu, entry_of, first_b
 use Rattle.target_decision.specs.Outcome.{Outcome}
 use Rattle.target_decision.specs.Session.{is_ended}
 use Rattle.target_decision.specs.World.{World}
-use Rattle.target_history.specs.Event.{Event, edited, opened, took, given_up}
+use Rattle.target_history.specs.Event.{Event, edited, opened, stepped, given_up}
 use Rattle.target_history.specs.Happening.{Happening, decided, decided_on}
 use Rattle.target_history.specs.History.{Beginning, beginning_by, beginning_of, beginning_or, conversation_of, has_ended, is_initialized, is_known, port_of, registers_of, responses_by, responses_since, session_with}
 use Rattle.target_history.specs.Laws.{HeadsCountResponses, sqsize_of}
@@ -94,8 +94,8 @@ decided_heads false w v front r h =
     let same : decide w v front ≡ decision.Reply r = cc in
     heads_same v.session (decide w v front) (decision.Reply r) same (decide_heads w v front)
 
-told : (taking known ended : Bool) (w : World) (port : ℕ) (s : Session) (front : Front) (r : Reply)
-    → (if taking then decided_on w (if known then Some (record { port = port; session = if ended then Ended else s }) else None) front else None)
+told : (stepping known ended : Bool) (w : World) (port : ℕ) (s : Session) (front : Front) (r : Reply)
+    → (if stepping then decided_on w (if known then Some (record { port = port; session = if ended then Ended else s }) else None) front else None)
     ≡ Some (decision.Reply r) → r.sqhd ≡ head_after s r.change
 told false known ended w port s front r h = cc
 told true false ended w port s front r h = cc
@@ -125,7 +125,7 @@ counts_here : (w : World) (event : Event) (before : List Happening) (k : ℕ) (r
 counts_here w (edited edit) before k r met h = cc
 counts_here w (opened port n) before k r met h = cc
 counts_here w (given_up n) before k r met h = cc
-counts_here w (took n front) before k r met h =
+counts_here w (stepped n front) before k r met h =
     let carries = told (k == n) (is_known before k) (has_ended before k) w (port_of before k)
     (session_with (beginning_of before k) (is_initialized before k) (registers_of before k) (responses_since before k)) front r (rw met at h) in
     rw h (carries ∙ head_counts r.change front (beginning_of before k) (is_initialized before k) (registers_of before k) (responses_since before k))

@@ -18,16 +18,16 @@ use Rattle.target_decision.specs.declared.session.Session.TheVariants.{Opened, I
 use Rattle.target_decision.specs.Decision.{decide, decide_pdu, first_by, is_command, next_by, terminate}
 use Rattle.target_decision.specs.Session.{is_ended}
 use Rattle.target_decision.specs.World.{World}
-use Rattle.target_history.specs.Event.{Event, edited, front_in, opened, opens, takes, took, given_up}
+use Rattle.target_history.specs.Event.{Event, edited, front_in, opened, opens, steps, stepped, given_up}
 use Rattle.target_history.specs.Happening.{Happening, decided_on, responses, responses_decided, sends, sends_on}
 use Rattle.target_history.specs.History.{config_after, config_of, generation_after, generation_of, happened, has_ended, is_known, port_of, sent, session_of, world_of}
 use Rattle.target_history.specs.Laws.{EndedAreSentNothing, PagesChangeByEdits, ResponsesAnswerCapsules, capsules_of, is_capsule, is_edit, responses_of}
 
 -- ---- an ended connection
 
-silent_on : (w : World) (known taking : Bool) (port : ℕ) (front : Front)
+silent_on : (w : World) (known stepping : Bool) (port : ℕ) (front : Front)
     → sends_on w (if known then Some (record { port = port; session = Ended }) else None)
-    (if taking then decided_on w (if known then Some (record { port = port; session = Ended }) else None) front else None) front ≡ []
+    (if stepping then decided_on w (if known then Some (record { port = port; session = Ended }) else None) front else None) front ≡ []
 silent_on w true true port front = refl
 silent_on w true false port front = refl
 silent_on w false true port front = refl
@@ -40,7 +40,7 @@ ended_sends : (units : List ℕ) (events : List Event) (event : Event) (k : ℕ)
     → sends (record { event = event; world = world_of units (happened units events) }) k ≡ []
 ended_sends units events event k ended =
     let before = happened units events in
-    rw (ended_session before k ended) (silent_on (world_of units before) (is_known before k) (takes event k) (port_of before k) (front_in event))
+    rw (ended_session before k ended) (silent_on (world_of units before) (is_known before k) (steps event k) (port_of before k) (front_in event))
 
 pub ended_are_sent_nothing : EndedAreSentNothing
 ended_are_sent_nothing = record {
@@ -104,8 +104,8 @@ nothing_responds : (capsule : Bool) → 0 ≤ counted capsule
 nothing_responds true = omega arith
 nothing_responds false = omega arith
 
-decided_responds : (taking : Bool) (w : World) (o : Option Conversation) (front : Front)
-    → responses_decided (if taking then decided_on w o front else None) ≤ counted (taking && is_capsule front)
+decided_responds : (stepping : Bool) (w : World) (o : Option Conversation) (front : Front)
+    → responses_decided (if stepping then decided_on w o front else None) ≤ counted (stepping && is_capsule front)
 decided_responds false w o front = omega arith
 decided_responds true w None front = nothing_responds (is_capsule front)
 decided_responds true w (Some v) front = by (is_ended v.session) where
@@ -117,10 +117,10 @@ answered : (h : List Happening) (k : ℕ) → responses_of h k ≤ capsules_of h
 answered [] k = omega arith
 answered (x ∷ before) k = by (opens x.event k) (answered before k) where
   by : (opening : Bool) → responses_of before k ≤ capsules_of before k → (if opening then 0 else responses x k + responses_of before k)
-      ≤ (if opening then 0 else counted (takes x.event k && is_capsule (front_in x.event)) + capsules_of before k)
+      ≤ (if opening then 0 else counted (steps x.event k && is_capsule (front_in x.event)) + capsules_of before k)
   by true earlier = omega arith
   by false earlier =
-      let here = decided_responds (takes x.event k) x.world (x.world.conversation k) (front_in x.event) in
+      let here = decided_responds (steps x.event k) x.world (x.world.conversation k) (front_in x.event) in
       omega (arith, here, earlier)
 
 pub responses_answer_capsules : ResponsesAnswerCapsules
@@ -133,7 +133,7 @@ page_stays : (event : Event) (c : Configuration) (n : ℕ) (host : List ℕ) →
     ≡ discovery_page (n % 2 ^ 64) (records_of c host)
 page_stays (edited edit) c n host h = cc
 page_stays (opened port k) c n host h = refl
-page_stays (took k front) c n host h = refl
+page_stays (stepped k front) c n host h = refl
 page_stays (given_up k) c n host h = refl
 
 pub pages_change_by_edits : PagesChangeByEdits

@@ -23,7 +23,7 @@ use Rattle.target_decision.specs.Decision.{decide, host_in, next_by, terminate}
 use Rattle.target_decision.specs.Session.{move_replied, moved, opened_on}
 use Rattle.target_decision.specs.World.{World}
 use Rattle.target_history.specs.Ending.{ending_in, ends_by}
-use Rattle.target_history.specs.Event.{front_in, gives_up, opens, port_in, takes}
+use Rattle.target_history.specs.Event.{front_in, gives_up, opens, port_in, steps}
 use Rattle.target_history.specs.Happening.{Happening, change_decided, conversation_after, conversation_moved, decided_on, ends, initializes, is_end_decided, is_initialize, own_change, responses, responses_decided, session_decided}
 use Rattle.target_history.specs.History.{Beginning, beginning_by, beginning_of, beginning_or, begins, conversation_of, has_ended, is_initialized, is_known, port_of, registers_by, registers_of, responses_by, responses_since, session_of, session_with}
 use Rattle.target_history.proofs.Heads.{head_goes_round}
@@ -106,17 +106,17 @@ never_again w port c q (whole pdu) = by_kind pdu.kind where
   by_kind R2t = refl
 
 -- nothing is decided on a connection that is ended
-none_by : (taking ended : Bool) (w : World) (port : ℕ) (s : Session) (front : Front) → ended ≡ true
-    → (if taking then decided_on w (Some (record { port = port; session = if ended then Ended else s })) front else None) ≡ None
+none_by : (stepping ended : Bool) (w : World) (port : ℕ) (s : Session) (front : Front) → ended ≡ true
+    → (if stepping then decided_on w (Some (record { port = port; session = if ended then Ended else s })) front else None) ≡ None
 none_by false ended w port s front h = refl
 none_by true true w port s front h = refl
 none_by true false w port s front h = cc
 
 -- .. and Initialize on none that has a queue
-first_by : (taking ended i : Bool) (w : World) (port : ℕ) (b : Option Beginning) (registers : Registers) (n : ℕ) (front : Front)
-    → is_initialize (if taking then decided_on w (Some (record { port = port; session = if ended then Ended else session_with b i registers n })) front else None) ≡ true
+first_by : (stepping ended i : Bool) (w : World) (port : ℕ) (b : Option Beginning) (registers : Registers) (n : ℕ) (front : Front)
+    → is_initialize (if stepping then decided_on w (Some (record { port = port; session = if ended then Ended else session_with b i registers n })) front else None) ≡ true
     → b ≡ None
-first_by taking ended i w port None registers n front h = refl
+first_by stepping ended i w port None registers n front h = refl
 first_by false ended i w port (Some b) registers n front h = cc
 first_by true true i w port (Some b) registers n front h = cc
 first_by true false i w port (Some b) registers n front h =
@@ -137,11 +137,11 @@ session_step : (x : Happening) (before : List Happening) (k : ℕ)
     ≡ (conversation_moved x k (record { port = port_of before k; session = session_of before k })).session
 session_step x before k met =
     let v : Conversation = record { port = port_of before k; session = session_of before k } in
-    let d : Option Decision = (if takes x.event k then decided_on x.world (Some v) (front_in x.event) else None) in
+    let d : Option Decision = (if steps x.event k then decided_on x.world (Some v) (front_in x.event) else None) in
     rw met (turns d (front_in x.event) (ends_by (ending_in x.event) v)
     (has_ended before k) (is_initialized before k) (beginning_of before k) (registers_of before k) (responses_since before k)
-    (none_by (takes x.event k) (has_ended before k) x.world (port_of before k) _ (front_in x.event))
-    (first_by (takes x.event k) (has_ended before k) (is_initialized before k) x.world (port_of before k) (beginning_of before k)
+    (none_by (steps x.event k) (has_ended before k) x.world (port_of before k) _ (front_in x.event))
+    (first_by (steps x.event k) (has_ended before k) (is_initialized before k) x.world (port_of before k) (beginning_of before k)
     (registers_of before k) (responses_since before k) (front_in x.event)))
 
 -- What one more event makes of a connection.

@@ -3,46 +3,46 @@ use Rattle.std.specs.Prelude.{ℕ, Bool, false, ◌==◌}
 use Rattle.nvt_config.specs.declared.edit.Edit.{Edit}
 use Rattle.pdu_cut.specs.Front.{Front, incomplete}
 
--- An edit was accepted; a connection was opened on a port and got a number; a step of a connection took
--- what stood at the front of its stream, a whole PDU or a fault; a connection was given up. What a call
+-- An edit was accepted; a connection was opened on a port and got a number; a step of a connection found
+-- this at the front of its stream, a whole PDU, which it consumed, or a fault; a connection was given up. What a call
 -- refuses, and a step that is idle, is no event.
 pub data Event : Type 0 where
   edited : Edit → Event
   opened : ℕ → ℕ → Event
-  took : ℕ → Front → Event
+  stepped : ℕ → Front → Event
   given_up : ℕ → Event
 
 -- whether it opens connection k
 abbrev pub opens : Event → ℕ → Bool
 opens (edited edit) k = false
 opens (opened port n) k = k == n
-opens (took n front) k = false
+opens (stepped n front) k = false
 opens (given_up n) k = false
 
 -- the port that it opens a connection on
 abbrev pub port_in : Event → ℕ
 port_in (edited edit) = 0
 port_in (opened port n) = port
-port_in (took n front) = 0
+port_in (stepped n front) = 0
 port_in (given_up n) = 0
 
 -- whether it gives connection k up
 abbrev pub gives_up : Event → ℕ → Bool
 gives_up (edited edit) k = false
 gives_up (opened port n) k = false
-gives_up (took n front) k = false
+gives_up (stepped n front) k = false
 gives_up (given_up n) k = k == n
 
 -- whether it is a step of connection k
-abbrev pub takes : Event → ℕ → Bool
-takes (edited edit) k = false
-takes (opened port n) k = false
-takes (took n front) k = k == n
-takes (given_up n) k = false
+abbrev pub steps : Event → ℕ → Bool
+steps (edited edit) k = false
+steps (opened port n) k = false
+steps (stepped n front) k = k == n
+steps (given_up n) k = false
 
--- what a step took
+-- what a step found at the front of the stream
 abbrev pub front_in : Event → Front
 front_in (edited edit) = incomplete
 front_in (opened port n) = incomplete
-front_in (took n front) = front
+front_in (stepped n front) = front
 front_in (given_up n) = incomplete

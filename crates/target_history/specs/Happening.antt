@@ -13,7 +13,7 @@ use Rattle.target_decision.specs.Decision.{decide, host_in, is_end, sent_by}
 use Rattle.target_decision.specs.Session.{is_ended, opened_on, session_after}
 use Rattle.target_decision.specs.World.{World}
 use Rattle.target_history.specs.Ending.{ending_in, ends_by}
-use Rattle.target_history.specs.Event.{Event, front_in, gives_up, opens, port_in, takes}
+use Rattle.target_history.specs.Event.{Event, front_in, gives_up, opens, port_in, steps}
 
 pub record Happening : Type 0 where
   pub event : Event
@@ -28,7 +28,7 @@ decided_on w (Some v) front = if is_ended v.session then None else Some (decide 
 
 -- what is decided for connection k, where the event is a step of it
 abbrev pub decided : Happening → ℕ → Option Decision
-decided x k = if takes x.event k then decided_on x.world (x.world.conversation k) (front_in x.event) else None
+decided x k = if steps x.event k then decided_on x.world (x.world.conversation k) (front_in x.event) else None
 
 abbrev pub change_decided : Option Decision → Change
 change_decided None = change.Stay

@@ -19,7 +19,7 @@ use Rattle.target_decision.specs.declared.session.Session.TheVariants.{Opened, I
 use Rattle.target_decision.specs.Decision.{host_in}
 use Rattle.target_decision.specs.Registers.{configured, registers_at_connect}
 use Rattle.target_decision.specs.World.{World}
-use Rattle.target_history.specs.Event.{Event, edited, front_in, gives_up, opened, opens, port_in, takes, took, given_up}
+use Rattle.target_history.specs.Event.{Event, edited, front_in, gives_up, opened, opens, port_in, steps, stepped, given_up}
 use Rattle.target_history.specs.Happening.{Happening, ends, initializes, own_change, responses, sends}
 
 -- ---- the configuration
@@ -31,7 +31,7 @@ accepted_or (Err fault) old = old
 abbrev pub config_after : Event → Configuration → Configuration
 config_after (edited edit) c = accepted_or (accept c edit) c
 config_after (opened port n) c = c
-config_after (took n front) c = c
+config_after (stepped n front) c = c
 config_after (given_up n) c = c
 
 -- the disks alone, with each edit accepted in turn
@@ -45,7 +45,7 @@ config_of units (x ∷ before) = config_after x.event (config_of units before)
 abbrev pub generation_after : Event → Configuration → List ℕ → ℕ → ℕ
 generation_after (edited edit) c host n = changes_records c (config_after (edited edit) c) host + n
 generation_after (opened port k) c host n = n
-generation_after (took k front) c host n = n
+generation_after (stepped k front) c host n = n
 generation_after (given_up k) c host n = n
 
 -- the number of edits that changed the records of a host
@@ -147,19 +147,19 @@ with_pdu (whole pdu) pdus = pdus ++ pdu ∷ []
 with_pdu (faulty fault head) pdus = pdus
 with_pdu incomplete pdus = pdus
 
--- the whole PDUs that were taken of it since its open, the oldest first
+-- the whole PDUs that were consumed of it since its open, the oldest first
 abbrev pub pdus_of : List Happening → ℕ → List Pdu
 pdus_of [] k = []
 pdus_of (x ∷ before) k =
     if opens x.event k || gives_up x.event k then [] else
-    if takes x.event k then with_pdu (front_in x.event) (pdus_of before k) else pdus_of before k
+    if steps x.event k then with_pdu (front_in x.event) (pdus_of before k) else pdus_of before k
 
--- what was taken of it last
+-- what its last step found at its front
 abbrev pub last_front : List Happening → ℕ → Front
 last_front [] k = incomplete
 last_front (x ∷ before) k =
     if opens x.event k || gives_up x.event k then incomplete else
-    if takes x.event k then front_in x.event else last_front before k
+    if steps x.event k then front_in x.event else last_front before k
 
 -- the bytes of all PDUs that it was sent since its open
 abbrev pub sent : List Happening → ℕ → List ℕ

@@ -8,7 +8,7 @@ use Rattle.target_decision.specs.Controllers.{free_cntlid}
 use Rattle.target_decision.specs.Decision.{is_command}
 use Rattle.target_decision.specs.Session.{host_of}
 use Rattle.target_decision.specs.World.{World}
-use Rattle.target_history.specs.Event.{Event, edited, front_in, gives_up, opened, opens, takes, took, given_up}
+use Rattle.target_history.specs.Event.{Event, edited, front_in, gives_up, opened, opens, steps, stepped, given_up}
 use Rattle.target_history.specs.Happening.{Happening, decided, responses}
 use Rattle.target_history.specs.History.{Beginning, beginning_of, conversation_of, happened, has_ended, page_of, responses_since, sent}
 
@@ -27,7 +27,7 @@ is_capsule (faulty fault head) = false
 abbrev pub capsules_of : List Happening → ℕ → ℕ
 capsules_of [] k = 0
 capsules_of (x ∷ before) k =
-    if opens x.event k then 0 else (if takes x.event k && is_capsule (front_in x.event) then 1 else 0) + capsules_of before k
+    if opens x.event k then 0 else (if steps x.event k && is_capsule (front_in x.event) then 1 else 0) + capsules_of before k
 
 abbrev pub responses_of : List Happening → ℕ → ℕ
 responses_of [] k = 0
@@ -39,7 +39,7 @@ pub record ResponsesAnswerCapsules : Type 0 where
 abbrev pub is_edit : Event → Bool
 is_edit (edited edit) = true
 is_edit (opened port k) = false
-is_edit (took k front) = false
+is_edit (stepped k front) = false
 is_edit (given_up k) = false
 
 pub record PagesChangeByEdits : Type 0 where
@@ -61,7 +61,7 @@ pub record HeadsCountResponses : Type 0 where
 
 -- an event opens, steps or gives up connection k
 abbrev pub is_of : Event → ℕ → Bool
-is_of event k = opens event k || (takes event k || gives_up event k)
+is_of event k = opens event k || (steps event k || gives_up event k)
 
 -- what happened to connection k itself, the newest first
 abbrev pub own : List Happening → ℕ → List Happening

@@ -1,5 +1,5 @@
-//! Laws of histories, in the words of the subject. Each of these functions does nothing: its contract is
-//! the law, for whatever events there are.
+//! Laws of histories, in the words of the subject. Each of these functions does nothing: its
+//! contract is the law, for whatever events there are.
 ghost use Rattle.target_history.specs.Laws.{EndedAreSentNothing, HeadsCountResponses, PagesChangeByEdits, ResponsesAnswerCapsules, SentByOwnAlone};
 
 /// A connection that is ended is sent nothing more, until it is opened again.
@@ -20,8 +20,8 @@ pub fn pages_change_by_edits()
     ensures { PagesChangeByEdits }
 {}
 
-/// A connection to which the same happened, in worlds that showed it the same, is sent the same, whatever
-/// happens to other connections.
+/// A connection to which the same happened, in worlds that showed it the same, is sent the same,
+/// whatever happens to other connections.
 #[tactic(auto, using(crate::proofs::Alike::sent_by_own_alone))]
 pub fn sent_by_own_alone()
     ensures { SentByOwnAlone }

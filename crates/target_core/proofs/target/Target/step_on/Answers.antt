@@ -2,7 +2,7 @@ use Rattle.std.proofs.Common.{refl, ap, sym, ◌∙◌}
 use Rattle.std.specs.Option.{option_copied}
 use Rattle.target_core.specs.contracts.target.Target.{the_view}
 use Rattle.target_core.proofs.Stepping.{acted_known, step_done, step_is_target}
-use Rattle.target_core.proofs.target.Target.take_one.Goals as goal
+use Rattle.target_core.proofs.target.Target.step_on.Goals as goal
 
 pub invariant_of-self : goal.invariant_of-self
 invariant_of-self c =
@@ -19,6 +19,6 @@ returns-in-Ok c =
     let complete = sym c.is_incomplete.ensures ∙ c.if-is_incomplete.false in
     rw (← c.self.view_is, stream, known)
     (step_done (the_view c.self.inside) _ _ _ _ _ _ _ stream known lasts c.peek-front.ensures.front complete
-    (rw c.conversation.ensures at c.decide-decision.ensures) refl refl
+    c.decide_on-decision.ensures refl refl
     (acted_known _ _ _ _ _ _ known c.in-Ok.ensures.acted)
-    (rw c.taken_of-len.ensures at (acted_known _ _ _ _ _ _ stream c.consume.ensures)) c.stepped.ensures)
+    (rw c.consumed_of-len.ensures at (acted_known _ _ _ _ _ _ stream c.consume.ensures)) c.stepped.ensures)
