@@ -64,7 +64,9 @@ impl Connection {
     pub(crate) fn taken(&mut self, len: usize)
         requires { len ≤ length self.old.output }
         ensures { self.new ≡ record {
-            conversation = self.old.conversation; output = drop len self.old.output } }
+          conversation = self.old.conversation;
+          output = drop len self.old.output;
+        } }
     {
         self.output.advance(len);
     }

@@ -24,7 +24,7 @@ use nvt_config::{Config, Edit, EditFault, NewFault};
 use pdu_cut::Cut;
 use std::alloc::{AllocError, Global};
 use std::marker::Model;
-use target_decision::{CONNECTIONS_MAX, Converses, Decision, Pages, World, decide, consumed_of};
+use target_decision::{CONNECTIONS_MAX, Converses, Decision, Pages, World, consumed_of, decide};
 use target_history::Ending;
 
 /// A target. It serves up to 64 connections, each by the least number that was free when it was
@@ -44,10 +44,18 @@ impl Model for Target {
     ghost Value = { TargetState };
 
     ghost view = { λ t. record {
-      config = t.config; shown = t.view.shown; streams = t.streams; connections = t.connections } };
+      config = t.config;
+      shown = t.view.shown;
+      streams = t.streams;
+      connections = t.connections;
+    } };
 
     ghost invariant = { λ t. IsTarget (record {
-      config = t.config; shown = t.view.shown; streams = t.streams; connections = t.connections }) };
+      config = t.config;
+      shown = t.view.shown;
+      streams = t.streams;
+      connections = t.connections;
+    }) };
 }
 
 // What each call promises is in two parts: what becomes of the target's own state, exactly, and that
@@ -270,7 +278,14 @@ impl Target {
         };
         let decision = decide_on(&pages, &self.connections, connection, &front);
         let len = consumed_of(&front);
-        match act(&mut self.connections, k, self.alloc, &pages, &decision, &front) {
+        match act(
+            &mut self.connections,
+            k,
+            self.alloc,
+            &pages,
+            &decision,
+            &front,
+        ) {
             Ok(()) => {
                 consume(&mut self.streams, k, len);
                 Ok(stepped(&decision))

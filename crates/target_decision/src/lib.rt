@@ -19,7 +19,7 @@ mod session;
 mod wire;
 mod world;
 
-pub use act::{perform, consumed_of};
+pub use act::{consumed_of, perform};
 pub use controller::Controller;
 pub use decision::{Admission, Change, Decision, Reply, Termination, decide};
 pub use page::{Page, PagePart};

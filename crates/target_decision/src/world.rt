@@ -50,8 +50,7 @@ impl<'a, T: Converses> World<'a, T> {
 
 #[tactic(auto, unfolding(crate::specs::Controllers::is_used))]
 fn is_used<T: Converses>(connections: &NumberTable<T>, cntlid: u16) -> bool
-    ensures {
-        result ≡ is_used (λ k. option_map T.conversation_of (place connections.now k)) cntlid }
+    ensures { result ≡ is_used (λ k. option_map T.conversation_of (place connections.now k)) cntlid }
 {
     (0..CONNECTIONS_MAX).any(|k| has_controller(connections.get(k), cntlid))
 }

@@ -1,5 +1,5 @@
 -- What a connection is sent depends on what happened to it alone, and on what its worlds show it.
-use Rattle.std.proofs.Common.{◌≡◌, ℕ, ◌*◌, Bool, true, false, ◌||◌, List, [], ◌∷◌, ◌++◌, Option, Some, None, Result, refl, sym, ap, ◌∙◌, append-nil}
+use Rattle.std.proofs.Common.{◌≡◌, ℕ, ◌*◌, Bool, true, false, ◌||◌, List, [], ◌∷◌, ◌++◌, Option, Some, None, refl, sym, ap, ◌∙◌, append-nil}
 use Rattle.std.specs.Prelude.{if◌then◌else◌, not, ◌==◌, ◌&&◌, nat_lt, length}
 use Rattle.nvt_fields.specs.Status.{invalid_field, invalid_opcode, command_sequence_error}
 use Rattle.nvt_fields.specs.declared.pdu_type.PduType.{PduType}
@@ -17,7 +17,7 @@ use Rattle.target_decision.specs.declared.page.PagePart.{PagePart}
 use Rattle.target_decision.specs.declared.session.Conversation.{Conversation}
 use Rattle.target_decision.specs.declared.session.Session.{Session}
 use Rattle.target_decision.specs.declared.session.Session.TheVariants.{Opened, Initialized, Admin, Ended}
-use Rattle.target_decision.specs.Capsule.{admin_command, command, command_in, fabrics_command, first_command, queue_command, reply_of}
+use Rattle.target_decision.specs.Capsule.{admin_command, command_in, fabrics_command, first_command, queue_command, reply_of}
 use Rattle.target_decision.specs.Connect.{connect}
 use Rattle.target_decision.specs.Controllers.{free_cntlid}
 use Rattle.target_decision.specs.Decision.{data_of, decide, decide_pdu, entry_of, head_of, next_by, part_of, terminate, wire_of}

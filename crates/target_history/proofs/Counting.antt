@@ -1,5 +1,5 @@
 -- Each response carries the number of responses since the Connect.
-use Rattle.std.proofs.Common.{◌≡◌, ℕ, ◌+◌, ◌%◌, ◌<◌, Bool, true, false, List, ◌∷◌, Option, Some, None, Result, Ok, Err, refl, sym, ap, ◌∙◌, arith}
+use Rattle.std.proofs.Common.{◌≡◌, ℕ, ◌+◌, ◌%◌, ◌<◌, Bool, true, false, List, ◌∷◌, Option, Some, None, Ok, Err, refl, sym, ◌∙◌, arith}
 use Rattle.std.specs.Prelude.{if◌then◌else◌, not, ◌==◌, nat_lt, length}
 use Rattle.std.proofs.Math.Nat.{mod-lt}
 use Rattle.nvt_fields.specs.declared.pdu_type.PduType.{PduType}
