@@ -21,7 +21,8 @@ use Rattle.target_decision.specs.World.{World}
 use Rattle.target_history.specs.Event.{Event, edited, front_in, opened, opens, steps, stepped, given_up}
 use Rattle.target_history.specs.Happening.{Happening, decided_on, responses, responses_decided, sends, sends_on}
 use Rattle.target_history.specs.History.{config_after, config_of, generation_after, generation_of, happened, has_ended, is_known, port_of, sent, session_of, world_of}
-use Rattle.target_history.specs.Laws.{EndedAreSentNothing, PagesChangeByEdits, ResponsesAnswerCapsules, capsules_of, is_capsule, is_edit, responses_of}
+use Rattle.std.proofs.Math.Dec.{T, eqb_refl}
+use Rattle.target_history.specs.Laws.{DeletedPortsEnd, EndedAreSentNothing, PagesChangeByEdits, ResponsesAnswerCapsules, capsules_of, is_capsule, is_edit, responses_of}
 
 -- ---- an ended connection
 
@@ -46,6 +47,19 @@ pub ended_are_sent_nothing : EndedAreSentNothing
 ended_are_sent_nothing = record {
   silent = λ units events event k ended opens gives_up.
       rw (opens, gives_up, ended_sends units events event k ended) (append-nil (sent (happened units events) k));
+}
+
+-- ---- a deleted port
+
+same_here : (n : ℕ) → (n == n) ≡ true
+same_here n = by (n == n) (eqb_refl n) where
+  by : (b : Bool) → T b → b ≡ true
+  by true h = refl
+  by false h = absurd h
+
+pub deleted_ports_end : DeletedPortsEnd
+deleted_ports_end = record {
+  ends = λ w before k id met known port. rw (met, known, port, same_here id) refl;
 }
 
 -- ---- responses

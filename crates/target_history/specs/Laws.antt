@@ -1,5 +1,6 @@
 -- Laws of histories.
 use Rattle.std.specs.Prelude.{◌≡◌, ◌≤◌, ℕ, ◌+◌, ◌%◌, Bool, true, false, ◌||◌, ◌&&◌, List, [], ◌∷◌, Option, Some, None, if◌then◌else◌}
+use Rattle.nvt_config.specs.declared.edit.Edit.TheVariants.{PortDel}
 use Rattle.pdu_cut.specs.Front.{Front, incomplete, whole, faulty}
 use Rattle.target_decision.specs.declared.decision.Decision.TheVariants as decision
 use Rattle.target_decision.specs.declared.decision.Reply.{Reply}
@@ -10,12 +11,18 @@ use Rattle.target_decision.specs.Session.{host_of}
 use Rattle.target_decision.specs.World.{World}
 use Rattle.target_history.specs.Event.{Event, edited, front_in, gives_up, opened, opens, steps, stepped, given_up}
 use Rattle.target_history.specs.Happening.{Happening, decided, responses}
-use Rattle.target_history.specs.History.{Beginning, beginning_of, conversation_of, happened, has_ended, page_of, responses_since, sent}
+use Rattle.target_history.specs.History.{Beginning, beginning_of, conversation_of, happened, has_ended, is_known, page_of, port_of, responses_since, sent}
 
 pub record EndedAreSentNothing : Type 0 where
   pub silent : (units : List ℕ) (events : List Event) (event : Event) (k : ℕ) → has_ended (happened units events) k ≡ true
       → opens event k ≡ false → gives_up event k ≡ false
       → sent (happened units (event ∷ events)) k ≡ sent (happened units events) k
+
+-- an edit that deletes the port of a connection ends it
+pub record DeletedPortsEnd : Type 0 where
+  pub ends : (w : World) (before : List Happening) (k id : ℕ) → w.conversation k ≡ conversation_of before k
+      → is_known before k ≡ true → port_of before k ≡ id
+      → has_ended (record { event = edited (PortDel id); world = w } ∷ before) k ≡ true
 
 abbrev pub is_capsule : Front → Bool
 is_capsule (whole pdu) = is_command pdu.kind

@@ -1,11 +1,17 @@
 //! Laws of histories, in the words of the subject. Each of these functions does nothing: its
 //! contract is the law, for whatever events there are.
-ghost use Rattle.target_history.specs.Laws.{EndedAreSentNothing, HeadsCountResponses, PagesChangeByEdits, ResponsesAnswerCapsules, SentByOwnAlone};
+ghost use Rattle.target_history.specs.Laws.{DeletedPortsEnd, EndedAreSentNothing, HeadsCountResponses, PagesChangeByEdits, ResponsesAnswerCapsules, SentByOwnAlone};
 
 /// A connection that is ended is sent nothing more, until it is opened again.
 #[tactic(auto, using(crate::proofs::Histories::ended_are_sent_nothing))]
 pub fn ended_are_sent_nothing()
     ensures { EndedAreSentNothing }
+{}
+
+/// An edit that deletes the port of a connection ends it.
+#[tactic(auto, using(crate::proofs::Histories::deleted_ports_end))]
+pub fn deleted_ports_end()
+    ensures { DeletedPortsEnd }
 {}
 
 /// A connection is sent no more responses than it sent capsules.
