@@ -1,13 +1,10 @@
 -- A target that moves by an event agrees with the history that is longer by it.
-use Rattle.std.proofs.Common.{◌≡◌, ℕ, ◌%◌, ◌^◌, Bool, true, false, ◌||◌, List, [], ◌∷◌, ◌++◌, drop, Option, Some, None, refl, sym, ap, ◌∙◌, append_assoc}
+use Rattle.std.proofs.Common.{◌≡◌, ℕ, Bool, true, false, ◌||◌, List, [], ◌∷◌, ◌++◌, drop, Option, Some, None, refl, sym, ap, ◌∙◌, append_assoc}
 use Rattle.std.proofs.Math.Path.{fun_ext}
 use Rattle.std.proofs.lemmas.Bool.{eqb-true}
 use Rattle.std.specs.Prelude.{if◌then◌else◌, ◌==◌}
 use Rattle.std.specs.Option.{option_map}
-use Rattle.discovery_view.specs.Records.{records_of}
-use Rattle.discovery_view.specs.View.{Shown, count_in, records_in}
-use Rattle.discovery_view.proofs.Counts.{count_goes_on}
-use Rattle.nvt_config.specs.Configuration.{Configuration, disks_alone}
+use Rattle.nvt_config.specs.Configuration.{disks_alone}
 use Rattle.number_table.specs.Table.{place}
 use Rattle.number_table.proofs.Tables.{place-replicate}
 use Rattle.pdu_cut.specs.declared.side.Side.TheVariants.{Target}
@@ -17,48 +14,29 @@ use Rattle.pdu_cut.proofs.Streams.{begins_with_none, begins_with_taken}
 use Rattle.target_core.specs.Agreement.{Agrees, AgreesAfter, AgreesStill, AgreesWith, OutputAgrees, StreamAgrees, nothing}
 use Rattle.target_core.specs.Connection.{ConnectionState, fresh_on}
 use Rattle.target_decision.specs.Session.{opened_on}
-use Rattle.target_core.specs.Moves.{Moves, Stands, StandsIn, connection_after, connection_moved, ShowsAfter}
+use Rattle.target_core.specs.Moves.{Moves, Stands, StandsIn, connection_after, connection_moved}
 use Rattle.target_core.specs.Target.{TargetState, meets, IsNewTarget, world_at}
 use Rattle.target_decision.specs.declared.session.Conversation.{Conversation}
 use Rattle.target_decision.specs.Decision.{consumed_of}
 use Rattle.target_decision.specs.World.{Pages, World}
 use Rattle.target_history.specs.Event.{Event, edited, port_in, front_in, gives_up, opened, opens, steps, stepped, given_up}
 use Rattle.target_history.specs.Happening.{Happening, conversation_after, conversation_moved, sends}
-use Rattle.target_history.specs.History.{config_after, config_of, generation_after, generation_of, happened, last_front, pdus_of, sent, with_pdu, world_of}
+use Rattle.target_history.specs.History.{config_after, config_of, happened, last_front, pdus_of, sent, with_pdu, world_of}
 use Rattle.target_history.proofs.Steps.{conversation_step}
+use Rattle.target_core.proofs.Shows.{new_show, pages_agree, views_step}
 
 -- ---- the world
 
-worlds_same : (v w : World) → ((host : List ℕ) → v.pages.discovery host ≡ w.pages.discovery host)
-    → ((k : ℕ) → v.conversation k ≡ w.conversation k) → v ≡ w
+worlds_same : (v w : World) → v.pages ≡ w.pages → ((k : ℕ) → v.conversation k ≡ w.conversation k) → v ≡ w
 worlds_same v w pages conversations =
-    ap (λ (a : List ℕ → List ℕ). let p : Pages = record { discovery = a } in let u : World = record { pages = p; conversation = v.conversation } in u)
-    (fun_ext pages)
+    ap (λ (a : Pages). let u : World = record { pages = a; conversation = v.conversation } in u) pages
     ∙ ap (λ (a : ℕ → Option Conversation). let u : World = record { pages = w.pages; conversation = a } in u) (fun_ext conversations)
 
 -- what a decision may look at is what the history says
 pub world_agrees : (t : TargetState) (units : List ℕ) (before : List Happening) (received taken : ℕ → List ℕ)
     → AgreesWith t units before received taken → world_at t ≡ world_of units before
 world_agrees t units before received taken agrees =
-    worlds_same (world_at t) (world_of units before) (λ host. rw (agrees.counts host, agrees.records host) refl) agrees.conversation
-
--- ---- the discovery view
-
-counts_step : (event : Event) (old new : Shown) (c : Configuration) (n : ℕ) (host : List ℕ) → ShowsAfter event (config_after event c) old new
-    → records_in old host ≡ records_of c host → count_in old host ≡ n % 2 ^ 64
-    → count_in new host ≡ generation_after event c host n % 2 ^ 64
-counts_step (edited edit) old new c n host shows records counts =
-    shows.counts host ∙ rw (shows.records host, records, counts) (sym (count_goes_on c (config_after (edited edit) c) host n))
-counts_step (opened port k) old new c n host shows records counts = rw shows counts
-counts_step (stepped k found) old new c n host shows records counts = rw shows counts
-counts_step (given_up k) old new c n host shows records counts = rw shows counts
-
-records_step : (event : Event) (old new : Shown) (c : Configuration) (host : List ℕ) → ShowsAfter event (config_after event c) old new
-    → records_in old host ≡ records_of c host → records_in new host ≡ records_of (config_after event c) host
-records_step (edited edit) old new c host shows records = shows.records host
-records_step (opened port k) old new c host shows records = rw shows records
-records_step (stepped k found) old new c host shows records = rw shows records
-records_step (given_up k) old new c host shows records = rw shows records
+    worlds_same (world_at t) (world_of units before) (pages_agree t.shown units before agrees.shown) agrees.conversation
 
 -- ---- connections
 
@@ -138,12 +116,9 @@ moves_agree event old new moves = record {
       let met : meets old event ≡ x = ap (λ (w : World). let y : Happening = record { event = event; world = w } in y)
       (world_agrees old units before received taken agrees) in
       let config : new.config ≡ config_after event (config_of units before) = moves.config ∙ ap (config_after event) agrees.config in
-      let shows : ShowsAfter event (config_after event (config_of units before)) old.shown new.shown = rw config at moves.shown in
       record {
         config = config;
-        records = λ host. records_step event old.shown new.shown (config_of units before) host shows (agrees.records host);
-        counts = λ host. counts_step event old.shown new.shown (config_of units before) (generation_of units before host) host shows
-            (agrees.records host) (agrees.counts host);
+        shown = views_step x old.shown new.shown units before (rw config at moves.shown) agrees.shown;
         conversation = λ k. ap (option_map (λ (c : ConnectionState). c.conversation))
             (moves.connection k ∙ ap (λ (y : Happening). connection_after y k (place old.connections k)) met)
             ∙ moved_here x k (place old.connections k) ∙ ap (conversation_after x k) (agrees.conversation k)
@@ -163,8 +138,7 @@ same_agrees old new same = record { keeps = λ units events received taken agree
 pub new_agrees : (target : TargetState) (units : List ℕ) → IsNewTarget (disks_alone units) target → Agrees target units [] nothing nothing
 new_agrees target units fresh = record {
   config = fresh.config;
-  records = fresh.shown.records;
-  counts = fresh.shown.counts;
+  shown = new_show target.shown units fresh.shown;
   conversation = λ k. rw (fresh.connections, place-replicate 64 k) refl;
   stream = λ k. rw (fresh.streams, place-replicate 64 k) refl;
   output = λ k. rw (fresh.connections, place-replicate 64 k) (refl, refl);

@@ -118,8 +118,7 @@ receive_agrees old new k held bytes known receives =
     record {
       keeps = λ units events received taken agrees. rw receives (record {
         config = agrees.config;
-        records = agrees.records;
-        counts = agrees.counts;
+        shown = agrees.shown;
         conversation = agrees.conversation;
         stream = λ j. rw (place-with_value old.streams k (held ++ bytes) j within)
             (received_at (j == k) held bytes (place old.streams j) (pdus_of (happened units events) j) (last_front (happened units events) j) (received j)
@@ -172,8 +171,7 @@ taken_agrees old new k c n known takes =
     record {
       keeps = λ units events received taken agrees. rw takes (record {
         config = agrees.config;
-        records = agrees.records;
-        counts = agrees.counts;
+        shown = agrees.shown;
         conversation = λ j. rw (place-with_value old.connections k after j within)
             (conversation_stays (j == k) c n (place old.connections j) (λ is. ap (place old.connections) (eqb-true j k is) ∙ known)
             ∙ agrees.conversation j);

@@ -4,3 +4,4 @@ pub mod Fronts
 pub mod Moving
 pub mod Places
 pub mod Stepping
+pub mod Shows

@@ -4,17 +4,16 @@ use Rattle.std.specs.Prelude.{if◌then◌else◌, ◌==◌, is_none, position}
 use Rattle.std.specs.Option.{option_map}
 use Rattle.std.proofs.Math.Dec.{T, eqb_refl}
 use Rattle.std.proofs.lemmas.Bool.{eqb-true}
-use Rattle.discovery_view.specs.View.{Shown, ShowsNext}
 use Rattle.number_table.specs.Table.{place, with_value, without}
 use Rattle.number_table.proofs.Tables.{least_free-Some, place_within, place-map, place-with_value, place-without}
 use Rattle.nvt_config.specs.declared.edit.Edit.{Edit}
 use Rattle.nvt_config.specs.Accept.{accept}
-use Rattle.nvt_config.specs.Configuration.{Configuration}
 use Rattle.pdu_cut.specs.declared.side.Side.TheVariants.{Target}
 use Rattle.pdu_cut.specs.Front.{Front, front}
 use Rattle.target_core.specs.Connection.{ConnectionState, acted, fresh_on, settled}
 use Rattle.target_core.specs.Moves.{Moves, connection_moved}
 use Rattle.target_core.specs.Target.{TargetState, is_incomplete, meets, pages_at, world_at}
+use Rattle.target_core.specs.Views.{ShowNext}
 use Rattle.target_decision.specs.declared.decision.Decision.{Decision}
 use Rattle.target_decision.specs.declared.session.Session.TheVariants.{Ended}
 use Rattle.target_decision.specs.Decision.{decide, is_end, consumed_of}
@@ -76,14 +75,7 @@ stream_stays (Some held) = refl
 
 -- ---- an edit
 
--- a view that went over to what was planned shows the configuration that the edit made
-pub shows_made : (edit : Edit) (c planned made : Configuration) (old kept new : Shown) → accept c edit ≡ Ok planned → accept c edit ≡ Ok made
-    → kept ≡ old → ShowsNext planned kept new → ShowsNext made old new
-shows_made edit c planned made old kept new plans makes keeps shows =
-    let same : planned ≡ made = cc in
-    rw (← same, ← keeps) shows
-
-pub edit_moves : (old new : TargetState) (edit : Edit) → accept old.config edit ≡ Ok new.config → ShowsNext new.config old.shown new.shown
+pub edit_moves : (old new : TargetState) (edit : Edit) → accept old.config edit ≡ Ok new.config → ShowNext new.config old.shown new.shown
     → new.connections ≡ map (option_map (settled (ending_edited edit))) old.connections → new.streams ≡ old.streams
     → Moves (edited edit) old new
 edit_moves old new edit accepted shown connections streams = record {

@@ -6,16 +6,16 @@ use Rattle.std.proofs.lemmas.Bool.{eqb-true}
 use Rattle.number_table.specs.Table.{place, with_value, without}
 use Rattle.number_table.proofs.Tables.{least_free-Some, length-with_value, length-without, place_within, place-map, place-replicate, place-with_value, place-without}
 use Rattle.nvt_config.specs.Configuration.{Configuration}
-use Rattle.discovery_view.specs.View.{Shown}
 use Rattle.std.proofs.lemmas.List.{length-map}
 use Rattle.target_core.specs.Connection.{ConnectionState}
 use Rattle.target_core.specs.Target.{IsTarget, TargetState}
+use Rattle.target_core.specs.Views.{ViewsShown}
 
 -- the fact of the tables alone
 abbrev pub Alike : {A B : Type 0} → List (Option A) → List (Option B) → Type 0
 Alike streams connections = (k : ℕ) → is_none (place streams k) ≡ is_none (place connections k)
 
-pub new_is_target : (config : Configuration) (shown : Shown) (streams : List (Option (List ℕ))) (connections : List (Option ConnectionState))
+pub new_is_target : (config : Configuration) (shown : ViewsShown) (streams : List (Option (List ℕ))) (connections : List (Option ConnectionState))
     → streams ≡ replicate 64 None → connections ≡ replicate 64 None
     → IsTarget (record { config = config; shown = shown; streams = streams; connections = connections })
 new_is_target config shown streams connections no_stream no_connection = record {
@@ -100,7 +100,7 @@ mapped_none f None = refl
 mapped_none f (Some a) = refl
 
 -- all connections change
-pub map_is_target : (t : TargetState) (config : Configuration) (shown : Shown) (f : ConnectionState → ConnectionState) → IsTarget t
+pub map_is_target : (t : TargetState) (config : Configuration) (shown : ViewsShown) (f : ConnectionState → ConnectionState) → IsTarget t
     → IsTarget (record { config = config; shown = shown; streams = t.streams; connections = map (option_map f) t.connections })
 map_is_target t config shown f is = record {
   places = length-map t.connections (option_map f) ∙ is.places;

@@ -1,8 +1,6 @@
 -- What it means that a target agrees with a history, and with the bytes that each connection received
 -- and that were taken from it.
-use Rattle.std.specs.Prelude.{◌≡◌, ℕ, ◌%◌, ◌^◌, Bool, ◌==◌, ◌||◌, ◌&&◌, List, [], ◌∷◌, ◌++◌, Option, Some, None, Result, MatchOption, MatchResult, if◌then◌else◌, take}
-use Rattle.discovery_view.specs.Records.{records_of}
-use Rattle.discovery_view.specs.View.{count_in, records_in}
+use Rattle.std.specs.Prelude.{◌≡◌, ℕ, Bool, ◌==◌, ◌||◌, ◌&&◌, List, [], ◌∷◌, ◌++◌, Option, Some, None, Result, MatchOption, MatchResult, if◌then◌else◌, take}
 use Rattle.number_table.specs.Table.{place}
 use Rattle.nvt_config.specs.declared.edit.Edit.{Edit}
 use Rattle.nvt_config.specs.declared.fault.EditFault.{EditFault}
@@ -17,9 +15,10 @@ use Rattle.target_core.specs.declared.fault.Stepped.{Stepped}
 use Rattle.target_core.specs.declared.fault.Stepped.TheVariants.{Idle, One, Ended}
 use Rattle.target_core.specs.Connection.{ConnectionState}
 use Rattle.target_core.specs.Target.{TargetState, conversation_at}
+use Rattle.target_core.specs.Views.{ShowHistory}
 use Rattle.target_history.specs.Event.{Event, edited, gives_up, opened, opens, stepped, given_up}
 use Rattle.target_history.specs.Happening.{Happening}
-use Rattle.target_history.specs.History.{config_of, conversation_of, generation_of, happened, has_ended, is_known, last_front, pdus_of, sent}
+use Rattle.target_history.specs.History.{config_of, conversation_of, happened, has_ended, is_known, last_front, pdus_of, sent}
 
 -- what was found last, where it is a fault, stands at the front of the bytes that are held
 abbrev pub StandsAt : Front → List ℕ → Type 0
@@ -44,8 +43,7 @@ OutputAgrees (Some c) was_sent taken = was_sent ≡ taken ++ c.output
 -- as far as it says.
 pub record AgreesWith (t : TargetState) (units : List ℕ) (happened : List Happening) (received taken : ℕ → List ℕ) : Type 0 where
   pub config : t.config ≡ config_of units happened
-  pub records : (host : List ℕ) → records_in t.shown host ≡ records_of (config_of units happened) host
-  pub counts : (host : List ℕ) → count_in t.shown host ≡ generation_of units happened host % 2 ^ 64
+  pub shown : ShowHistory t.shown units happened
   pub conversation : (k : ℕ) → conversation_at t k ≡ conversation_of happened k
   pub stream : (k : ℕ) → StreamAgrees (place t.streams k) (pdus_of happened k) (last_front happened k) (received k)
   pub output : (k : ℕ) → OutputAgrees (place t.connections k) (sent happened k) (taken k)

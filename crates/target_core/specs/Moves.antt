@@ -1,9 +1,7 @@
 -- What an event makes of a target, place by place.
 use Rattle.std.specs.Prelude.{◌≡◌, ◌≤◌, ℕ, Bool, length, true, false, List, [], Option, Some, None, Result, Err, MatchResult, ◌++◌, drop, if◌then◌else◌}
 use Rattle.std.specs.Option.{option_map}
-use Rattle.discovery_view.specs.View.{Shown, ShowsNext}
 use Rattle.number_table.specs.Table.{place, with_value}
-use Rattle.nvt_config.specs.Configuration.{Configuration}
 use Rattle.pdu_cut.specs.declared.side.Side.TheVariants.{Target}
 use Rattle.pdu_cut.specs.Front.{Front, front}
 use Rattle.target_core.specs.declared.fault.StepFault.{StepFault}
@@ -12,17 +10,11 @@ use Rattle.target_core.specs.declared.fault.Stepped.{Stepped}
 use Rattle.target_core.specs.declared.fault.Stepped.TheVariants.{Idle, One, Ended}
 use Rattle.target_core.specs.Connection.{ConnectionState, fresh_on}
 use Rattle.target_core.specs.Target.{TargetState, is_idle, is_incomplete, meets}
+use Rattle.target_core.specs.Views.{ShowAfter}
 use Rattle.target_decision.specs.Decision.{consumed_of}
 use Rattle.target_history.specs.Event.{Event, edited, front_in, gives_up, opened, opens, port_in, steps, stepped, given_up}
 use Rattle.target_history.specs.Happening.{Happening, conversation_moved, sends, terminates}
 use Rattle.target_history.specs.History.{config_after}
-
--- what a view shows after an event, with the configuration after it
-abbrev pub ShowsAfter : Event → Configuration → Shown → Shown → Type 0
-ShowsAfter (edited edit) c old new = ShowsNext c old new
-ShowsAfter (opened port n) c old new = new ≡ old
-ShowsAfter (stepped n found) c old new = new ≡ old
-ShowsAfter (given_up n) c old new = new ≡ old
 
 abbrev pub connection_moved : Happening → ℕ → ConnectionState → ConnectionState
 connection_moved x k c = record { conversation = conversation_moved x k c.conversation; output = c.output ++ sends x k }
@@ -54,7 +46,7 @@ Stands (given_up n) t = Unit {0}
 pub record Moves (event : Event) (old new : TargetState) : Type 0 where
   pub stands : Stands event old
   pub config : new.config ≡ config_after event old.config
-  pub shown : ShowsAfter event new.config old.shown new.shown
+  pub shown : ShowAfter event new.config old.shown new.shown
   pub connection : (k : ℕ) → place new.connections k ≡ connection_after (meets old event) k (place old.connections k)
   pub stream : (k : ℕ) → place new.streams k ≡ stream_after event k (place old.streams k)
 

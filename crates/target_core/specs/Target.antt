@@ -1,7 +1,6 @@
 -- A target, as its calls see it.
 use Rattle.std.specs.Prelude.{◌≡◌, ℕ, ◌-◌, ◌==◌, Bool, true, false, ◌||◌, List, [], Option, Some, None, is_none, find, position, replicate, Result, Ok, IsErr, ◌++◌, min, length, take, drop, if◌then◌else◌}
 use Rattle.std.specs.Option.{option_map}
-use Rattle.discovery_view.specs.View.{Shown, ShowsFirst, page_in}
 use Rattle.number_table.specs.Table.{place, with_value, without}
 use Rattle.nvt_config.specs.Configuration.{Configuration}
 use Rattle.nvt_config.specs.declared.port.Port.{Port}
@@ -11,24 +10,25 @@ use Rattle.target_core.specs.declared.fault.NoConn.{NoConn}
 use Rattle.target_core.specs.declared.fault.OpenFault.{OpenFault}
 use Rattle.target_core.specs.declared.fault.OpenFault.TheVariants.{NoSuchPort, Full}
 use Rattle.target_core.specs.Connection.{ConnectionState}
+use Rattle.target_core.specs.Views.{ShowFirst, ViewsShown, pages_shown}
 use Rattle.target_decision.specs.declared.session.Conversation.{Conversation}
 use Rattle.target_decision.specs.Session.{is_ended}
 use Rattle.target_decision.specs.World.{Pages, World}
 use Rattle.target_history.specs.Event.{Event}
 use Rattle.target_history.specs.Happening.{Happening}
 
--- the configuration, what its discovery view shows, and of each connection that is known the bytes
+-- the configuration, what the views of it show, and of each connection that is known the bytes
 -- received and not consumed, and what else is known of it
 pub record TargetState : Type 0 where
   pub config : Configuration
-  pub shown : Shown
+  pub shown : ViewsShown
   pub streams : List (Option (List ℕ))
   pub connections : List (Option ConnectionState)
 
 -- this configuration, unchanged so far, and no connection of the 64 that there may be
 pub record IsNewTarget (c : Configuration) (t : TargetState) : Type 0 where
   pub config : t.config ≡ c
-  pub shown : ShowsFirst c t.shown
+  pub shown : ShowFirst c t.shown
   pub streams : t.streams ≡ replicate 64 None
   pub connections : t.connections ≡ replicate 64 None
 
@@ -51,7 +51,7 @@ world_of pages connections = record {
 }
 
 abbrev pub pages_at : TargetState → Pages
-pages_at t = record { discovery = page_in t.shown }
+pages_at t = pages_shown t.shown
 
 abbrev pub world_at : TargetState → World
 world_at t = record { pages = pages_at t; conversation = conversation_at t }

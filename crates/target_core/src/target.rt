@@ -18,7 +18,7 @@ use crate::connection::Connection;
 use crate::fault::{NoConn, OpenFault, StepFault, Stepped};
 use crate::settle::end_connections;
 use crate::stream::Stream;
-use discovery_view::DiscoveryView;
+use crate::views::Views;
 use number_table::NumberTable;
 use nvt_config::{Config, Edit, EditFault, NewFault};
 use pdu_cut::Cut;
@@ -33,26 +33,27 @@ use target_history::Ending;
 pub struct Target {
     alloc: Global,
     config: Config,
-    view: DiscoveryView,
+    views: Views,
     streams: NumberTable<Stream>,
     connections: NumberTable<Connection>,
 }
 
 impl Model for Target {
     ghost use Rattle.target_core.specs.Target.{IsTarget, TargetState};
+    ghost use Rattle.target_core.specs.Views.{shown_by};
 
     ghost Value = { TargetState };
 
     ghost view = { λ t. record {
       config = t.config;
-      shown = t.view.shown;
+      shown = shown_by t.views;
       streams = t.streams;
       connections = t.connections;
     } };
 
     ghost invariant = { λ t. IsTarget (record {
       config = t.config;
-      shown = t.view.shown;
+      shown = shown_by t.views;
       streams = t.streams;
       connections = t.connections;
     }) };
@@ -182,7 +183,7 @@ impl Target {
     {
         Ok(Target {
             alloc,
-            view: DiscoveryView::new(alloc, &config)?,
+            views: Views::new(alloc, &config)?,
             streams: NumberTable::new(alloc, CONNECTIONS_MAX)?,
             connections: NumberTable::new(alloc, CONNECTIONS_MAX)?,
             config,
@@ -198,10 +199,10 @@ impl Target {
         ensures err { OnErr result (self.new ≡ self.old) }
     {
         self.config.check(edit)?;
-        let plan = self.view.prepare(&self.config, edit)?;
+        let plans = self.views.prepare(&self.config, edit)?;
         let change = self.config.prepare(edit)?;
         self.config.commit(change);
-        self.view.commit(plan);
+        self.views.commit(plans);
         end_connections(&mut self.connections, &Ending::of_edit(edit));
         Ok(())
     }
@@ -273,9 +274,7 @@ impl Target {
         if is_incomplete(&front) {
             return Ok(Stepped::Idle);
         }
-        let pages = Pages {
-            discovery: &self.view,
-        };
+        let pages = self.views.pages();
         let decision = decide_on(&pages, &self.connections, connection, &front);
         let len = consumed_of(&front);
         match act(

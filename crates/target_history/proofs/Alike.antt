@@ -12,7 +12,6 @@ use Rattle.target_decision.specs.declared.controller.Controller.{Controller}
 use Rattle.target_decision.specs.declared.decision.Decision.{Decision}
 use Rattle.target_decision.specs.declared.decision.Decision.TheVariants as decision
 use Rattle.target_decision.specs.declared.page.Page.{Page}
-use Rattle.target_decision.specs.declared.page.Page.TheVariants.{Discovery}
 use Rattle.target_decision.specs.declared.page.PagePart.{PagePart}
 use Rattle.target_decision.specs.declared.session.Conversation.{Conversation}
 use Rattle.target_decision.specs.declared.session.Session.{Session}
@@ -25,29 +24,26 @@ use Rattle.target_decision.specs.LogPage.{page_of_lid, read_known, read_page}
 use Rattle.target_decision.specs.Outcome.{Outcome, refuse, refused}
 use Rattle.target_decision.specs.Registers.{is_ready}
 use Rattle.target_decision.specs.Session.{host_of, is_ended}
-use Rattle.target_decision.specs.World.{Pages, World, page_named}
+use Rattle.target_decision.specs.World.{Pages, World}
 use Rattle.nvt_fields.specs.Window.{window}
 use Rattle.target_history.specs.Event.{Event, front_in, gives_up, opens, steps}
 use Rattle.target_history.specs.Happening.{Happening, decided_on, sends, sends_on}
 use Rattle.target_history.specs.History.{sent}
-use Rattle.target_history.specs.Laws.{HappenedAlike, SentByOwnAlone, ShowAlike, host_at, is_of, own}
+use Rattle.target_history.specs.Laws.{AreAlikeFor, HappenedAlike, SentByOwnAlone, ShowAlike, host_at, is_of, own}
 
 -- ---- what is decided
 
-page_alike : (v w : Pages) (host : List ℕ) (page : Page) → v.discovery host ≡ w.discovery host → page_named page v host ≡ page_named page w host
-page_alike v w host Discovery h = h
-
-read_alike : (v w : Pages) (host entry : List ℕ) (page : Option Page) → v.discovery host ≡ w.discovery host
+read_alike : (v w : Pages) (host entry : List ℕ) (page : Option Page) → AreAlikeFor host v w
     → read_known page v host entry ≡ read_known page w host entry
 read_alike v w host entry None h = refl
-read_alike v w host entry (Some page) h = ap (λ (bytes : List ℕ). read_page page bytes entry) (page_alike v w host page h)
+read_alike v w host entry (Some page) h = ap (λ (bytes : List ℕ). read_page page bytes entry) (h page)
 
-admin_alike : (v w : Pages) (host entry : List ℕ) → v.discovery host ≡ w.discovery host → admin_command v host entry ≡ admin_command w host entry
+admin_alike : (v w : Pages) (host entry : List ℕ) → AreAlikeFor host v w → admin_command v host entry ≡ admin_command w host entry
 admin_alike v w host entry h =
     ap (λ (o : Outcome). if opcode_of entry == 0x02 then o else refused invalid_opcode)
     (read_alike v w host entry (page_of_lid (get_log_page_of entry).lid) h)
 
-queue_alike : (v w : Pages) (c : Controller) (entry : List ℕ) → v.discovery c.host ≡ w.discovery c.host
+queue_alike : (v w : Pages) (c : Controller) (entry : List ℕ) → AreAlikeFor c.host v w
     → queue_command v c entry ≡ queue_command w c entry
 queue_alike v w c entry h =
     ap (λ (o : Outcome). if opcode_of entry == 0x7F then fabrics_command c.registers entry else
@@ -60,14 +56,14 @@ first_alike v w entry bytes h =
     then connect free entry bytes else refused command_sequence_error) h
 
 in_alike : (v w : World) (s : Session) (entry bytes : List ℕ) → free_cntlid v.conversation ≡ free_cntlid w.conversation
-    → v.pages.discovery (host_of s) ≡ w.pages.discovery (host_of s) → command_in v s entry bytes ≡ command_in w s entry bytes
+    → AreAlikeFor (host_of s) v.pages w.pages → command_in v s entry bytes ≡ command_in w s entry bytes
 in_alike v w Opened entry bytes free page = first_alike v w entry bytes free
 in_alike v w Initialized entry bytes free page = first_alike v w entry bytes free
 in_alike v w (Admin c q) entry bytes free page = queue_alike v.pages w.pages c entry page
 in_alike v w Ended entry bytes free page = first_alike v w entry bytes free
 
 next_alike : (kind : PduType) (v w : World) (s : Session) (pdu : Pdu) → free_cntlid v.conversation ≡ free_cntlid w.conversation
-    → v.pages.discovery (host_of s) ≡ w.pages.discovery (host_of s) → next_by kind v s pdu ≡ next_by kind w s pdu
+    → AreAlikeFor (host_of s) v.pages w.pages → next_by kind v s pdu ≡ next_by kind w s pdu
 next_alike CapsuleCmd v w s pdu free page =
     ap (λ (o : Outcome). if nat_lt 8192 (length (data_part pdu)) then terminate LimitExceeded 0 else
     decision.Reply (reply_of s (cid_of (entry_of pdu)) (refuse (not (fuse_of (entry_of pdu) == 0)) invalid_field o)))
@@ -82,38 +78,38 @@ next_alike C2hData v w s pdu free page = refl
 next_alike R2t v w s pdu free page = refl
 
 pdu_alike : (v w : World) (s : Session) (pdu : Pdu) → free_cntlid v.conversation ≡ free_cntlid w.conversation
-    → v.pages.discovery (host_of s) ≡ w.pages.discovery (host_of s) → decide_pdu v s pdu ≡ decide_pdu w s pdu
+    → AreAlikeFor (host_of s) v.pages w.pages → decide_pdu v s pdu ≡ decide_pdu w s pdu
 pdu_alike v w Opened pdu free page = refl
 pdu_alike v w Initialized pdu free page = next_alike pdu.kind v w Initialized pdu free page
 pdu_alike v w (Admin c q) pdu free page = next_alike pdu.kind v w (Admin c q) pdu free page
 pdu_alike v w Ended pdu free page = refl
 
 decide_alike : (v w : World) (c : Conversation) (front : Front) → free_cntlid v.conversation ≡ free_cntlid w.conversation
-    → v.pages.discovery (host_of c.session) ≡ w.pages.discovery (host_of c.session) → decide v c front ≡ decide w c front
+    → AreAlikeFor (host_of c.session) v.pages w.pages → decide v c front ≡ decide w c front
 decide_alike v w c incomplete free page = refl
 decide_alike v w c (whole pdu) free page = pdu_alike v w c.session pdu free page
 decide_alike v w c (faulty fault head) free page = refl
 
 -- ---- what is sent
 
-part_alike : (v w : Pages) (host : List ℕ) (part : Option PagePart) → v.discovery host ≡ w.discovery host → part_of v host part ≡ part_of w host part
+part_alike : (v w : Pages) (host : List ℕ) (part : Option PagePart) → AreAlikeFor host v w → part_of v host part ≡ part_of w host part
 part_alike v w host None h = refl
-part_alike v w host (Some part) h = ap (λ (bytes : List ℕ). window bytes part.offset (4 * part.dwords)) (page_alike v w host part.page h)
+part_alike v w host (Some part) h = ap (λ (bytes : List ℕ). window bytes part.offset (4 * part.dwords)) (h part.page)
 
-data_alike : (v w : Pages) (s : Session) (d : Decision) → v.discovery (host_of s) ≡ w.discovery (host_of s) → data_of v s d ≡ data_of w s d
+data_alike : (v w : Pages) (s : Session) (d : Decision) → AreAlikeFor (host_of s) v w → data_of v s d ≡ data_of w s d
 data_alike v w s (decision.Reply r) h = part_alike v w (host_of s) r.«data» h
 data_alike v w s decision.Initialize h = refl
 data_alike v w s (decision.Terminate t) h = refl
 data_alike v w s decision.Close h = refl
 
 on_alike : (v w : World) (c : Conversation) (d : Option Decision) (front : Front)
-    → v.pages.discovery (host_of c.session) ≡ w.pages.discovery (host_of c.session)
+    → AreAlikeFor (host_of c.session) v.pages w.pages
     → sends_on v (Some c) d front ≡ sends_on w (Some c) d front
 on_alike v w c None front page = refl
 on_alike v w c (Some d) front page = ap (wire_of d (head_of front)) (data_alike v.pages w.pages c.session d page)
 
 sends_by : (stepping : Bool) (v w : World) (o : Option Conversation) (front : Front) → free_cntlid v.conversation ≡ free_cntlid w.conversation
-    → v.pages.discovery (host_at o) ≡ w.pages.discovery (host_at o)
+    → AreAlikeFor (host_at o) v.pages w.pages
     → sends_on v o (if stepping then decided_on v o front else None) front ≡ sends_on w o (if stepping then decided_on w o front else None) front
 sends_by stepping v w None front free page = refl
 sends_by false v w (Some c) front free page = refl
@@ -124,7 +120,7 @@ sends_by true v w (Some c) front free page =
 sends_alike : (event : Event) (v w : World) (k : ℕ) → ShowAlike v w k
     → sends (record { event = event; world = v }) k ≡ sends (record { event = event; world = w }) k
 sends_alike event v w k shows =
-    rw (← shows.conversation) (sends_by (steps event k) v w (v.conversation k) (front_in event) shows.free shows.page)
+    rw (← shows.conversation) (sends_by (steps event k) v w (v.conversation k) (front_in event) shows.free shows.pages)
 
 alike_sent : (g h : List Happening) (k : ℕ) → HappenedAlike g h k → sent g k ≡ sent h k
 alike_sent [] [] k alike = refl

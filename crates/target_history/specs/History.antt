@@ -18,7 +18,7 @@ use Rattle.target_decision.specs.declared.session.Session.{Session}
 use Rattle.target_decision.specs.declared.session.Session.TheVariants.{Opened, Initialized, Admin, Ended}
 use Rattle.target_decision.specs.Decision.{host_in}
 use Rattle.target_decision.specs.Registers.{configured, registers_at_connect}
-use Rattle.target_decision.specs.World.{World}
+use Rattle.target_decision.specs.World.{Pages, World}
 use Rattle.target_history.specs.Event.{Event, edited, front_in, gives_up, opened, opens, port_in, steps, stepped, given_up}
 use Rattle.target_history.specs.Happening.{Happening, ends, initializes, own_change, responses, sends}
 
@@ -55,6 +55,10 @@ generation_of units (x ∷ before) host = generation_after x.event (config_of un
 
 abbrev pub page_of : List ℕ → List Happening → List ℕ → List ℕ
 page_of units happened host = discovery_page (generation_of units happened host % 2 ^ 64) (records_of (config_of units happened) host)
+
+-- the log pages; a further one is a field more
+abbrev pub pages_of : List ℕ → List Happening → Pages
+pages_of units happened = record { discovery = page_of units happened }
 
 -- ---- connections (TCP Transport 1.0, section 3)
 
@@ -170,7 +174,7 @@ sent (x ∷ before) k = if opens x.event k || gives_up x.event k then [] else se
 
 abbrev pub world_of : List ℕ → List Happening → World
 world_of units happened = record {
-  pages = record { discovery = page_of units happened };
+  pages = pages_of units happened;
   conversation = conversation_of happened;
 }
 

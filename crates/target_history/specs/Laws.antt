@@ -4,11 +4,12 @@ use Rattle.nvt_config.specs.declared.edit.Edit.TheVariants.{PortDel}
 use Rattle.pdu_cut.specs.Front.{Front, incomplete, whole, faulty}
 use Rattle.target_decision.specs.declared.decision.Decision.TheVariants as decision
 use Rattle.target_decision.specs.declared.decision.Reply.{Reply}
+use Rattle.target_decision.specs.declared.page.Page.{Page}
 use Rattle.target_decision.specs.declared.session.Conversation.{Conversation}
 use Rattle.target_decision.specs.Controllers.{free_cntlid}
 use Rattle.target_decision.specs.Decision.{is_command}
 use Rattle.target_decision.specs.Session.{host_of}
-use Rattle.target_decision.specs.World.{World}
+use Rattle.target_decision.specs.World.{Pages, World, page_named}
 use Rattle.target_history.specs.Event.{Event, edited, front_in, gives_up, opened, opens, steps, stepped, given_up}
 use Rattle.target_history.specs.Happening.{Happening, decided, responses}
 use Rattle.target_history.specs.History.{Beginning, beginning_of, conversation_of, happened, has_ended, is_known, page_of, port_of, responses_since, sent}
@@ -79,11 +80,15 @@ abbrev pub host_at : Option Conversation → List ℕ
 host_at None = []
 host_at (Some v) = host_of v.session
 
--- two worlds show connection k the same: itself, the identifier that is free, and its own host's page
+-- each log page is the same for this host
+abbrev pub AreAlikeFor : List ℕ → Pages → Pages → Type 0
+AreAlikeFor host v w = (page : Page) → page_named page v host ≡ page_named page w host
+
+-- two worlds show connection k the same: itself, the identifier that is free, and its own host's pages
 pub record ShowAlike (v w : World) (k : ℕ) : Type 0 where
   pub conversation : v.conversation k ≡ w.conversation k
   pub free : free_cntlid v.conversation ≡ free_cntlid w.conversation
-  pub page : v.pages.discovery (host_at (v.conversation k)) ≡ w.pages.discovery (host_at (v.conversation k))
+  pub pages : AreAlikeFor (host_at (v.conversation k)) v.pages w.pages
 
 -- the same events, each in a world that shows connection k the same
 abbrev pub HappenedAlike : List Happening → List Happening → ℕ → Type 0

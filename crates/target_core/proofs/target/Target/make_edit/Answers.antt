@@ -1,7 +1,8 @@
 use Rattle.std.proofs.Common.{Ok, refl, ap, sym, ◌∙◌}
 use Rattle.target_core.specs.contracts.target.Target.{the_view}
-use Rattle.target_core.proofs.Moving.{edit_moves, shows_made}
+use Rattle.target_core.proofs.Moving.{edit_moves}
 use Rattle.target_core.proofs.Places.{map_is_target}
+use Rattle.target_core.proofs.Shows.{planned_next}
 use Rattle.target_core.proofs.target.Target.make_edit.Goals as goal
 
 pub invariant_of-self-2 : goal.invariant_of-self-2
@@ -12,5 +13,5 @@ returns-clause-moves c =
     let makes = c.in_ok-change.ensures.makes ∙ ap Ok (sym c.commit.ensures) in
     rw (← c.self.view_is)
     (edit_moves (the_view c.self.inside) _ c.args.edit.now makes
-    (shows_made c.args.edit.now c.self.inside.config _ _ _ _ _ c.in_ok-plan.ensures.plan makes c.prepare.ensures.kept c.commit-2.ensures)
+    (planned_next _ _ _ _ _ c.in_ok-plans.ensures.plans makes (rw c.prepare.ensures.kept at c.commit-2.ensures))
     (rw c.of_edit.ensures at c.end_connections.ensures) refl)

@@ -1,0 +1,52 @@
+-- The views go on as the history does.
+use Rattle.std.proofs.Common.{◌≡◌, ℕ, List, [], ◌∷◌, Result, Ok, refl, sym, ap, ◌∙◌}
+use Rattle.std.proofs.Math.Path.{fun_ext}
+use Rattle.discovery_view.proofs.Counts.{count_goes_on}
+use Rattle.nvt_config.specs.Configuration.{Configuration, disks_alone}
+use Rattle.nvt_config.specs.declared.fault.EditFault.{EditFault}
+use Rattle.target_core.specs.declared.views.Plans.{Plans}
+use Rattle.target_core.specs.Views.{ArePlansOf, ShowAfter, ShowFirst, ShowHistory, ShowNext, ShowPlanned, ViewsShown, pages_shown}
+use Rattle.target_decision.specs.World.{Pages}
+use Rattle.target_history.specs.Event.{Event, edited, opened, stepped, given_up}
+use Rattle.target_history.specs.Happening.{Happening}
+use Rattle.target_history.specs.History.{config_after, config_of, generation_of, pages_of}
+
+-- what was planned is what the edit makes
+pub planned_next : (made : Result Configuration EditFault) (plans : Plans) (c : Configuration) (old new : ViewsShown)
+    → ArePlansOf made plans → made ≡ Ok c → ShowPlanned plans old new → ShowNext c old new
+planned_next made plans c old new are makes planned =
+    let same : plans.discovery ≡ c = cc in
+    record { discovery = rw same at planned.discovery }
+
+-- the pages of views that show a history
+pub pages_agree : (v : ViewsShown) (units : List ℕ) (before : List Happening) → ShowHistory v units before → pages_shown v ≡ pages_of units before
+pages_agree v units before show =
+    ap (λ (a : List ℕ → List ℕ). let p : Pages = record { discovery = a } in p)
+    (fun_ext (λ host. rw (show.counts host, show.records host) refl))
+
+stays : (old new : ViewsShown) (units : List ℕ) (before after : List Happening) → config_of units after ≡ config_of units before
+    → generation_of units after ≡ generation_of units before → new ≡ old → ShowHistory old units before → ShowHistory new units after
+stays old new units before after config generation same show =
+    rw same (record {
+      records = λ host. rw config (show.records host);
+      counts = λ host. rw generation (show.counts host);
+    })
+
+-- one more event
+pub views_step : (x : Happening) (old new : ViewsShown) (units : List ℕ) (before : List Happening)
+    → ShowAfter x.event (config_of units (x ∷ before)) old new → ShowHistory old units before → ShowHistory new units (x ∷ before)
+views_step x old new units before after show = by x.event after where
+  by : (event : Event) → ShowAfter event (config_after event (config_of units before)) old new
+      → ShowHistory new units (record { event = event; world = x.world } ∷ before)
+  by (edited edit) after = record {
+    records = λ host. after.discovery.records host;
+    counts = λ host. after.discovery.counts host
+        ∙ rw (after.discovery.records host, show.records host, show.counts host)
+        (sym (count_goes_on (config_of units before) (config_after (edited edit) (config_of units before)) host (generation_of units before host)));
+  }
+  by (opened port k) after = stays old new units before (record { event = opened port k; world = x.world } ∷ before) refl refl after show
+  by (stepped k found) after = stays old new units before (record { event = stepped k found; world = x.world } ∷ before) refl refl after show
+  by (given_up k) after = stays old new units before (record { event = given_up k; world = x.world } ∷ before) refl refl after show
+
+pub new_show : (v : ViewsShown) (units : List ℕ) → ShowFirst (disks_alone units) v → ShowHistory v units []
+new_show v units first = record { records = first.discovery.records; counts = first.discovery.counts }

@@ -1,0 +1,56 @@
+-- The views that log pages are written from, as the target sees them.
+use Rattle.std.specs.Prelude.{◌≡◌, ◌≤◌, ℕ, ◌%◌, ◌^◌, List, Result, Ok}
+use Rattle.discovery_view.specs.Records.{records_of}
+use Rattle.discovery_view.specs.View.{Shown, ShowsFirst, ShowsNext, count_in, page_in, records_in}
+use Rattle.nvt_config.specs.Configuration.{Configuration}
+use Rattle.nvt_config.specs.declared.fault.EditFault.{EditFault}
+use Rattle.target_core.specs.declared.views.Plans.{Plans}
+use Rattle.target_core.specs.declared.views.Views.{Views}
+use Rattle.target_decision.specs.World.{Pages}
+use Rattle.target_history.specs.Event.{Event, edited, opened, stepped, given_up}
+use Rattle.target_history.specs.Happening.{Happening}
+use Rattle.target_history.specs.History.{config_of, generation_of}
+
+-- what each view shows; a further log page is a field more, here and below
+pub record ViewsShown : Type 0 where
+  pub discovery : Shown
+
+abbrev pub shown_by : Views → ViewsShown
+shown_by v = record { discovery = v.discovery.shown }
+
+-- the log pages of each host
+abbrev pub pages_shown : ViewsShown → Pages
+pages_shown v = record { discovery = page_in v.discovery }
+
+-- they show this configuration, which no edit has changed yet
+pub record ShowFirst (c : Configuration) (v : ViewsShown) : Type 0 where
+  pub discovery : ShowsFirst c v.discovery
+
+-- they have gone over to this configuration, which an edit made
+pub record ShowNext (c : Configuration) (old new : ViewsShown) : Type 0 where
+  pub discovery : ShowsNext c old.discovery new.discovery
+
+-- these are the plans of going over to what an edit makes
+pub record ArePlansOf (made : Result Configuration EditFault) (plans : Plans) : Type 0 where
+  pub discovery : made ≡ Ok plans.discovery
+
+-- all that a plan wants of memory is there
+pub record AreReady (v : Views) : Type 0 where
+  pub discovery : 1 ≤ v.discovery.room
+
+-- they have gone over to what was planned
+pub record ShowPlanned (plans : Plans) (old new : ViewsShown) : Type 0 where
+  pub discovery : ShowsNext plans.discovery old.discovery new.discovery
+
+-- what they show after an event, with the configuration after it: it changes by edits alone
+abbrev pub ShowAfter : Event → Configuration → ViewsShown → ViewsShown → Type 0
+ShowAfter (edited edit) c old new = ShowNext c old new
+ShowAfter (opened port n) c old new = new ≡ old
+ShowAfter (stepped n found) c old new = new ≡ old
+ShowAfter (given_up n) c old new = new ≡ old
+
+-- they show what a history says: the discovery view each host the records of the configuration, and the
+-- number of the edits that changed them
+pub record ShowHistory (v : ViewsShown) (units : List ℕ) (happened : List Happening) : Type 0 where
+  pub records : (host : List ℕ) → records_in v.discovery host ≡ records_of (config_of units happened) host
+  pub counts : (host : List ℕ) → count_in v.discovery host ≡ generation_of units happened host % 2 ^ 64
