@@ -5,9 +5,7 @@ mod outline;
 mod refusals;
 
 use nvt_config::config::accepted_stays_valid;
-use nvt_config::{
-    Access, Config, EditFault, Entry, Family, NewFault, Port, Subsystem, Text, Value,
-};
+use nvt_config::{Access, Config, EditFault, Family, Item, NewFault, Port, Subsystem, Text, Value};
 use outline::has_lists;
 use std::alloc::{AllocError, Global};
 use std::fmt::Display;
@@ -37,7 +35,7 @@ const FILLED: &[Line<'static>] = &[
 /// What a test does with a configuration.
 #[derive(Clone, Copy)]
 enum Script {
-    Entries,
+    Items,
     Copy,
     Names,
     Sets,
@@ -68,7 +66,7 @@ fn runs(alloc: Global, config: &mut Config, script: Script) -> bool {
 
 fn runs_filled(alloc: Global, config: &mut Config, script: Script) -> bool {
     match script {
-        Script::Entries => has_entries(config),
+        Script::Items => has_items(config),
         Script::Copy => is_copied(config),
         Script::Names => finds_by_name(config),
         Script::Sets => effects::are_sets_made(alloc, config),
@@ -88,13 +86,13 @@ fn is_filled(alloc: Global, config: &mut Config) -> bool {
     true
 }
 
-fn has_entries(config: &Config) -> bool {
+fn has_items(config: &Config) -> bool {
     config.units() == DISKS && has_lists(config, b" a b c 1:4420 2:4420 3:4420 1a 1b 2b h (i) j")
 }
 
 #[test]
-fn adds_entries(rt: HostRuntime) {
-    assert!(rt; holds(rt.alloc(), Script::Entries));
+fn adds_items(rt: HostRuntime) {
+    assert!(rt; holds(rt.alloc(), Script::Items));
     accepted_stays_valid();
 }
 
@@ -142,7 +140,7 @@ fn finds_by_name(config: &Config) -> bool {
 }
 
 #[test]
-fn finds_entries_by_name(rt: HostRuntime) {
+fn finds_items_by_name(rt: HostRuntime) {
     assert!(rt; holds(rt.alloc(), Script::Names));
 }
 
@@ -193,15 +191,15 @@ const REPLIES: &[(EditFault, &str)] = &[
         "refused BadValue Service",
     ),
     (
-        EditFault::NoSuch(Entry::Subsystem),
+        EditFault::NoSuch(Item::Subsystem),
         "refused NoSuch Subsystem",
     ),
-    (EditFault::NoSuch(Entry::Port), "refused NoSuch Port"),
-    (EditFault::NoSuch(Entry::Link), "refused NoSuch Link"),
-    (EditFault::NoSuch(Entry::Host), "refused NoSuch Host"),
-    (EditFault::Exists(Entry::Port), "refused Exists Port"),
-    (EditFault::InUse(Entry::Link), "refused InUse Link"),
-    (EditFault::Full(Entry::Host), "refused Full Host"),
+    (EditFault::NoSuch(Item::Port), "refused NoSuch Port"),
+    (EditFault::NoSuch(Item::Link), "refused NoSuch Link"),
+    (EditFault::NoSuch(Item::Host), "refused NoSuch Host"),
+    (EditFault::Exists(Item::Port), "refused Exists Port"),
+    (EditFault::InUse(Item::Link), "refused InUse Link"),
+    (EditFault::Full(Item::Host), "refused Full Host"),
     (EditFault::Memory, "memory"),
 ];
 

@@ -82,7 +82,7 @@ fn is_host_copied(host: &Host) -> Result<bool, AllocError> {
     Ok(copy.nqn == host.nqn)
 }
 
-fn entries_are_copied(config: &Config) -> Result<bool, AllocError> {
+fn items_are_copied(config: &Config) -> Result<bool, AllocError> {
     let mut are_copied = true;
     for subsystem in config.subsystems() {
         are_copied &= is_subsystem_copied(subsystem)?;
@@ -108,7 +108,7 @@ fn uses_are_copied(config: &Config) -> Result<bool, AllocError> {
 fn use_config(rt: &impl Abort, alloc: Global, config: &mut Config, refused: &mut u32) {
     edits_are_made(rt, alloc, config, refused);
     assert!(rt; is_edited(config));
-    again!(rt, *refused, AllocError, entries_are_copied(config));
+    again!(rt, *refused, AllocError, items_are_copied(config));
     again!(rt, *refused, AllocError, uses_are_copied(config));
 }
 

@@ -94,7 +94,7 @@ is_plan c v edit plan change same ok is makes room valid =
       };
     })
 
--- what no refusal of a missing entry stops is there
+-- what no refusal of a missing item stops is there
 there : {T E : Type 0} (test : Bool) (fault : E) (next : Result T E) → IsOk (refuse (not test) fault next) → test ≡ true
 there true fault next ok = refl
 there false fault next ok = cc

@@ -8,7 +8,7 @@ use Rattle.std.specs.Str.{bytes_eq}
 use Rattle.nvt_config.specs.declared.host.Host.{Host}
 use Rattle.nvt_config.specs.declared.link.Link.{Link}
 use Rattle.nvt_config.specs.Configuration.{Configuration, IsLink, IsValid, has_subsystem, has_port, has_link, with_link, without_link}
-use Rattle.nvt_config.proofs.Lists.{no_entry}
+use Rattle.nvt_config.proofs.Lists.{no_item}
 use Rattle.nvt_config.proofs.Names.{bytes_eq-same}
 
 -- where a link leads hangs on the ports and the subsystems alone
@@ -26,7 +26,7 @@ IsValid-with_link c link valid port subsystem absent = record {
     distinct = all_pairs_push (λ k l. ¬ ((k.port ≡ l.port) × (k.subsystem ≡ l.subsystem))) c.links link valid.links.distinct (λ k d below same.
         let old : Link = get_or c.links k d in
         both_ways (old.port == link.port && bytes_eq old.subsystem link.subsystem)
-        (no_entry (λ l. l.port == link.port && bytes_eq l.subsystem link.subsystem) c.links k d absent below)
+        (no_item (λ l. l.port == link.port && bytes_eq l.subsystem link.subsystem) c.links k d absent below)
         (and_from (old.port == link.port) (bytes_eq old.subsystem link.subsystem) (eq-eqb old.port link.port same.0) (bytes_eq-same old.subsystem link.subsystem same.1)));
   };
   hosts = valid.hosts;

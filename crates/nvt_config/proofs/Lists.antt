@@ -1,4 +1,4 @@
--- What a change of a list at the entries that a test names keeps.
+-- What a change of a list at the items that a test names keeps.
 use Rattle.std.proofs.Common.{◌≡◌, ◌≢◌, ℕ, ◌+◌, ◌<◌, ◌≤◌, Bool, true, false, not, cond, Some, None, List, [], ◌∷◌, ◌++◌, length, get_or, take, drop, map, All, AllPairs, nat_lt, position, refl, ap, sym, ◌∙◌, subst, arith, inl, inr}
 use Rattle.std.proofs.Math.ListN.{set}
 use Rattle.std.proofs.Math.Seq.{take-append_seam}
@@ -14,7 +14,7 @@ use Rattle.std.proofs.lemmas.List.Sums.{fails_before_first, length-filter, count
 use Rattle.std.specs.List.{list_any, position_or_len}
 use Rattle.nvt_config.specs.Lists.{changed_where, without}
 
--- where there is no first entry that passes, each fails
+-- where there is no first item that passes, each fails
 no_place : {X : Type 0} (test : X → Bool) (xs : List X) (k : ℕ) (d : X) → position test xs ≡ None → k < length xs → test (get_or xs k d) ≡ false
 no_place test xs k d none below =
     let first : ℕ = position_or_len test xs in
@@ -25,11 +25,11 @@ no_place test xs k d none below =
       | inr past ↦ fails_before_first test xs k d (omega arith)
     ]
 
--- what a change of an entry comes to
+-- what a change of an item comes to
 abbrev entry_after : {X : Type 0} → (X → Bool) → (X → X) → X → X
 entry_after test change x = cond (test x) (change x) x
 
--- one more entry of a loop that changes those that pass: this one does
+-- one more item of a loop that changes those that pass: this one does
 pub changed_where_more : {X : Type 0} (test : X → Bool) (change : X → X) (xs ys : List X) (i : ℕ) (x : X) → i < length xs → ys ≡ changed_where test change (take i xs) ++ drop i xs → x ≡ get_or ys i x → test x ≡ true → set ys i (change x) ≡ changed_where test change (take (i + 1) xs) ++ drop (i + 1) xs
 changed_where_more test change xs ys i x below so_far read passes =
     subst (λ v. set ys i v ≡ changed_where test change (take (i + 1) xs) ++ drop (i + 1) xs) (cond-true (test x) (change x) x passes) (map_over_more (entry_after test change) xs ys i x below so_far read)
@@ -39,16 +39,16 @@ pub changed_where_past : {X : Type 0} (test : X → Bool) (change : X → X) (xs
 changed_where_past test change xs ys i x below so_far read fails =
     subst (λ v. set ys i v ≡ changed_where test change (take (i + 1) xs) ++ drop (i + 1) xs) (cond-false (test x) (change x) x fails) (map_over_more (entry_after test change) xs ys i x below so_far read)
 
--- a test that finds no entry fails at each
-pub no_entry : {X : Type 0} (test : X → Bool) (xs : List X) (k : ℕ) (d : X) → list_any test xs ≡ false → k < length xs → test (get_or xs k d) ≡ false
-no_entry test xs k d none below =
+-- a test that finds no item fails at each
+pub no_item : {X : Type 0} (test : X → Bool) (xs : List X) (k : ℕ) (d : X) → list_any test xs ≡ false → k < length xs → test (get_or xs k d) ≡ false
+no_item test xs k d none below =
     elim (cases_Bool (test (get_or xs k d))) [ inl passes ↦ absurd (both_ways (list_any test xs) none (list_any_at test xs k d below passes)) | inr fails ↦ fails ]
 
 pub All-changed_where : {X : Type 0} (P : X → Type 0) (test : X → Bool) (change : X → X) → ((x : X) → P x → P (change x)) → (xs : List X) → All P xs → All P (changed_where test change xs)
 All-changed_where P test change keeps xs all =
     All-map P (entry_after test change) xs (All-weaker P (λ x. P (entry_after test change x)) (λ x here. cond_both (test x) (change x) x P (λ _. keeps x here) (λ _. here)) xs all)
 
--- where a change keeps the key, the key of each entry is as it was
+-- where a change keeps the key, the key of each item is as it was
 key_after : {X K : Type 0} (key : X → K) (test : X → Bool) (change : X → X) → ((x : X) → test x ≡ true → key (change x) ≡ key x) → (x : X) → key (entry_after test change x) ≡ key x
 key_after key test change keeps x = cond_both (test x) (change x) x (λ y. key y ≡ key x) (keeps x) (λ _. refl)
 
@@ -61,17 +61,17 @@ distinct-changed_where {X = X} {K = K} key test change keeps xs distinct i j d l
     let at_second : key (get_or (map f xs) j d) ≡ key (get_or xs j d) = ap key (get_or-map f xs j d d second) ∙ key_after key test change keeps (get_or xs j d) in
     distinct i j d less second (sym at_first ∙ same ∙ at_second)
 
--- a test that cannot tell an entry from what it becomes finds what it found
+-- a test that cannot tell an item from what it becomes finds what it found
 pub list_any-changed_where : {X : Type 0} (p test : X → Bool) (change : X → X) → ((x : X) → test x ≡ true → p (change x) ≡ p x) → (xs : List X) → list_any p (changed_where test change xs) ≡ list_any p xs
 list_any-changed_where p test change keeps [] = refl
 list_any-changed_where p test change keeps (x ∷ xs) =
     rw (key_after p test change keeps x, list_any-changed_where p test change keeps xs) refl
 
--- a test that finds no entry that goes finds what it found
+-- a test that finds no item that goes finds what it found
 pub list_any-without : {X : Type 0} (p test : X → Bool) → ((x : X) → p x ≡ true → test x ≡ false) → (xs : List X) → list_any p (without test xs) ≡ list_any p xs
 list_any-without p test others xs = any-filter_same p (λ x. not (test x)) true (λ x found. not_from_false (test x) (others x found)) xs
 
--- where no two entries pass, a write at the first that passes changes each
+-- where no two items pass, a write at the first that passes changes each
 pub set-changed_where : {X : Type 0} (test : X → Bool) (y : X) (xs : List X) (i : ℕ) → position test xs ≡ Some i → AllPairs (λ a b. test a ≡ true → test b ≡ false) xs → set xs i y ≡ changed_where test (λ _. y) xs
 set-changed_where {X = X} test y xs i found alone =
     let f : X → X = entry_after test (λ _. y) in
@@ -88,7 +88,7 @@ set-changed_where {X = X} test y xs i found alone =
           get_or-set_other xs i k y y other ∙ sym (mapped ∙ cond-false (test (get_or xs k y)) y (get_or xs k y) fails)
     ])
 
--- where no entry passes, nothing changes
+-- where no item passes, nothing changes
 pub changed_where_none : {X : Type 0} (test : X → Bool) (change : X → X) (xs : List X) → position test xs ≡ None → changed_where test change xs ≡ xs
 changed_where_none test change xs none =
     map_fixed (entry_after test change) xs (λ k d below. cond-false (test (get_or xs k d)) (change (get_or xs k d)) (get_or xs k d) (no_place test xs k d none below))

@@ -10,7 +10,7 @@ use Rattle.nvt_config.specs.declared.link.Link.{Link}
 use Rattle.nvt_config.specs.declared.port.Port.{Port}
 use Rattle.nvt_config.specs.Port.{is_port}
 use Rattle.nvt_config.specs.Configuration.{Configuration, IsLink, IsValid, has_port, with_port, with_port_set, without_port, is_port_linked}
-use Rattle.nvt_config.proofs.Lists.{no_entry, length-without, length-changed_where, All-changed_where, distinct-changed_where, list_any-changed_where, list_any-without}
+use Rattle.nvt_config.proofs.Lists.{no_item, length-without, length-changed_where, All-changed_where, distinct-changed_where, list_any-changed_where, list_any-without}
 
 kept_port : (c : Configuration) (port : Port) (id : ℕ) → has_port c id ≡ true → has_port (with_port c port) id ≡ true
 kept_port c port id there =
@@ -18,7 +18,7 @@ kept_port c port id there =
 
 new_number : (c : Configuration) (id : ℕ) → has_port c id ≡ false → (k : ℕ) (d : Port) → k < length c.ports → (get_or c.ports k d).id ≢ id
 new_number c id absent k d below same =
-    both_ways ((get_or c.ports k d).id == id) (no_entry (λ p. p.id == id) c.ports k d absent below) (eq-eqb (get_or c.ports k d).id id same)
+    both_ways ((get_or c.ports k d).id == id) (no_item (λ p. p.id == id) c.ports k d absent below) (eq-eqb (get_or c.ports k d).id id same)
 
 pub IsValid-with_port : (c : Configuration) (port : Port) → IsValid c → IsTrue (is_port port) → has_port c port.id ≡ false → nat_le 16 (length c.ports) ≡ false → IsValid (with_port c port)
 IsValid-with_port c port valid sound absent room = record {
@@ -76,7 +76,7 @@ IsValid-without_port c id valid free =
       links = record {
         sound = λ k d below.
             let link : Link = get_or c.links k d in
-            let differ : (link.port == id) ≡ false = no_entry (λ l. l.port == id) c.links k d free below in
+            let differ : (link.port == id) ≡ false = no_item (λ l. l.port == id) c.links k d free below in
             let leads : IsLink c link = valid.links.sound k d below in
             record {
               port = list_any-without (λ p. p.id == link.port) numbered (λ p same. other_number p.id id link.port differ same) c.ports ∙ leads.port;

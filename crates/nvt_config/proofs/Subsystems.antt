@@ -12,7 +12,7 @@ use Rattle.nvt_config.specs.declared.subsystem.Access.{Access}
 use Rattle.nvt_config.specs.declared.subsystem.Subsystem.{Subsystem}
 use Rattle.nvt_config.specs.Subsystem.{is_subsystem}
 use Rattle.nvt_config.specs.Configuration.{Configuration, IsLink, IsValid, has_subsystem, with_subsystem, with_access, without_subsystem, is_subsystem_linked}
-use Rattle.nvt_config.proofs.Lists.{no_entry, length-without, length-changed_where, All-changed_where, distinct-changed_where, list_any-changed_where, list_any-without}
+use Rattle.nvt_config.proofs.Lists.{no_item, length-without, length-changed_where, All-changed_where, distinct-changed_where, list_any-changed_where, list_any-without}
 use Rattle.nvt_config.proofs.Names.{same_name, new_name}
 
 -- a subsystem is found where it was found, and a new one where its name is asked for
@@ -76,7 +76,7 @@ IsValid-without_subsystem c nqn valid free =
       links = record {
         sound = λ k d below.
             let link : Link = get_or c.links k d in
-            let differ : bytes_eq link.subsystem nqn ≡ false = no_entry (λ l. bytes_eq l.subsystem nqn) c.links k d free below in
+            let differ : bytes_eq link.subsystem nqn ≡ false = no_item (λ l. bytes_eq l.subsystem nqn) c.links k d free below in
             let leads : IsLink c link = valid.links.sound k d below in
             record {
               port = leads.port;

@@ -5,7 +5,7 @@ use Rattle.nvt_config.specs.declared.edit.Edit.TheVariants.{SubsystemAdd, Subsys
 use Rattle.nvt_config.specs.declared.fault.EditFault.{EditFault}
 use Rattle.nvt_config.specs.declared.fault.EditFault.TheVariants.{BadValue, NoSuch, Exists, InUse, Full}
 use Rattle.nvt_config.specs.declared.fault.Value.TheVariants as value
-use Rattle.nvt_config.specs.declared.fault.Entry.TheVariants as entry
+use Rattle.nvt_config.specs.declared.fault.Item.TheVariants as item
 use Rattle.nvt_config.specs.Port.{is_port_number, is_address}
 use Rattle.nvt_config.specs.Subsystem.{is_discovery, is_serial}
 use Rattle.nvt_config.specs.Configuration.{Configuration, IsValid, has_subsystem, with_subsystem, with_access, without_subsystem, has_port, with_port, with_port_set, without_port, has_link, is_port_linked, is_subsystem_linked, with_link, without_link, has_host, has_live_host, with_host, without_host}
@@ -19,49 +19,49 @@ abbrev pub accept : Configuration → Edit → Result Configuration EditFault
 accept c (SubsystemAdd nqn serial access) =
     refuse (is_discovery nqn) (BadValue value.Nqn) (
     refuse (not (is_serial serial)) (BadValue value.Serial) (
-    refuse (has_subsystem c nqn) (Exists entry.Subsystem) (
-    refuse (nat_le 32 (length c.subsystems)) (Full entry.Subsystem) (
+    refuse (has_subsystem c nqn) (Exists item.Subsystem) (
+    refuse (nat_le 32 (length c.subsystems)) (Full item.Subsystem) (
     Ok (with_subsystem c (record { nqn = nqn; serial = serial; access = access }))))))
 accept c (SubsystemSet nqn access) =
-    refuse (not (has_subsystem c nqn)) (NoSuch entry.Subsystem) (
+    refuse (not (has_subsystem c nqn)) (NoSuch item.Subsystem) (
     Ok (with_access c nqn access))
 accept c (SubsystemDel nqn) =
-    refuse (not (has_subsystem c nqn)) (NoSuch entry.Subsystem) (
-    refuse (is_subsystem_linked c nqn) (InUse entry.Link) (
+    refuse (not (has_subsystem c nqn)) (NoSuch item.Subsystem) (
+    refuse (is_subsystem_linked c nqn) (InUse item.Link) (
     Ok (without_subsystem c nqn)))
 accept c (PortAdd id family address service) =
     refuse (not (is_port_number id)) (BadValue value.Port) (
     refuse (not (is_address address)) (BadValue value.Address) (
     refuse (not (is_port_number service)) (BadValue value.Service) (
-    refuse (has_port c id) (Exists entry.Port) (
-    refuse (nat_le 16 (length c.ports)) (Full entry.Port) (
+    refuse (has_port c id) (Exists item.Port) (
+    refuse (nat_le 16 (length c.ports)) (Full item.Port) (
     Ok (with_port c (record { id = id; family = family; address = address; service = service })))))))
 accept c (PortSet id family address service) =
     refuse (not (is_port_number id)) (BadValue value.Port) (
     refuse (not (is_address address)) (BadValue value.Address) (
     refuse (not (is_port_number service)) (BadValue value.Service) (
-    refuse (not (has_port c id)) (NoSuch entry.Port) (
+    refuse (not (has_port c id)) (NoSuch item.Port) (
     Ok (with_port_set c (record { id = id; family = family; address = address; service = service }))))))
 accept c (PortDel id) =
-    refuse (not (has_port c id)) (NoSuch entry.Port) (
-    refuse (is_port_linked c id) (InUse entry.Link) (
+    refuse (not (has_port c id)) (NoSuch item.Port) (
+    refuse (is_port_linked c id) (InUse item.Link) (
     Ok (without_port c id)))
 accept c (LinkAdd port subsystem) =
-    refuse (not (has_port c port)) (NoSuch entry.Port) (
-    refuse (not (has_subsystem c subsystem)) (NoSuch entry.Subsystem) (
-    refuse (has_link c port subsystem) (Exists entry.Link) (
+    refuse (not (has_port c port)) (NoSuch item.Port) (
+    refuse (not (has_subsystem c subsystem)) (NoSuch item.Subsystem) (
+    refuse (has_link c port subsystem) (Exists item.Link) (
     Ok (with_link c (record { port = port; subsystem = subsystem })))))
 accept c (LinkDel port subsystem) =
-    refuse (not (has_port c port)) (NoSuch entry.Port) (
-    refuse (not (has_subsystem c subsystem)) (NoSuch entry.Subsystem) (
-    refuse (not (has_link c port subsystem)) (NoSuch entry.Link) (
+    refuse (not (has_port c port)) (NoSuch item.Port) (
+    refuse (not (has_subsystem c subsystem)) (NoSuch item.Subsystem) (
+    refuse (not (has_link c port subsystem)) (NoSuch item.Link) (
     Ok (without_link c port subsystem))))
 accept c (HostAdd nqn) =
-    refuse (has_live_host c nqn) (Exists entry.Host) (
-    refuse (not (has_host c nqn) && nat_le 256 (length c.hosts)) (Full entry.Host) (
+    refuse (has_live_host c nqn) (Exists item.Host) (
+    refuse (not (has_host c nqn) && nat_le 256 (length c.hosts)) (Full item.Host) (
     Ok (with_host c nqn)))
 accept c (HostDel nqn) =
-    refuse (not (has_live_host c nqn)) (NoSuch entry.Host) (
+    refuse (not (has_live_host c nqn)) (NoSuch item.Host) (
     Ok (without_host c nqn))
 
 -- the reason against the edit, if there is one

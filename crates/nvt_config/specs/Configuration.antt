@@ -11,7 +11,7 @@ use Rattle.nvt_config.specs.Lists.{changed_where, without}
 use Rattle.nvt_config.specs.Port.{is_port}
 use Rattle.nvt_config.specs.Subsystem.{is_subsystem}
 
--- The disks' sizes in units of 512 bytes, and the lists, each in the order in which its entries were
+-- The disks' sizes in units of 512 bytes, and the lists, each in the order in which its items were
 -- added.
 pub record Configuration : Type 0 where
   pub units : List ℕ

@@ -8,15 +8,15 @@ use Rattle.nvt_config.specs.Accept.{accept}
 use Rattle.nvt_config.specs.Configuration.{Configuration, IsValid, with_subsystem, with_access, without_subsystem, with_port, with_port_set, without_port, with_link, without_link, with_live}
 
 abbrev pub changed_by : Change → Configuration → Configuration
-changed_by (AddSubsystem addition) c = with_subsystem c addition.entry
+changed_by (AddSubsystem addition) c = with_subsystem c addition.item
 changed_by (SetAccess nqn access) c = with_access c nqn.now access
 changed_by (RemoveSubsystem nqn) c = without_subsystem c nqn.now
-changed_by (AddPort addition) c = with_port c addition.entry
+changed_by (AddPort addition) c = with_port c addition.item
 changed_by (ReplacePort port) c = with_port_set c port
 changed_by (RemovePort id) c = without_port c id
-changed_by (AddLink addition) c = with_link c addition.entry
+changed_by (AddLink addition) c = with_link c addition.item
 changed_by (RemoveLink port subsystem) c = without_link c port subsystem.now
-changed_by (AddHost addition) c = record c { hosts = c.hosts ++ addition.entry ∷ [] }
+changed_by (AddHost addition) c = record c { hosts = c.hosts ++ addition.item ∷ [] }
 changed_by (SetLive nqn live) c = with_live c nqn.now live
 
 -- the configuration that a plan makes of this one

@@ -14,7 +14,7 @@ is_open Closed = false
 abbrev pub is_serial : List ℕ → Bool
 is_serial = is_word 20
 
--- the discovery subsystem is served without an entry
+-- the discovery subsystem is served without being listed
 abbrev pub is_discovery : List ℕ → Bool
 is_discovery nqn = bytes_eq nqn discovery_nqn
 

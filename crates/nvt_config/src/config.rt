@@ -26,9 +26,9 @@ const DISKS_MAX: usize = 256;
 
 const DISK_UNITS_MAX: u64 = 1 << 40;
 
-/// The disks' sizes in units of 512 bytes, and the lists, each in the order in which its entries were
+/// The disks' sizes in units of 512 bytes, and the lists, each in the order in which its items were
 /// added. There are at most 256 disks of at most 2^40 units, 32 subsystems, 16 ports and 256 hosts,
-/// those that are not live counted. No two entries of a list have the same name, and a link's port and
+/// those that are not live counted. No two items of a list have the same name, and a link's port and
 /// subsystem are there.
 #[derive(Debug, Drop)]
 pub struct Config {
@@ -245,7 +245,7 @@ impl Config {
 }
 
 /// Whatever edit a configuration accepts, it stays within its limits, its values stay sound, no two
-/// entries of a list have the same name and links lead somewhere. This is a fact of the rule for edits;
+/// items of a list have the same name and links lead somewhere. This is a fact of the rule for edits;
 /// a call does nothing.
 pub fn accepted_stays_valid()
     ensures { AcceptedStaysValid }

@@ -6,7 +6,7 @@ use crate::text::Text;
 use nvt_fields::Nqn;
 
 /// One edit. Its numbers are as its line names them, so they may be out of range; one that names an
-/// entry and is out of range names none. The refusals stand in the order in which they are answered.
+/// item and is out of range names none. The refusals stand in the order in which they are answered.
 /// An edit that changes no value is accepted.
 #[derive(Debug, Drop)]
 pub enum Edit {

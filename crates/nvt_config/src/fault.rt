@@ -1,6 +1,6 @@
 //! Why there is no new configuration.
 ghost use Rattle.std.specs.Prelude.{Some};
-ghost use Rattle.nvt_config.specs.Fault.{word_of_entry, word_of_value};
+ghost use Rattle.nvt_config.specs.Fault.{word_of_item, word_of_value};
 
 use std::alloc::AllocError;
 use std::fmt;
@@ -21,18 +21,18 @@ pub enum EditFault {
     /// This value of the edit is out of its range.
     #[error("refused BadValue {0}")]
     BadValue(Value),
-    /// The list has no entry of that name.
+    /// The list has no item of that name.
     #[error("refused NoSuch {0}")]
-    NoSuch(Entry),
-    /// The list has an entry of that name already.
+    NoSuch(Item),
+    /// The list has an item of that name already.
     #[error("refused Exists {0}")]
-    Exists(Entry),
-    /// An entry of this list names the entry.
+    Exists(Item),
+    /// An item of this list names the item.
     #[error("refused InUse {0}")]
-    InUse(Entry),
-    /// The list has as many entries as it may have.
+    InUse(Item),
+    /// The list has as many items as it may have.
     #[error("refused Full {0}")]
-    Full(Entry),
+    Full(Item),
     /// No memory was there for the change.
     #[error("memory")]
     Memory,
@@ -61,7 +61,7 @@ pub enum Value {
 
 /// A list of the configuration, by what it holds.
 #[derive(Clone, Copy, Debug, PartialEq, Eq)]
-pub enum Entry {
+pub enum Item {
     Subsystem,
     Port,
     Link,
@@ -82,15 +82,15 @@ impl fmt::Display for Value {
     }
 }
 
-impl fmt::Display for Entry {
-    ghost output = { λ entry. Some (word_of_entry entry) };
+impl fmt::Display for Item {
+    ghost output = { λ item. Some (word_of_item item) };
 
     fn fmt<W: fmt::Write>(&self, f: &mut fmt::Formatter<W>) -> fmt::Result {
         f.write_str(match self {
-            Entry::Subsystem => "Subsystem",
-            Entry::Port => "Port",
-            Entry::Link => "Link",
-            Entry::Host => "Host",
+            Item::Subsystem => "Subsystem",
+            Item::Port => "Port",
+            Item::Link => "Link",
+            Item::Host => "Host",
         })
     }
 }

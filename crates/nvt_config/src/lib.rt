@@ -16,7 +16,7 @@ pub mod text;
 
 pub use config::Config;
 pub use edit::Edit;
-pub use fault::{EditFault, Entry, NewFault, Value};
+pub use fault::{EditFault, Item, NewFault, Value};
 pub use host::Host;
 pub use link::Link;
 pub use plan::Plan;

@@ -37,36 +37,36 @@ pub(crate) enum Change<'e> {
     SetLive(&'e Nqn, bool),
 }
 
-/// An entry that is to be added to a list, and room for the list with it.
+/// An item that is to be added to a list, and room for the list with it.
 #[derive(Drop)]
 pub(crate) struct Addition<T> {
-    entry: T,
+    item: T,
     // Holds nothing yet.
     list: Vec<T>,
     ghost empty: { vec_len list ≡ 0 },
 }
 
 impl<T: Drop> Addition<T> {
-    /// An addition to a list that holds `there` entries.
-    pub(crate) fn new(alloc: Global, entry: T, there: usize) -> Result<Addition<T>, AllocError>
+    /// An addition to a list that holds `there` items.
+    pub(crate) fn new(alloc: Global, item: T, there: usize) -> Result<Addition<T>, AllocError>
         requires { there < usize.MAX }
-        ensures same { IfOk result (λ addition. addition.entry ≡ entry) }
+        ensures same { IfOk result (λ addition. addition.item ≡ item) }
         ensures room { IfOk result (λ addition. there < vec_capacity addition.list) }
     {
         let list = Vec::with_capacity(alloc, there + 1)?;
-        Ok(Addition { entry, list })
+        Ok(Addition { item, list })
     }
 
-    /// Adds the entry after those that are there. Takes no memory.
-    pub(crate) fn add_to(self, entries: &mut Vec<T>)
-        requires { vec_len entries.old < vec_capacity self.list }
-        ensures { entries.new.items ≡ entries.old.items ++ self.entry ∷ [] }
+    /// Adds the item after those that are there. Takes no memory.
+    pub(crate) fn add_to(self, items: &mut Vec<T>)
+        requires { vec_len items.old < vec_capacity self.list }
+        ensures { items.new.items ≡ items.old.items ++ self.item ∷ [] }
     {
-        let Addition { entry, mut list } = self;
-        let Ok(()) = list.append(entries) else {
+        let Addition { item, mut list } = self;
+        let Ok(()) = list.append(items) else {
             unreachable!()
         };
-        list.push_reserved(entry);
-        *entries = list;
+        list.push_reserved(item);
+        *items = list;
     }
 }

@@ -1,7 +1,7 @@
 //! What edits are answered with ample memory.
 use super::driver::{Script, holds};
 use super::pdus::{A, B, H1};
-use nvt_config::{Access, EditFault, Entry, Family, Value};
+use nvt_config::{Access, EditFault, Family, Item, Value};
 use nvt_fields::DISCOVERY_NQN;
 use std::alloc::{AllocError, Global};
 use target_core::Target;
@@ -12,7 +12,7 @@ const ROWS: &[(Line<'static>, Result<(), EditFault>)] = &[
     (Line::SubsystemAdd(A, b"SN", Access::Open), Ok(())),
     (
         Line::SubsystemAdd(A, b"SN", Access::Open),
-        Err(EditFault::Exists(Entry::Subsystem)),
+        Err(EditFault::Exists(Item::Subsystem)),
     ),
     (
         Line::SubsystemAdd(DISCOVERY_NQN, b"SN", Access::Open),
@@ -26,12 +26,12 @@ const ROWS: &[(Line<'static>, Result<(), EditFault>)] = &[
     (Line::SubsystemSet(A, Access::Open), Ok(())),
     (
         Line::SubsystemSet(B, Access::Open),
-        Err(EditFault::NoSuch(Entry::Subsystem)),
+        Err(EditFault::NoSuch(Item::Subsystem)),
     ),
     (Line::PortAdd(1, b"127.0.0.1", 4420), Ok(())),
     (
         Line::PortAdd(1, b"127.0.0.1", 4420),
-        Err(EditFault::Exists(Entry::Port)),
+        Err(EditFault::Exists(Item::Port)),
     ),
     (
         Line::PortAdd(0, b"127.0.0.1", 4420),
@@ -40,7 +40,7 @@ const ROWS: &[(Line<'static>, Result<(), EditFault>)] = &[
     (Line::PortSet(1, Family::Ipv6, b"::1", 4421), Ok(())),
     (
         Line::PortSet(2, Family::Ipv6, b"::1", 4421),
-        Err(EditFault::NoSuch(Entry::Port)),
+        Err(EditFault::NoSuch(Item::Port)),
     ),
     (
         Line::PortSet(1, Family::Ipv6, b"", 4421),
@@ -51,27 +51,24 @@ const ROWS: &[(Line<'static>, Result<(), EditFault>)] = &[
         Err(EditFault::BadValue(Value::Service)),
     ),
     (Line::LinkAdd(1, A), Ok(())),
-    (Line::LinkAdd(1, A), Err(EditFault::Exists(Entry::Link))),
-    (Line::LinkAdd(2, A), Err(EditFault::NoSuch(Entry::Port))),
-    (
-        Line::LinkAdd(1, B),
-        Err(EditFault::NoSuch(Entry::Subsystem)),
-    ),
-    (Line::PortDel(1), Err(EditFault::InUse(Entry::Link))),
-    (Line::SubsystemDel(A), Err(EditFault::InUse(Entry::Link))),
+    (Line::LinkAdd(1, A), Err(EditFault::Exists(Item::Link))),
+    (Line::LinkAdd(2, A), Err(EditFault::NoSuch(Item::Port))),
+    (Line::LinkAdd(1, B), Err(EditFault::NoSuch(Item::Subsystem))),
+    (Line::PortDel(1), Err(EditFault::InUse(Item::Link))),
+    (Line::SubsystemDel(A), Err(EditFault::InUse(Item::Link))),
     (Line::LinkDel(1, A), Ok(())),
-    (Line::LinkDel(1, A), Err(EditFault::NoSuch(Entry::Link))),
+    (Line::LinkDel(1, A), Err(EditFault::NoSuch(Item::Link))),
     (Line::PortDel(1), Ok(())),
-    (Line::PortDel(1), Err(EditFault::NoSuch(Entry::Port))),
+    (Line::PortDel(1), Err(EditFault::NoSuch(Item::Port))),
     (Line::SubsystemDel(A), Ok(())),
     (
         Line::SubsystemDel(A),
-        Err(EditFault::NoSuch(Entry::Subsystem)),
+        Err(EditFault::NoSuch(Item::Subsystem)),
     ),
     (Line::HostAdd(H1), Ok(())),
-    (Line::HostAdd(H1), Err(EditFault::Exists(Entry::Host))),
+    (Line::HostAdd(H1), Err(EditFault::Exists(Item::Host))),
     (Line::HostDel(H1), Ok(())),
-    (Line::HostDel(H1), Err(EditFault::NoSuch(Entry::Host))),
+    (Line::HostDel(H1), Err(EditFault::NoSuch(Item::Host))),
 ];
 
 // Whether the configuration and the target answer the edit of a line so.

@@ -1,6 +1,6 @@
 use super::outline::is_answered;
 use super::{Script, holds};
-use nvt_config::{Access, Config, EditFault, Entry};
+use nvt_config::{Access, Config, EditFault, Item};
 use std::alloc::Global;
 use test_edits::Line;
 
@@ -59,17 +59,17 @@ fn are_ports_linked(alloc: Global, config: &mut Config) -> bool {
 const OVER_ALL_LINKED: &[(Line<'static>, Result<(), EditFault>)] = &[
     (
         Line::SubsystemAdd(b"nqn.031", b"SN", Access::Open),
-        Err(EditFault::Exists(Entry::Subsystem)),
+        Err(EditFault::Exists(Item::Subsystem)),
     ),
     (
         Line::SubsystemAdd(b"nqn.032", b"SN", Access::Open),
-        Err(EditFault::Full(Entry::Subsystem)),
+        Err(EditFault::Full(Item::Subsystem)),
     ),
     (
         Line::PortAdd(65_535, b"a", 1),
-        Err(EditFault::Exists(Entry::Port)),
+        Err(EditFault::Exists(Item::Port)),
     ),
-    (Line::PortAdd(1, b"~", 1), Err(EditFault::Full(Entry::Port))),
+    (Line::PortAdd(1, b"~", 1), Err(EditFault::Full(Item::Port))),
 ];
 
 pub fn is_full_of_links(alloc: Global, config: &mut Config) -> bool {
@@ -96,13 +96,13 @@ fn are_hosts_added(alloc: Global, config: &mut Config) -> bool {
     are_added
 }
 
-const FULL: Result<(), EditFault> = Err(EditFault::Full(Entry::Host));
+const FULL: Result<(), EditFault> = Err(EditFault::Full(Item::Host));
 
 const OVER_ALL_HOSTS: &[(Line<'static>, Result<(), EditFault>)] = &[
     (Line::HostAdd(b"nqn.256"), FULL),
     (
         Line::HostAdd(b"nqn.255"),
-        Err(EditFault::Exists(Entry::Host)),
+        Err(EditFault::Exists(Item::Host)),
     ),
     (Line::HostDel(b"nqn.007"), Ok(())),
     (Line::HostAdd(b"nqn.256"), FULL),

@@ -1,6 +1,6 @@
 use super::outline::is_answered;
 use super::{DISKS, Script, holds, is_filled};
-use nvt_config::{Access, Config, EditFault, Entry, Family, Value};
+use nvt_config::{Access, Config, EditFault, Family, Item, Value};
 use nvt_fields::DISCOVERY_NQN;
 use std::alloc::Global;
 use test_edits::{Line, is_same};
@@ -29,9 +29,9 @@ fn leaves_all(
     true
 }
 
-const NO_SUBSYSTEM: EditFault = EditFault::NoSuch(Entry::Subsystem);
+const NO_SUBSYSTEM: EditFault = EditFault::NoSuch(Item::Subsystem);
 
-const NO_PORT: EditFault = EditFault::NoSuch(Entry::Port);
+const NO_PORT: EditFault = EditFault::NoSuch(Item::Port);
 
 const BAD_NQN: EditFault = EditFault::BadValue(Value::Nqn);
 
@@ -67,7 +67,7 @@ const SUBSYSTEMS: &[(Line<'static>, EditFault)] = &[
     ),
     (
         Line::SubsystemAdd(b"nqn.a", b"SN", Access::Open),
-        EditFault::Exists(Entry::Subsystem),
+        EditFault::Exists(Item::Subsystem),
     ),
     (Line::SubsystemSet(b"nqn.d", Access::Closed), NO_SUBSYSTEM),
     (
@@ -75,7 +75,7 @@ const SUBSYSTEMS: &[(Line<'static>, EditFault)] = &[
         NO_SUBSYSTEM,
     ),
     (Line::SubsystemDel(b"nqn.d"), NO_SUBSYSTEM),
-    (Line::SubsystemDel(b"nqn.b"), EditFault::InUse(Entry::Link)),
+    (Line::SubsystemDel(b"nqn.b"), EditFault::InUse(Item::Link)),
 ];
 
 #[test]
@@ -114,13 +114,13 @@ fn of_the_values_of_ports(rt: HostRuntime) {
 }
 
 const PORTS: &[(Line<'static>, EditFault)] = &[
-    (Line::PortAdd(1, b"a", 4420), EditFault::Exists(Entry::Port)),
+    (Line::PortAdd(1, b"a", 4420), EditFault::Exists(Item::Port)),
     (Line::PortSet(4, Family::Ipv6, b"a", 4420), NO_PORT),
     (Line::PortDel(0), NO_PORT),
     (Line::PortDel(4), NO_PORT),
     (Line::PortDel(65_537), NO_PORT),
     (Line::PortDel(u64::MAX), NO_PORT),
-    (Line::PortDel(2), EditFault::InUse(Entry::Link)),
+    (Line::PortDel(2), EditFault::InUse(Item::Link)),
 ];
 
 #[test]
@@ -133,13 +133,13 @@ const LINKS: &[(Line<'static>, EditFault)] = &[
     (Line::LinkAdd(0, b"nqn.a"), NO_PORT),
     (Line::LinkAdd(65_537, b"nqn.c"), NO_PORT),
     (Line::LinkAdd(1, b"nqn.d"), NO_SUBSYSTEM),
-    (Line::LinkAdd(1, b"nqn.a"), EditFault::Exists(Entry::Link)),
+    (Line::LinkAdd(1, b"nqn.a"), EditFault::Exists(Item::Link)),
     (Line::LinkDel(4, b"nqn.d"), NO_PORT),
     (Line::LinkDel(0, b"nqn.a"), NO_PORT),
     (Line::LinkDel(65_537, b"nqn.a"), NO_PORT),
     (Line::LinkDel(1, b"nqn.d"), NO_SUBSYSTEM),
-    (Line::LinkDel(2, b"nqn.a"), EditFault::NoSuch(Entry::Link)),
-    (Line::LinkDel(1, b"nqn.c"), EditFault::NoSuch(Entry::Link)),
+    (Line::LinkDel(2, b"nqn.a"), EditFault::NoSuch(Item::Link)),
+    (Line::LinkDel(1, b"nqn.c"), EditFault::NoSuch(Item::Link)),
 ];
 
 #[test]
@@ -148,9 +148,9 @@ fn of_links(rt: HostRuntime) {
 }
 
 const HOSTS: &[(Line<'static>, EditFault)] = &[
-    (Line::HostAdd(b"nqn.h"), EditFault::Exists(Entry::Host)),
-    (Line::HostDel(b"nqn.k"), EditFault::NoSuch(Entry::Host)),
-    (Line::HostDel(b"nqn.i"), EditFault::NoSuch(Entry::Host)),
+    (Line::HostAdd(b"nqn.h"), EditFault::Exists(Item::Host)),
+    (Line::HostDel(b"nqn.k"), EditFault::NoSuch(Item::Host)),
+    (Line::HostDel(b"nqn.i"), EditFault::NoSuch(Item::Host)),
 ];
 
 #[test]

@@ -13,8 +13,8 @@ use nvt_fields::Nqn;
 impl Config {
     pub(super) fn add_subsystem(&mut self, addition: Addition<Subsystem>)
         requires room { length self.old.subsystems < vec_capacity addition.list }
-        requires valid { IsValid (with_subsystem self.old addition.entry) }
-        ensures { self.new ≡ with_subsystem self.old addition.entry }
+        requires valid { IsValid (with_subsystem self.old addition.item) }
+        ensures { self.new ≡ with_subsystem self.old addition.item }
     {
         addition.add_to(&mut self.subsystems);
     }
@@ -35,8 +35,8 @@ impl Config {
 
     pub(super) fn add_port(&mut self, addition: Addition<Port>)
         requires room { length self.old.ports < vec_capacity addition.list }
-        requires valid { IsValid (with_port self.old addition.entry) }
-        ensures { self.new ≡ with_port self.old addition.entry }
+        requires valid { IsValid (with_port self.old addition.item) }
+        ensures { self.new ≡ with_port self.old addition.item }
     {
         addition.add_to(&mut self.ports);
     }
@@ -57,8 +57,8 @@ impl Config {
 
     pub(super) fn add_link(&mut self, addition: Addition<Link>)
         requires room { length self.old.links < vec_capacity addition.list }
-        requires valid { IsValid (with_link self.old addition.entry) }
-        ensures { self.new ≡ with_link self.old addition.entry }
+        requires valid { IsValid (with_link self.old addition.item) }
+        ensures { self.new ≡ with_link self.old addition.item }
     {
         addition.add_to(&mut self.links);
     }
@@ -72,8 +72,8 @@ impl Config {
 
     pub(super) fn add_host(&mut self, addition: Addition<Host>)
         requires room { length self.old.hosts < vec_capacity addition.list }
-        requires valid { IsValid (record self.old { hosts = self.old.hosts ++ addition.entry ∷ [] }) }
-        ensures { self.new ≡ record self.old { hosts = self.old.hosts ++ addition.entry ∷ [] } }
+        requires valid { IsValid (record self.old { hosts = self.old.hosts ++ addition.item ∷ [] }) }
+        ensures { self.new ≡ record self.old { hosts = self.old.hosts ++ addition.item ∷ [] } }
     {
         addition.add_to(&mut self.hosts);
     }

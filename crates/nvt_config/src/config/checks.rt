@@ -8,7 +8,7 @@ ghost use Rattle.nvt_config.specs.declared.subsystem.Access.{Access};
 
 use crate::config::Config;
 use crate::edit::Edit;
-use crate::fault::{EditFault, Entry, Value};
+use crate::fault::{EditFault, Item, Value};
 use crate::host::{has_host, has_live_host};
 use crate::link::{has_link, is_port_linked, is_subsystem_linked};
 use crate::port::{has_port, is_address, is_port_number};
@@ -30,11 +30,11 @@ impl Config {
         refuse(!is_serial(serial), EditFault::BadValue(Value::Serial))?;
         refuse(
             has_subsystem(&self.subsystems, nqn),
-            EditFault::Exists(Entry::Subsystem),
+            EditFault::Exists(Item::Subsystem),
         )?;
         refuse(
             self.subsystems.len() >= SUBSYSTEMS_MAX,
-            EditFault::Full(Entry::Subsystem),
+            EditFault::Full(Item::Subsystem),
         )
     }
 
@@ -50,7 +50,7 @@ impl Config {
         self.wants_subsystem(nqn)?;
         refuse(
             is_subsystem_linked(&self.links, nqn),
-            EditFault::InUse(Entry::Link),
+            EditFault::InUse(Item::Link),
         )
     }
 
@@ -63,8 +63,8 @@ impl Config {
         ensures { (family : Family) → result ≡ verdict (accept self.now (Edit.PortAdd id family address.now service)) }
     {
         check_port_values(id, address, service)?;
-        refuse(has_port(&self.ports, id), EditFault::Exists(Entry::Port))?;
-        refuse(self.ports.len() >= PORTS_MAX, EditFault::Full(Entry::Port))
+        refuse(has_port(&self.ports, id), EditFault::Exists(Item::Port))?;
+        refuse(self.ports.len() >= PORTS_MAX, EditFault::Full(Item::Port))
     }
 
     pub(super) fn check_port_set(
@@ -85,7 +85,7 @@ impl Config {
         self.wants_port(id)?;
         refuse(
             is_port_linked(&self.links, id),
-            EditFault::InUse(Entry::Link),
+            EditFault::InUse(Item::Link),
         )
     }
 
@@ -96,7 +96,7 @@ impl Config {
         self.wants_subsystem(subsystem)?;
         refuse(
             has_link(&self.links, port, subsystem),
-            EditFault::Exists(Entry::Link),
+            EditFault::Exists(Item::Link),
         )
     }
 
@@ -107,7 +107,7 @@ impl Config {
         self.wants_subsystem(subsystem)?;
         refuse(
             !has_link(&self.links, port, subsystem),
-            EditFault::NoSuch(Entry::Link),
+            EditFault::NoSuch(Item::Link),
         )
     }
 
@@ -117,11 +117,11 @@ impl Config {
     {
         refuse(
             has_live_host(&self.hosts, nqn),
-            EditFault::Exists(Entry::Host),
+            EditFault::Exists(Item::Host),
         )?;
         refuse(
             !has_host(&self.hosts, nqn) && self.hosts.len() >= HOSTS_MAX,
-            EditFault::Full(Entry::Host),
+            EditFault::Full(Item::Host),
         )
     }
 
@@ -130,23 +130,23 @@ impl Config {
     {
         refuse(
             !has_live_host(&self.hosts, nqn),
-            EditFault::NoSuch(Entry::Host),
+            EditFault::NoSuch(Item::Host),
         )
     }
 
     fn wants_subsystem(&self, nqn: &Nqn) -> Result<(), EditFault>
-        ensures { result ≡ refuse (not (has_subsystem self.now nqn.now)) (EditFault.NoSuch Entry.Subsystem) (Ok tt) }
+        ensures { result ≡ refuse (not (has_subsystem self.now nqn.now)) (EditFault.NoSuch Item.Subsystem) (Ok tt) }
     {
         refuse(
             !has_subsystem(&self.subsystems, nqn),
-            EditFault::NoSuch(Entry::Subsystem),
+            EditFault::NoSuch(Item::Subsystem),
         )
     }
 
     fn wants_port(&self, id: u64) -> Result<(), EditFault>
-        ensures { result ≡ refuse (not (has_port self.now id)) (EditFault.NoSuch Entry.Port) (Ok tt) }
+        ensures { result ≡ refuse (not (has_port self.now id)) (EditFault.NoSuch Item.Port) (Ok tt) }
     {
-        refuse(!has_port(&self.ports, id), EditFault::NoSuch(Entry::Port))
+        refuse(!has_port(&self.ports, id), EditFault::NoSuch(Item::Port))
     }
 }
 
