@@ -146,7 +146,7 @@ fn finds_items_by_name(rt: HostRuntime) {
 
 fn is_handed_back(alloc: Global, bytes: &[u8]) -> Result<bool, AllocError> {
     let text = Text::from(Vec::from_slice(alloc, bytes)?);
-    let copy = text.try_clone()?.into_vec();
+    let copy = text.clone()?.into_vec();
     Ok(copy.as_slice() == bytes)
 }
 

@@ -58,27 +58,27 @@ fn is_edited(config: &Config) -> bool {
 }
 
 fn is_subsystem_copied(subsystem: &Subsystem) -> Result<bool, AllocError> {
-    let copy = subsystem.try_clone()?;
+    let copy = subsystem.clone()?;
     Ok(copy.nqn == subsystem.nqn)
 }
 
 fn is_text_copied(text: &Text, bytes: &[u8]) -> Result<bool, AllocError> {
-    let copy = text.try_clone()?.into_vec();
+    let copy = text.clone()?.into_vec();
     Ok(copy.as_slice() == bytes)
 }
 
 fn is_port_copied(port: &Port) -> Result<bool, AllocError> {
-    let copy = port.try_clone()?;
+    let copy = port.clone()?;
     Ok(copy.address.as_bytes() == b"127.0.0.1".as_slice())
 }
 
 fn is_link_copied(link: &Link) -> Result<bool, AllocError> {
-    let copy = link.try_clone()?;
+    let copy = link.clone()?;
     Ok(copy.subsystem == link.subsystem)
 }
 
 fn is_host_copied(host: &Host) -> Result<bool, AllocError> {
-    let copy = host.try_clone()?;
+    let copy = host.clone()?;
     Ok(copy.nqn == host.nqn)
 }
 

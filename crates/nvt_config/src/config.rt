@@ -14,11 +14,11 @@ mod plans;
 
 use crate::edit::Edit;
 use crate::fault::{EditFault, NewFault};
-use crate::host::{Host, clone_hosts};
-use crate::link::{Link, clone_links};
+use crate::host::Host;
+use crate::link::Link;
 use crate::plan::{Change, Plan};
-use crate::port::{Port, clone_ports};
-use crate::subsystem::{Subsystem, clone_subsystems};
+use crate::port::Port;
+use crate::subsystem::Subsystem;
 use std::alloc::{AllocError, Global};
 use std::marker::Model;
 
@@ -233,13 +233,12 @@ impl Config {
     pub fn try_clone(&self) -> Result<Config, AllocError>
         ensures { IfOk result (λ copy. copy ≡ self.now) }
     {
-        let alloc = *self.units.allocator();
         Ok(Config {
             units: self.units.clone()?,
-            subsystems: clone_subsystems(alloc, &self.subsystems)?,
-            ports: clone_ports(alloc, &self.ports)?,
-            links: clone_links(alloc, &self.links)?,
-            hosts: clone_hosts(alloc, &self.hosts)?,
+            subsystems: self.subsystems.clone()?,
+            ports: self.ports.clone()?,
+            links: self.links.clone()?,
+            hosts: self.hosts.clone()?,
         })
     }
 }

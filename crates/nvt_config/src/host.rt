@@ -1,12 +1,12 @@
 //! A host: who uses subsystems.
-ghost use Rattle.std.specs.Prelude.{◌≡◌, ◌&&◌, IfOk};
+ghost use Rattle.std.specs.Prelude.{◌≡◌, ◌&&◌};
 ghost use Rattle.std.specs.List.{list_any};
 ghost use Rattle.std.specs.Str.{bytes_eq};
 ghost use Rattle.nvt_config.specs.declared.host.Host.{Host};
 ghost use Rattle.nvt_config.specs.Lists.{changed_where};
 
 use nvt_fields::Nqn;
-use std::alloc::{AllocError, Global};
+use std::alloc::AllocError;
 
 /// A host that was added. One that was deleted stays in its place, not live.
 #[derive(Debug, Drop)]
@@ -16,11 +16,10 @@ pub struct Host {
     pub live: bool,
 }
 
-impl Host {
-    /// An equal host.
-    pub fn try_clone(&self) -> Result<Host, AllocError>
-        ensures { IfOk result (λ copy. copy ≡ self.now) }
-    {
+impl Clone for Host {
+    ghost is_clone = { λ host copy. copy ≡ host };
+
+    fn clone(&self) -> Result<Host, AllocError> {
         Ok(Host {
             nqn: self.nqn.try_clone()?,
             live: self.live,
@@ -49,14 +48,4 @@ pub(crate) fn set_live(hosts: &mut [Host], nqn: &Nqn, live: bool)
             host.live = live;
         }
     }
-}
-
-pub(crate) fn clone_hosts(alloc: Global, hosts: &[Host]) -> Result<Vec<Host>, AllocError>
-    ensures { IfOk result (λ copies. copies.items ≡ hosts.now) }
-{
-    let mut copies = Vec::with_capacity(alloc, hosts.len())?;
-    for host in hosts {
-        copies.push(host.try_clone()?)?;
-    }
-    Ok(copies)
 }

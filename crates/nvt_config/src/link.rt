@@ -1,11 +1,11 @@
 //! A link: a subsystem that is served on a port.
-ghost use Rattle.std.specs.Prelude.{◌≡◌, ◌==◌, ◌&&◌, IfOk};
+ghost use Rattle.std.specs.Prelude.{◌≡◌, ◌==◌, ◌&&◌};
 ghost use Rattle.std.specs.List.{list_any};
 ghost use Rattle.std.specs.Str.{bytes_eq};
 ghost use Rattle.nvt_config.specs.Lists.{without};
 
 use nvt_fields::Nqn;
-use std::alloc::{AllocError, Global};
+use std::alloc::AllocError;
 
 /// A subsystem is served on a port. No two links of a configuration have the same port and subsystem.
 #[derive(Debug, Drop)]
@@ -16,11 +16,10 @@ pub struct Link {
     pub subsystem: Nqn,
 }
 
-impl Link {
-    /// An equal link.
-    pub fn try_clone(&self) -> Result<Link, AllocError>
-        ensures { IfOk result (λ copy. copy ≡ self.now) }
-    {
+impl Clone for Link {
+    ghost is_clone = { λ link copy. copy ≡ link };
+
+    fn clone(&self) -> Result<Link, AllocError> {
         Ok(Link {
             port: self.port,
             subsystem: self.subsystem.try_clone()?,
@@ -50,14 +49,4 @@ pub(crate) fn remove_link(links: &mut Vec<Link>, port: u64, subsystem: &Nqn)
     ensures { links.new.items ≡ without (λ link. link.port == port && bytes_eq link.subsystem subsystem.now) links.old.items }
 {
     links.retain(|link| u64::from(link.port) != port || link.subsystem != *subsystem);
-}
-
-pub(crate) fn clone_links(alloc: Global, links: &[Link]) -> Result<Vec<Link>, AllocError>
-    ensures { IfOk result (λ copies. copies.items ≡ links.now) }
-{
-    let mut copies = Vec::with_capacity(alloc, links.len())?;
-    for link in links {
-        copies.push(link.try_clone()?)?;
-    }
-    Ok(copies)
 }

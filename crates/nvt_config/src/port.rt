@@ -1,11 +1,11 @@
 //! A port: where the target listens.
-ghost use Rattle.std.specs.Prelude.{◌≡◌, ◌≢◌, ◌==◌, AllPairs, IfOk, position};
+ghost use Rattle.std.specs.Prelude.{◌≡◌, ◌≢◌, ◌==◌, AllPairs, position};
 ghost use Rattle.std.specs.List.{list_any};
 ghost use Rattle.nvt_config.specs.Lists.{changed_where, without};
 ghost use Rattle.nvt_config.specs.Port.{is_address, is_port_number};
 
 use crate::text::Text;
-use std::alloc::{AllocError, Global};
+use std::alloc::AllocError;
 
 const ADDRESS_MAX: usize = 256;
 
@@ -28,15 +28,14 @@ pub struct Port {
     pub service: u16,
 }
 
-impl Port {
-    /// An equal port.
-    pub fn try_clone(&self) -> Result<Port, AllocError>
-        ensures { IfOk result (λ copy. copy ≡ self.now) }
-    {
+impl Clone for Port {
+    ghost is_clone = { λ port copy. copy ≡ port };
+
+    fn clone(&self) -> Result<Port, AllocError> {
         Ok(Port {
             id: self.id,
             family: self.family,
-            address: self.address.try_clone()?,
+            address: self.address.clone()?,
             service: self.service,
         })
     }
@@ -79,14 +78,4 @@ pub(crate) fn remove_port(ports: &mut Vec<Port>, id: u64)
     ensures { ports.new.items ≡ without (λ port. port.id == id) ports.old.items }
 {
     ports.retain(|port| u64::from(port.id) != id);
-}
-
-pub(crate) fn clone_ports(alloc: Global, ports: &[Port]) -> Result<Vec<Port>, AllocError>
-    ensures { IfOk result (λ copies. copies.items ≡ ports.now) }
-{
-    let mut copies = Vec::with_capacity(alloc, ports.len())?;
-    for port in ports {
-        copies.push(port.try_clone()?)?;
-    }
-    Ok(copies)
 }

@@ -1,5 +1,5 @@
 //! A subsystem: what hosts connect to.
-ghost use Rattle.std.specs.Prelude.{◌≡◌, IfOk};
+ghost use Rattle.std.specs.Prelude.{◌≡◌};
 ghost use Rattle.std.specs.List.{list_any};
 ghost use Rattle.std.specs.Str.{bytes_eq};
 ghost use Rattle.nvt_config.specs.declared.subsystem.Subsystem.{Subsystem};
@@ -8,7 +8,7 @@ ghost use Rattle.nvt_config.specs.Subsystem.{is_discovery, is_serial};
 
 use crate::text::Text;
 use nvt_fields::{DISCOVERY_NQN, Nqn};
-use std::alloc::{AllocError, Global};
+use std::alloc::AllocError;
 
 const SERIAL_MAX: usize = 20;
 
@@ -31,14 +31,13 @@ pub struct Subsystem {
     pub access: Access,
 }
 
-impl Subsystem {
-    /// An equal subsystem.
-    pub fn try_clone(&self) -> Result<Subsystem, AllocError>
-        ensures { IfOk result (λ copy. copy ≡ self.now) }
-    {
+impl Clone for Subsystem {
+    ghost is_clone = { λ subsystem copy. copy ≡ subsystem };
+
+    fn clone(&self) -> Result<Subsystem, AllocError> {
         Ok(Subsystem {
             nqn: self.nqn.try_clone()?,
-            serial: self.serial.try_clone()?,
+            serial: self.serial.clone()?,
             access: self.access,
         })
     }
@@ -77,17 +76,4 @@ pub(crate) fn remove_subsystem(subsystems: &mut Vec<Subsystem>, nqn: &Nqn)
     ensures { subsystems.new.items ≡ without (λ subsystem. bytes_eq subsystem.nqn nqn.now) subsystems.old.items }
 {
     subsystems.retain(|subsystem| subsystem.nqn != *nqn);
-}
-
-pub(crate) fn clone_subsystems(
-    alloc: Global,
-    subsystems: &[Subsystem],
-) -> Result<Vec<Subsystem>, AllocError>
-    ensures { IfOk result (λ copies. copies.items ≡ subsystems.now) }
-{
-    let mut copies = Vec::with_capacity(alloc, subsystems.len())?;
-    for subsystem in subsystems {
-        copies.push(subsystem.try_clone()?)?;
-    }
-    Ok(copies)
 }

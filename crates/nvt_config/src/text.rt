@@ -1,5 +1,5 @@
 //! A text of bytes.
-ghost use Rattle.std.specs.Prelude.{◌≡◌, IfOk};
+ghost use Rattle.std.specs.Prelude.{◌≡◌};
 ghost use Rattle.std.specs.List.{list_all};
 ghost use Rattle.nvt_config.specs.Text.{is_word, is_word_byte};
 
@@ -34,21 +34,22 @@ impl Text {
         self.bytes
     }
 
-    /// An equal text.
-    pub fn try_clone(&self) -> Result<Text, AllocError>
-        ensures { IfOk result (λ copy. copy ≡ self.now) }
-    {
-        Ok(Text {
-            bytes: self.bytes.clone()?,
-        })
-    }
-
     // Whether it is 1 byte to as many as `most`, each from 21h to 7Eh.
     pub(crate) fn is_word(&self, most: usize) -> bool
         ensures { result ≡ is_word most self.now }
     {
         let bytes = self.as_bytes();
         (1..=most).contains(&bytes.len()) && are_word_bytes(bytes)
+    }
+}
+
+impl Clone for Text {
+    ghost is_clone = { λ text copy. copy ≡ text };
+
+    fn clone(&self) -> Result<Text, AllocError> {
+        Ok(Text {
+            bytes: self.bytes.clone()?,
+        })
     }
 }
 

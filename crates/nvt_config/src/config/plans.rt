@@ -27,7 +27,7 @@ impl Config {
     {
         let subsystem = Subsystem {
             nqn: nqn.try_clone()?,
-            serial: serial.try_clone()?,
+            serial: serial.clone()?,
             access,
         };
         let addition = Addition::new(self.alloc(), subsystem, self.subsystems.len())?;
@@ -106,7 +106,7 @@ fn port_of(id: u64, family: Family, address: &Text, service: u64) -> Result<Port
     Ok(Port {
         id: id as u16,
         family,
-        address: address.try_clone()?,
+        address: address.clone()?,
         service: service as u16,
     })
 }
