@@ -1,10 +1,10 @@
 -- The lines of edits: the line of each edit, and the first fault of a line.
 use Rattle.std.specs.Prelude.{◌≡◌, ℕ, ◌+◌, ◌≤◌, ◌==◌, ◌||◌, nat_lt, Bool, List, [], ◌∷◌, ◌++◌, length, drop, codes, Option, Some, None, if◌then◌else◌}
+use Rattle.std.specs.Char.{is_ascii_graphic}
 use Rattle.std.specs.Fmt.{decimal}
 use Rattle.std.specs.List.{before_first, list_all}
 use Rattle.std.specs.Option.{option_or}
 use Rattle.std.specs.Str.{bytes_eq}
-use Rattle.nvt_config.specs.Text.{is_word_byte}
 use Rattle.nvt_config.specs.declared.edit.Edit.{Edit}
 use Rattle.nvt_config.specs.declared.edit.Edit.TheVariants.{PortAdd}
 use Rattle.nvt_config.specs.declared.port.Family.{Family}
@@ -60,7 +60,7 @@ abbrev pub allows : Form → List ℕ → Bool
 allows (keyword_form text) word = bytes_eq word text
 allows number_form word = is_number word
 allows family_form word = bytes_eq word (codes "ipv4") || bytes_eq word (codes "ipv6")
-allows address_form word = list_all is_word_byte word
+allows address_form word = list_all is_ascii_graphic word
 
 abbrev pub kind_of : Form → LineFaultKind
 kind_of (keyword_form text) = UnknownWord

@@ -1,10 +1,10 @@
 //! The line of an edit. Until the edit language is whole, `port add` is the one edit that is read.
 
 ghost use Rattle.std.specs.Prelude.{◌≡◌, ◌==◌, ◌+◌, ◌<◌, ◌≤◌, [], ◌∷◌, ◌++◌, IfErr, IfOk, None, OnOk, length, if◌then◌else◌};
+ghost use Rattle.std.specs.Char.{is_ascii_graphic};
 ghost use Rattle.std.specs.Fmt.{decimal};
 ghost use Rattle.std.specs.List.{before_first, list_all};
 ghost use Rattle.std.specs.Result.{result_err};
-ghost use Rattle.nvt_config.specs.Text.{is_word_byte};
 ghost use Rattle.config_text.specs.EditLine.{IsFront, IsLineOf, IsMoved, IsReadFault, IsRest, absence, address_form, column_after, endpoint_forms, endpoint_words, family_form, family_word, fault, fault_from, front_fault, keyword_form, line_fault, number_form, place_forms, place_words, port_add_line, word_at, word_fault};
 
 use crate::lines::find_byte;
@@ -279,7 +279,7 @@ fn first_word(text: &[u8]) -> &[u8]
 }
 
 fn is_printable(word: &[u8]) -> bool
-    ensures { result ≡ list_all is_word_byte word.now }
+    ensures { result ≡ list_all is_ascii_graphic word.now }
 {
-    word.iter().all(|b| (0x21..=0x7E).contains(b))
+    word.iter().all(|b| b.is_ascii_graphic())
 }

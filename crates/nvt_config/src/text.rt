@@ -1,7 +1,8 @@
 //! A text of bytes.
 ghost use Rattle.std.specs.Prelude.{◌≡◌};
+ghost use Rattle.std.specs.Char.{is_ascii_graphic};
 ghost use Rattle.std.specs.List.{list_all};
-ghost use Rattle.nvt_config.specs.Text.{is_word, is_word_byte};
+ghost use Rattle.nvt_config.specs.Text.{is_word};
 
 use std::alloc::AllocError;
 use std::marker::Model;
@@ -63,13 +64,7 @@ impl From<Vec<u8>> for Text {
 }
 
 fn are_word_bytes(bytes: &[u8]) -> bool
-    ensures { result ≡ list_all is_word_byte bytes.now }
+    ensures { result ≡ list_all is_ascii_graphic bytes.now }
 {
-    bytes.iter().all(|b| is_word_byte(*b))
-}
-
-fn is_word_byte(b: u8) -> bool
-    ensures { result ≡ is_word_byte b }
-{
-    (0x21..=0x7E).contains(&b)
+    bytes.iter().all(|b| b.is_ascii_graphic())
 }

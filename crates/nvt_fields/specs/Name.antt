@@ -1,16 +1,13 @@
 -- NVMe qualified names (Base 2.0, section 4.5), within this project's limits.
 use Rattle.std.specs.Prelude.{◌≡◌, ℕ, Bool, ◌==◌, ◌&&◌, nat_eq, nat_lt, nat_le, List, length, take, position, unwrap_or, codes, Option, Some, None, if◌then◌else◌}
+use Rattle.std.specs.Char.{is_ascii_graphic}
 use Rattle.std.specs.List.{starts_with, list_all}
 use Rattle.nvt_fields.specs.declared.name.NqnFault.{NqnFault}
 use Rattle.nvt_fields.specs.declared.name.NqnFault.TheVariants.{TooLong, BadNqn}
 
--- a byte of a name: printable, and no space
-abbrev pub is_name_byte : ℕ → Bool
-is_name_byte b = nat_le 0x21 b && nat_le b 0x7E
-
--- five bytes or more that begin with `nqn.`, each printable
+-- five bytes or more that begin with `nqn.`, each from 21h to 7Eh
 abbrev pub is_name : List ℕ → Bool
-is_name text = nat_le 5 (length text) && (starts_with nat_eq text (codes "nqn.") && list_all is_name_byte text)
+is_name text = nat_le 5 (length text) && (starts_with nat_eq text (codes "nqn.") && list_all is_ascii_graphic text)
 
 -- why the text is no name, if it is none
 abbrev pub fault_of : List ℕ → Option NqnFault

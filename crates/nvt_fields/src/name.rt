@@ -1,11 +1,12 @@
 //! NVMe qualified names (Base 2.0, section 4.5).
 ghost use Rattle.std.specs.Prelude.{◌≡◌, IfOk, IsOkAnd, IsOkUnless, IfSome, MatchOption, codes, nat_eq, position, ◌==◌, ◌<◌, ◌≤◌, length};
+ghost use Rattle.std.specs.Char.{is_ascii_graphic};
 ghost use Rattle.std.specs.List.{list_all, starts_with};
 ghost use Rattle.std.specs.Str.{bytes_eq};
 ghost use Rattle.std.specs.Cmp.{partial_equiv_from_equiv};
 ghost use Rattle.std.specs.Cmp.Lexicographic.{nat_list_eq_equiv};
 ghost use Rattle.nvt_fields.specs.Field.{padded};
-ghost use Rattle.nvt_fields.specs.Name.{fault_of, is_name, is_name_byte, up_to_zero};
+ghost use Rattle.nvt_fields.specs.Name.{fault_of, is_name, up_to_zero};
 
 use crate::field::write_zeroed;
 use std::alloc::{AllocError, Global};
@@ -163,13 +164,7 @@ fn has_prefix(text: &[u8]) -> bool
 }
 
 fn are_name_bytes(text: &[u8]) -> bool
-    ensures { result ≡ list_all is_name_byte text.now }
+    ensures { result ≡ list_all is_ascii_graphic text.now }
 {
-    text.iter().all(|b| is_name_byte(*b))
-}
-
-fn is_name_byte(b: u8) -> bool
-    ensures { result ≡ is_name_byte b }
-{
-    (0x21..=0x7E).contains(&b)
+    text.iter().all(|b| b.is_ascii_graphic())
 }
