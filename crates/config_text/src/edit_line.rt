@@ -1,11 +1,17 @@
 //! The line of an edit. Until the edit language is whole, `port add` is the one edit that is read.
 
-ghost use Rattle.std.specs.Prelude.{◌≡◌, ◌==◌, ◌+◌, ◌<◌, ◌≤◌, [], ◌∷◌, ◌++◌, IfErr, IfOk, None, OnOk, length, if◌then◌else◌};
+ghost use Rattle.std.specs.Prelude.{◌≡◌, ◌==◌, ◌+◌, ◌<◌, ◌≤◌, [], ◌∷◌, ◌++◌, IfErr, IfOk, None};
+ghost use Rattle.std.specs.Prelude.{OnOk, length, if◌then◌else◌};
 ghost use Rattle.std.specs.Char.{is_ascii_graphic};
 ghost use Rattle.std.specs.Fmt.{decimal};
 ghost use Rattle.std.specs.List.{before_first, list_all};
 ghost use Rattle.std.specs.Result.{result_err};
-ghost use Rattle.config_text.specs.EditLine.{IsFront, IsLineOf, IsMoved, IsReadFault, IsRest, absence, address_form, column_after, endpoint_forms, endpoint_words, family_form, family_word, fault, fault_from, front_fault, keyword_form, line_fault, number_form, place_forms, place_words, port_add_line, word_at, word_fault};
+ghost use Rattle.config_text.specs.EditLine.{IsFront, IsLineOf, IsMoved, IsReadFault, IsRest};
+ghost use Rattle.config_text.specs.EditLine.{absence, address_form, column_after, endpoint_forms};
+ghost use Rattle.config_text.specs.EditLine.{endpoint_words, family_form, family_word, fault};
+ghost use Rattle.config_text.specs.EditLine.{fault_from, front_fault, keyword_form, line_fault};
+ghost use Rattle.config_text.specs.EditLine.{number_form, place_forms, place_words, port_add_line};
+ghost use Rattle.config_text.specs.EditLine.{word_at, word_fault};
 
 use crate::lines::find_byte;
 use crate::number::read_number;
@@ -125,7 +131,8 @@ impl<'a> Words<'a> {
             (keyword_form noun.now ∷ keyword_form verb.now ∷ []) }
         ensures front { OnOk result (IsFront self.old.line.now self.old.column
             (noun.now ++ 32 ∷ verb.now) self.new.line.now self.new.column) }
-        ensures moved { OnOk result (self.new.column ≡ column_after self.old.line.now self.old.column
+        ensures moved { OnOk result (self.new.column
+            ≡ column_after self.old.line.now self.old.column
             (keyword_form noun.now ∷ keyword_form verb.now ∷ [])) }
     {
         self.keyword(noun)?;
@@ -191,7 +198,8 @@ impl<'a> Words<'a> {
     fn family(&mut self) -> Result<Family, LineFault>
         ensures fault { result_err result
             ≡ word_fault self.old.line.now self.old.column family_form }
-        ensures word { IfOk result (λ f. word_at self.old.line.now self.old.column ≡ family_word f) }
+        ensures word { IfOk result
+            (λ f. word_at self.old.line.now self.old.column ≡ family_word f) }
         ensures moved { OnOk result
             (IsMoved self.old.line.now self.old.column self.new.line.now self.new.column) }
     {
@@ -207,7 +215,8 @@ impl<'a> Words<'a> {
     fn address(&mut self) -> Result<&'a [u8], LineFault>
         ensures fault { result_err result
             ≡ word_fault self.old.line.now self.old.column address_form }
-        ensures word { IfOk result (λ word. word.now ≡ word_at self.old.line.now self.old.column) }
+        ensures word { IfOk result
+            (λ word. word.now ≡ word_at self.old.line.now self.old.column) }
         ensures moved { OnOk result
             (IsMoved self.old.line.now self.old.column self.new.line.now self.new.column) }
     {
@@ -236,7 +245,8 @@ impl<'a> Words<'a> {
     // The word at the column, which has a byte, and moves behind the space after it.
     fn next_word(&mut self) -> Result<&'a [u8], LineFault>
         ensures fault { result_err result ≡ absence self.old.line.now self.old.column }
-        ensures word { IfOk result (λ word. word.now ≡ word_at self.old.line.now self.old.column) }
+        ensures word { IfOk result
+            (λ word. word.now ≡ word_at self.old.line.now self.old.column) }
         ensures moved { OnOk result
             (IsMoved self.old.line.now self.old.column self.new.line.now self.new.column) }
     {

@@ -1,5 +1,5 @@
 -- What an accepted edit leaves, and that a change which makes it keeps a configuration valid.
-use Rattle.std.proofs.Common.{◌≡◌, ◌≤◌, ◌==◌, ◌&&◌, ◌++◌, ◌∷◌, [], ℕ, Bool, true, false, not, List, Result, Ok, Any, IsTrue, IsOk, IfOk, nat_le, length, refl, sym, ◌∙◌, subst, ap, arith}
+use Rattle.std.proofs.Common.{◌≡◌, ◌≤◌, ◌==◌, ◌&&◌, ℕ, Bool, true, false, not, List, Result, Ok, Any, IsTrue, IsOk, IfOk, nat_le, length, refl, sym, ◌∙◌, subst, ap, arith}
 use Rattle.std.proofs.lemmas.Bool.{and_parts, cond-true, cond-false, eqb-true, leb-true}
 use Rattle.std.proofs.lemmas.List.Folds.{Any-from_list_any}
 use Rattle.nvt_config.specs.declared.edit.Edit.{Edit}
@@ -7,7 +7,7 @@ use Rattle.nvt_config.specs.declared.edit.Edit.TheVariants.{SubsystemAdd, Subsys
 use Rattle.nvt_config.specs.declared.port.Port.{Port}
 use Rattle.nvt_config.specs.Port.{is_port, is_port_number, is_address}
 use Rattle.nvt_config.specs.Subsystem.{is_discovery, is_serial}
-use Rattle.nvt_config.specs.Configuration.{Configuration, IsValid, has_subsystem, with_subsystem, with_access, without_subsystem, has_port, with_port, with_port_set, without_port, has_link, is_port_linked, is_subsystem_linked, with_link, without_link, has_host, has_live_host, with_live, with_host, without_host}
+use Rattle.nvt_config.specs.Configuration.{Configuration, IsValid, has_subsystem, with_subsystem, with_access, without_subsystem, has_port, with_port, with_port_set, without_port, has_link, is_port_linked, is_subsystem_linked, with_link, without_link, has_host, has_live_host, with_live, with_new_host, with_host, without_host}
 use Rattle.nvt_config.specs.Accept.{accept, refuse}
 use Rattle.nvt_config.specs.declared.plan.Change.{Change}
 use Rattle.nvt_config.specs.declared.plan.Plan.{Plan}
@@ -117,5 +117,5 @@ linked_port c v port subsystem same ok valid =
 pub with_host-known : (c : Configuration) (nqn : List ℕ) → has_host c nqn ≡ true → with_live c nqn true ≡ with_host c nqn
 with_host-known c nqn known = sym (cond-true (has_host c nqn) (with_live c nqn true) _ known)
 
-pub with_host-new : (c : Configuration) (nqn : List ℕ) → has_host c nqn ≡ false → record c { hosts = c.hosts ++ record { nqn = nqn; live = true } ∷ [] } ≡ with_host c nqn
+pub with_host-new : (c : Configuration) (nqn : List ℕ) → has_host c nqn ≡ false → with_new_host c (record { nqn = nqn; live = true }) ≡ with_host c nqn
 with_host-new c nqn absent = sym (cond-false (has_host c nqn) (with_live c nqn true) _ absent)

@@ -7,7 +7,7 @@ use Rattle.std.specs.List.{list_any}
 use Rattle.std.specs.Str.{bytes_eq}
 use Rattle.nvt_config.specs.declared.host.Host.{Host}
 use Rattle.nvt_config.specs.Lists.{changed_where}
-use Rattle.nvt_config.specs.Configuration.{Configuration, AreHosts, IsValid, has_host, with_live, with_host}
+use Rattle.nvt_config.specs.Configuration.{Configuration, AreHosts, IsValid, has_host, with_live, with_new_host, with_host}
 use Rattle.nvt_config.proofs.Lists.{length-changed_where, distinct-changed_where}
 use Rattle.nvt_config.proofs.Names.{new_name}
 use Rattle.nvt_config.proofs.Links.{IsLink-elsewhere}
@@ -47,7 +47,7 @@ room_for c nqn fits absent = elim (and_cases (not (has_host c nqn)) (nat_le 256 
 
 pub IsValid-with_host : (c : Configuration) (nqn : List ℕ) → IsValid c → (not (has_host c nqn) && nat_le 256 (length c.hosts)) ≡ false → IsValid (with_host c nqn)
 IsValid-with_host c nqn valid fits =
-    cond_both (has_host c nqn) (with_live c nqn true) (record c { hosts = c.hosts ++ record { nqn = nqn; live = true } ∷ [] }) IsValid
+    cond_both (has_host c nqn) (with_live c nqn true) (with_new_host c (record { nqn = nqn; live = true })) IsValid
     (λ known. IsValid-with_live c nqn true valid)
     (λ absent. record {
       disks = valid.disks;

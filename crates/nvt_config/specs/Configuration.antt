@@ -86,11 +86,14 @@ with_live c nqn live =
     let set : Host → Host = λ host. record host { live = live } in
     record c { hosts = changed_where (λ host. bytes_eq host.nqn nqn) set c.hosts }
 
+abbrev pub with_new_host : Configuration → Host → Configuration
+with_new_host c host = record c { hosts = c.hosts ++ host ∷ [] }
+
 -- a host that was added before comes back in its place
 abbrev pub with_host : Configuration → List ℕ → Configuration
 with_host c nqn =
     if has_host c nqn then with_live c nqn true
-    else record c { hosts = c.hosts ++ record { nqn = nqn; live = true } ∷ [] }
+    else with_new_host c (record { nqn = nqn; live = true })
 
 -- a host keeps its place when it goes
 abbrev pub without_host : Configuration → List ℕ → Configuration

@@ -1,11 +1,11 @@
 -- What a plan makes of a configuration.
-use Rattle.std.specs.Prelude.{◌≡◌, ◌<◌, [], ◌∷◌, ◌++◌, length, vec_capacity, Ok}
+use Rattle.std.specs.Prelude.{◌≡◌, ◌<◌, length, vec_capacity, Ok}
 use Rattle.nvt_config.specs.declared.edit.Edit.{Edit}
 use Rattle.nvt_config.specs.declared.plan.Change.{Change}
 use Rattle.nvt_config.specs.declared.plan.Change.TheVariants.{AddSubsystem, SetAccess, RemoveSubsystem, AddPort, ReplacePort, RemovePort, AddLink, RemoveLink, AddHost, SetLive}
 use Rattle.nvt_config.specs.declared.plan.Plan.{Plan}
 use Rattle.nvt_config.specs.Accept.{accept}
-use Rattle.nvt_config.specs.Configuration.{Configuration, IsValid, with_subsystem, with_access, without_subsystem, with_port, with_port_set, without_port, with_link, without_link, with_live}
+use Rattle.nvt_config.specs.Configuration.{Configuration, IsValid, with_subsystem, with_access, without_subsystem, with_port, with_port_set, without_port, with_link, without_link, with_live, with_new_host}
 
 abbrev pub changed_by : Change → Configuration → Configuration
 changed_by (AddSubsystem addition) c = with_subsystem c addition.item
@@ -16,7 +16,7 @@ changed_by (ReplacePort port) c = with_port_set c port
 changed_by (RemovePort id) c = without_port c id
 changed_by (AddLink addition) c = with_link c addition.item
 changed_by (RemoveLink port subsystem) c = without_link c port subsystem.now
-changed_by (AddHost addition) c = record c { hosts = c.hosts ++ addition.item ∷ [] }
+changed_by (AddHost addition) c = with_new_host c addition.item
 changed_by (SetLive nqn live) c = with_live c nqn.now live
 
 -- the configuration that a plan makes of this one

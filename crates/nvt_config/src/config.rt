@@ -1,5 +1,6 @@
 //! The configuration, and the edits applied to it.
-ghost use Rattle.std.specs.Prelude.{◌≡◌, ◌==◌, ◌^◌, IfErr, IfOk, IsOk, IsOkUnless, OnErr, OnOk, find, nat_le};
+ghost use Rattle.std.specs.Prelude.{◌≡◌, ◌==◌, ◌^◌, IfErr, IfOk, IsOk, IsOkUnless, OnErr, OnOk};
+ghost use Rattle.std.specs.Prelude.{find, nat_le};
 ghost use Rattle.std.specs.Bool.{OnFalse, OnTrue};
 ghost use Rattle.std.specs.List.{list_all};
 ghost use Rattle.std.specs.Option.{option_copied};
@@ -44,9 +45,21 @@ impl Model for Config {
 
     ghost Value = { Configuration };
 
-    ghost view = { λ c. record { units = c.units.items; subsystems = c.subsystems.items; ports = c.ports.items; links = c.links.items; hosts = c.hosts.items } };
+    ghost view = { λ c. record {
+      units = c.units.items;
+      subsystems = c.subsystems.items;
+      ports = c.ports.items;
+      links = c.links.items;
+      hosts = c.hosts.items;
+    } };
 
-    ghost invariant = { λ c. IsValid (record { units = c.units.items; subsystems = c.subsystems.items; ports = c.ports.items; links = c.links.items; hosts = c.hosts.items }) };
+    ghost invariant = { λ c. IsValid (record {
+      units = c.units.items;
+      subsystems = c.subsystems.items;
+      ports = c.ports.items;
+      links = c.links.items;
+      hosts = c.hosts.items;
+    }) };
 }
 
 impl Config {
@@ -114,7 +127,8 @@ impl Config {
 
     /// The subsystem of that name, if there is one.
     pub fn subsystem(&self, nqn: &[u8]) -> Option<&Subsystem>
-        ensures { option_copied result ≡ find (λ subsystem. bytes_eq subsystem.nqn nqn.now) self.now.subsystems }
+        ensures { option_copied result
+            ≡ find (λ subsystem. bytes_eq subsystem.nqn nqn.now) self.now.subsystems }
     {
         self.subsystems
             .iter()

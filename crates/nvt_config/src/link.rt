@@ -28,7 +28,8 @@ impl Clone for Link {
 }
 
 pub(crate) fn has_link(links: &[Link], port: u64, subsystem: &Nqn) -> bool
-    ensures { result ≡ list_any (λ link. link.port == port && bytes_eq link.subsystem subsystem.now) links.now }
+    ensures { result ≡ list_any
+        (λ link. link.port == port && bytes_eq link.subsystem subsystem.now) links.now }
 {
     links.iter().any(|link| u64::from(link.port) == port && link.subsystem == *subsystem)
 }
@@ -46,7 +47,8 @@ pub(crate) fn is_subsystem_linked(links: &[Link], subsystem: &Nqn) -> bool
 }
 
 pub(crate) fn remove_link(links: &mut Vec<Link>, port: u64, subsystem: &Nqn)
-    ensures { links.new.items ≡ without (λ link. link.port == port && bytes_eq link.subsystem subsystem.now) links.old.items }
+    ensures { links.new.items ≡ without
+        (λ link. link.port == port && bytes_eq link.subsystem subsystem.now) links.old.items }
 {
     links.retain(|link| u64::from(link.port) != port || link.subsystem != *subsystem);
 }

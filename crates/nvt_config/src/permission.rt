@@ -20,13 +20,15 @@ impl Config {
 }
 
 fn is_linked(links: &[Link], port: u16, subsystem: &[u8]) -> bool
-    ensures { result ≡ list_any (λ link. link.port == port && bytes_eq link.subsystem subsystem.now) links.now }
+    ensures { result ≡ list_any
+        (λ link. link.port == port && bytes_eq link.subsystem subsystem.now) links.now }
 {
     links.iter().any(|link| link.port == port && link.subsystem.as_bytes() == subsystem)
 }
 
 fn is_open(subsystems: &[Subsystem], nqn: &[u8]) -> bool
-    ensures { result ≡ list_any (λ subsystem. bytes_eq subsystem.nqn nqn.now && is_open subsystem.access) subsystems.now }
+    ensures { result ≡ list_any
+        (λ s. bytes_eq s.nqn nqn.now && is_open s.access) subsystems.now }
 {
     subsystems.iter().any(|subsystem| subsystem.nqn.as_bytes() == nqn && subsystem.access.is_open())
 }

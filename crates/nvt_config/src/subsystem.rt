@@ -62,8 +62,8 @@ pub(crate) fn has_subsystem(subsystems: &[Subsystem], nqn: &Nqn) -> bool
 }
 
 pub(crate) fn set_access(subsystems: &mut [Subsystem], nqn: &Nqn, access: Access)
-    ensures { let set : Subsystem → Subsystem = λ subsystem. record subsystem { access = access } in
-        subsystems.new ≡ changed_where (λ subsystem. bytes_eq subsystem.nqn nqn.now) set subsystems.old }
+    ensures { let set : Subsystem → Subsystem = λ s. record s { access = access } in
+        subsystems.new ≡ changed_where (λ s. bytes_eq s.nqn nqn.now) set subsystems.old }
 {
     for subsystem in subsystems.iter_mut() {
         if subsystem.nqn == *nqn {
@@ -73,7 +73,8 @@ pub(crate) fn set_access(subsystems: &mut [Subsystem], nqn: &Nqn, access: Access
 }
 
 pub(crate) fn remove_subsystem(subsystems: &mut Vec<Subsystem>, nqn: &Nqn)
-    ensures { subsystems.new.items ≡ without (λ subsystem. bytes_eq subsystem.nqn nqn.now) subsystems.old.items }
+    ensures { subsystems.new.items
+        ≡ without (λ s. bytes_eq s.nqn nqn.now) subsystems.old.items }
 {
     subsystems.retain(|subsystem| subsystem.nqn != *nqn);
 }

@@ -1,6 +1,9 @@
 //! Each kind of change of the lists. None takes memory, so none can fail.
-ghost use Rattle.std.specs.Prelude.{◌≡◌, ◌<◌, ◌∷◌, ◌++◌, [], length, vec_capacity};
-ghost use Rattle.nvt_config.specs.Configuration.{IsValid, with_access, with_link, with_live, with_port, with_port_set, with_subsystem, without_link, without_port, without_subsystem};
+ghost use Rattle.std.specs.Prelude.{◌≡◌, ◌<◌, length, vec_capacity};
+ghost use Rattle.nvt_config.specs.Configuration.{IsValid, with_access, with_link, with_live};
+ghost use Rattle.nvt_config.specs.Configuration.{with_new_host, with_port, with_port_set};
+ghost use Rattle.nvt_config.specs.Configuration.{with_subsystem, without_link, without_port};
+ghost use Rattle.nvt_config.specs.Configuration.{without_subsystem};
 
 use crate::config::Config;
 use crate::host::{Host, set_live};
@@ -72,8 +75,8 @@ impl Config {
 
     pub(super) fn add_host(&mut self, addition: Addition<Host>)
         requires room { length self.old.hosts < vec_capacity addition.list }
-        requires valid { IsValid (record self.old { hosts = self.old.hosts ++ addition.item ∷ [] }) }
-        ensures { self.new ≡ record self.old { hosts = self.old.hosts ++ addition.item ∷ [] } }
+        requires valid { IsValid (with_new_host self.old addition.item) }
+        ensures { self.new ≡ with_new_host self.old addition.item }
     {
         addition.add_to(&mut self.hosts);
     }

@@ -24,7 +24,8 @@ const HOSTS_MAX: usize = 256;
 
 impl Config {
     pub(super) fn check_subsystem_add(&self, nqn: &Nqn, serial: &Text) -> Result<(), EditFault>
-        ensures { (access : Access) → result ≡ verdict (accept self.now (Edit.SubsystemAdd nqn.now serial.now access)) }
+        ensures { (access : Access)
+            → result ≡ verdict (accept self.now (Edit.SubsystemAdd nqn.now serial.now access)) }
     {
         refuse(is_discovery(nqn), EditFault::BadValue(Value::Nqn))?;
         refuse(!is_serial(serial), EditFault::BadValue(Value::Serial))?;
@@ -39,7 +40,8 @@ impl Config {
     }
 
     pub(super) fn check_subsystem_set(&self, nqn: &Nqn) -> Result<(), EditFault>
-        ensures { (access : Access) → result ≡ verdict (accept self.now (Edit.SubsystemSet nqn.now access)) }
+        ensures { (access : Access)
+            → result ≡ verdict (accept self.now (Edit.SubsystemSet nqn.now access)) }
     {
         self.wants_subsystem(nqn)
     }
@@ -60,7 +62,8 @@ impl Config {
         address: &Text,
         service: u64,
     ) -> Result<(), EditFault>
-        ensures { (family : Family) → result ≡ verdict (accept self.now (Edit.PortAdd id family address.now service)) }
+        ensures { (family : Family)
+            → result ≡ verdict (accept self.now (Edit.PortAdd id family address.now service)) }
     {
         check_port_values(id, address, service)?;
         refuse(has_port(&self.ports, id), EditFault::Exists(Item::Port))?;
@@ -73,7 +76,8 @@ impl Config {
         address: &Text,
         service: u64,
     ) -> Result<(), EditFault>
-        ensures { (family : Family) → result ≡ verdict (accept self.now (Edit.PortSet id family address.now service)) }
+        ensures { (family : Family)
+            → result ≡ verdict (accept self.now (Edit.PortSet id family address.now service)) }
     {
         check_port_values(id, address, service)?;
         self.wants_port(id)
@@ -135,7 +139,8 @@ impl Config {
     }
 
     fn wants_subsystem(&self, nqn: &Nqn) -> Result<(), EditFault>
-        ensures { result ≡ refuse (not (has_subsystem self.now nqn.now)) (EditFault.NoSuch Item.Subsystem) (Ok tt) }
+        ensures { result ≡ refuse (not (has_subsystem self.now nqn.now))
+            (EditFault.NoSuch Item.Subsystem) (Ok tt) }
     {
         refuse(
             !has_subsystem(&self.subsystems, nqn),
@@ -144,7 +149,8 @@ impl Config {
     }
 
     fn wants_port(&self, id: u64) -> Result<(), EditFault>
-        ensures { result ≡ refuse (not (has_port self.now id)) (EditFault.NoSuch Item.Port) (Ok tt) }
+        ensures { result ≡ refuse (not (has_port self.now id))
+            (EditFault.NoSuch Item.Port) (Ok tt) }
     {
         refuse(!has_port(&self.ports, id), EditFault::NoSuch(Item::Port))
     }

@@ -1,7 +1,8 @@
 //! What each kind of edit is going to change, where it is accepted. All memory is taken here.
 ghost use Rattle.std.specs.Prelude.{◌≡◌, IfOk, IsOk, IsTrue};
 ghost use Rattle.nvt_config.specs.Accept.{accept};
-ghost use Rattle.nvt_config.specs.declared.edit.Edit.TheVariants.{HostAdd, LinkAdd, PortAdd, PortSet, SubsystemAdd};
+ghost use Rattle.nvt_config.specs.declared.edit.Edit.TheVariants.{HostAdd, LinkAdd, PortAdd};
+ghost use Rattle.nvt_config.specs.declared.edit.Edit.TheVariants.{PortSet, SubsystemAdd};
 ghost use Rattle.nvt_config.specs.Plan.{IsPlanOf};
 ghost use Rattle.nvt_config.specs.Port.{is_port_number};
 
@@ -101,7 +102,12 @@ impl Config {
 fn port_of(id: u64, family: Family, address: &Text, service: u64) -> Result<Port, AllocError>
     requires number { IsTrue (is_port_number id) }
     requires listens { IsTrue (is_port_number service) }
-    ensures { IfOk result (λ port. port ≡ record { id = id; family = family; address = address.now; service = service }) }
+    ensures { IfOk result (λ port. port ≡ record {
+      id = id;
+      family = family;
+      address = address.now;
+      service = service;
+    }) }
 {
     Ok(Port {
         id: id as u16,
