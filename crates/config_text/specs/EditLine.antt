@@ -7,8 +7,8 @@ use Rattle.std.specs.Option.{option_or}
 use Rattle.std.specs.Str.{bytes_eq}
 use Rattle.nvt_config.specs.declared.edit.Edit.{Edit}
 use Rattle.nvt_config.specs.declared.edit.Edit.TheVariants.{PortAdd}
-use Rattle.nvt_config.specs.declared.port.Family.{Family}
-use Rattle.nvt_config.specs.declared.port.Family.TheVariants.{Ipv4, Ipv6}
+use Rattle.config_lists.specs.declared.port.Family.{Family}
+use Rattle.config_lists.specs.declared.port.Family.TheVariants.{Ipv4, Ipv6}
 use Rattle.config_text.specs.Number.{is_number}
 use Rattle.config_text.specs.declared.edit_line.LineFault.{LineFault}
 use Rattle.config_text.specs.declared.edit_line.LineFaultKind.{LineFaultKind}

@@ -4,8 +4,8 @@ use Rattle.std.proofs.lemmas.Fmt.{length-decimal-le}
 use Rattle.std.proofs.lemmas.List.{length-replicate}
 use Rattle.std.specs.Fmt.{decimal}
 use Rattle.std.specs.Int.{w16, to_le_bytes}
-use Rattle.nvt_config.specs.declared.port.Port.{Port}
-use Rattle.nvt_config.specs.Port.{is_port}
+use Rattle.config_lists.specs.declared.port.Port.{Port}
+use Rattle.config_lists.specs.Port.{is_port}
 use Rattle.nvt_fields.specs.Field.{padded}
 use Rattle.discovery_view.specs.Record.{Parts, family_code, record_of}
 

@@ -5,8 +5,8 @@ use Rattle.std.proofs.lemmas.Bool.Decides.{nat_tests}
 use Rattle.std.proofs.lemmas.List.Elements.{All-append, All-cons, All-contains, All-contains_itself, All-head, All-map, All-nil, All-tail, All-weaker, Contains-append_left, Contains-append_right}
 use Rattle.std.proofs.lemmas.List.Kept.{AllPairs-cons, AllPairs-filter}
 use Rattle.std.specs.List.{flat_map}
-use Rattle.nvt_config.specs.declared.port.Port.{Port}
-use Rattle.nvt_config.specs.declared.subsystem.Subsystem.{Subsystem}
+use Rattle.config_lists.specs.declared.port.Port.{Port}
+use Rattle.config_lists.specs.declared.subsystem.Subsystem.{Subsystem}
 use Rattle.nvt_config.specs.Configuration.{Configuration, IsValid}
 use Rattle.nvt_config.specs.Permission.{may_use}
 use Rattle.discovery_view.specs.Listing.{IsBefore, IsListing, IsShown}

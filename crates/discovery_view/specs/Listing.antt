@@ -1,7 +1,7 @@
 -- Which records a page has, and in which order (Base 2.0, section 5.16.1.23).
 use Rattle.std.specs.Prelude.{◌≡◌, ◌<◌, ◌⊎◌, ◌↔◌, ℕ, List, AllPairs, Contains, IsTrue}
-use Rattle.nvt_config.specs.declared.port.Port.{Port}
-use Rattle.nvt_config.specs.declared.subsystem.Subsystem.{Subsystem}
+use Rattle.config_lists.specs.declared.port.Port.{Port}
+use Rattle.config_lists.specs.declared.subsystem.Subsystem.{Subsystem}
 use Rattle.nvt_config.specs.Configuration.{Configuration, IsValid}
 use Rattle.nvt_config.specs.Permission.{may_use}
 use Rattle.discovery_view.specs.Order.{name_below}

@@ -4,8 +4,8 @@ use Rattle.std.specs.Fmt.{decimal}
 use Rattle.std.specs.Int.{w16, to_le_bytes}
 use Rattle.std.specs.Str.{bytes_eq}
 use lib.Pointwise.{pointwise}
-use Rattle.nvt_config.specs.declared.port.Family.{Family}
-use Rattle.nvt_config.specs.declared.port.Family.TheVariants.{Ipv4, Ipv6}
+use Rattle.config_lists.specs.declared.port.Family.{Family}
+use Rattle.config_lists.specs.declared.port.Family.TheVariants.{Ipv4, Ipv6}
 use Rattle.nvt_fields.specs.Field.{padded}
 
 -- what the record tells of a subsystem on a port: the address's family, the port's number, the TCP port

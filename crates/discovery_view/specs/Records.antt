@@ -2,8 +2,8 @@
 -- use, by the port's number and then by the subsystem's name (Base 2.0, section 5.16.1.23).
 use Rattle.std.specs.Prelude.{ℕ, nat_lt, List, map, filter}
 use Rattle.std.specs.List.{flat_map}
-use Rattle.nvt_config.specs.declared.port.Port.{Port}
-use Rattle.nvt_config.specs.declared.subsystem.Subsystem.{Subsystem}
+use Rattle.config_lists.specs.declared.port.Port.{Port}
+use Rattle.config_lists.specs.declared.subsystem.Subsystem.{Subsystem}
 use Rattle.nvt_config.specs.Configuration.{Configuration}
 use Rattle.nvt_config.specs.Permission.{may_use}
 use Rattle.discovery_view.specs.Order.{in_order, name_below}

@@ -2,8 +2,8 @@
 use Rattle.std.specs.Prelude.{ℕ, Option, None, Some, List, [], ◌∷◌, ◌++◌}
 use Rattle.std.specs.Borrow.{Bor}
 use Rattle.std.specs.List.{flat_map}
-use Rattle.nvt_config.specs.declared.port.Port.{Port}
-use Rattle.nvt_config.specs.declared.subsystem.Subsystem.{Subsystem}
+use Rattle.config_lists.specs.declared.port.Port.{Port}
+use Rattle.config_lists.specs.declared.subsystem.Subsystem.{Subsystem}
 use Rattle.nvt_config.specs.Configuration.{Configuration}
 use Rattle.discovery_view.specs.Record.{Parts}
 use Rattle.discovery_view.specs.Records.{records_among}

@@ -1,6 +1,6 @@
 //! A subsystem on a port, as a host is shown it.
 ghost use Rattle.std.specs.Prelude.{◌≡◌, IsTrue, length};
-ghost use Rattle.nvt_config.specs.Port.{is_port};
+ghost use Rattle.config_lists.specs.Port.{is_port};
 ghost use Rattle.discovery_view.specs.Record.{record_of, same_parts};
 ghost use Rattle.discovery_view.specs.Same.{same_parts_laws};
 ghost use Rattle.discovery_view.specs.Records.{parts_of};
@@ -20,7 +20,7 @@ pub(crate) struct Entry<'a> {
 
 impl<'a> Model for Entry<'a> {
     ghost use Rattle.std.specs.Prelude.{IsTrue};
-    ghost use Rattle.nvt_config.specs.Port.{is_port};
+    ghost use Rattle.config_lists.specs.Port.{is_port};
     ghost use Rattle.discovery_view.specs.Record.{Parts};
     ghost use Rattle.discovery_view.specs.Records.{parts_of};
 

@@ -19,7 +19,7 @@ pub(crate) struct Listing<'a> {
 
 impl<'a> Model for Listing<'a> {
     ghost use Rattle.std.specs.Prelude.{◌≤◌, All, IsTrue, List, length};
-    ghost use Rattle.nvt_config.specs.Port.{is_port};
+    ghost use Rattle.config_lists.specs.Port.{is_port};
     ghost use Rattle.discovery_view.specs.Record.{Parts};
     ghost use Rattle.discovery_view.specs.Walk.{entries_of, records_left};
 

@@ -1,7 +1,7 @@
 //! A walk over the entries of a page, in the page's order.
 ghost use Rattle.std.specs.Prelude.{◌≡◌, ◌≤◌, ◌∷◌, [], IsTrue, IfSome, MatchOption, drop, length};
 ghost use Rattle.std.specs.Iterator.{YieldsFirst, item_count};
-ghost use Rattle.nvt_config.specs.Port.{is_port};
+ghost use Rattle.config_lists.specs.Port.{is_port};
 ghost use Rattle.discovery_view.specs.Records.{records_among};
 ghost use Rattle.discovery_view.specs.Walk.{entries_of};
 
@@ -23,7 +23,7 @@ pub(crate) struct Walk<'s, 'a> {
 
 impl<'s, 'a> Model for Walk<'s, 'a> {
     ghost use Rattle.std.specs.Prelude.{◌≤◌, All, IsTrue, List, drop, length};
-    ghost use Rattle.nvt_config.specs.Port.{is_port};
+    ghost use Rattle.config_lists.specs.Port.{is_port};
     ghost use Rattle.discovery_view.specs.Record.{Parts};
     ghost use Rattle.discovery_view.specs.Walk.{entries_of, records_left};
 

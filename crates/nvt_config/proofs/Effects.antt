@@ -4,9 +4,9 @@ use Rattle.std.proofs.lemmas.Bool.{and_parts, cond-true, cond-false, eqb-true, l
 use Rattle.std.proofs.lemmas.List.Folds.{Any-from_list_any}
 use Rattle.nvt_config.specs.declared.edit.Edit.{Edit}
 use Rattle.nvt_config.specs.declared.edit.Edit.TheVariants.{SubsystemAdd, SubsystemSet, SubsystemDel, PortAdd, PortSet, PortDel, LinkAdd, LinkDel, HostAdd, HostDel}
-use Rattle.nvt_config.specs.declared.port.Port.{Port}
-use Rattle.nvt_config.specs.Port.{is_port, is_port_number, is_address}
-use Rattle.nvt_config.specs.Subsystem.{is_discovery, is_serial}
+use Rattle.config_lists.specs.declared.port.Port.{Port}
+use Rattle.config_lists.specs.Port.{is_port, is_port_number, is_address}
+use Rattle.config_lists.specs.Subsystem.{is_discovery, is_serial}
 use Rattle.nvt_config.specs.Configuration.{Configuration, IsValid, has_subsystem, with_subsystem, with_access, without_subsystem, has_port, with_port, with_port_set, without_port, has_link, is_port_linked, is_subsystem_linked, with_link, without_link, has_host, has_live_host, with_live, with_new_host, with_host, without_host}
 use Rattle.nvt_config.specs.Accept.{accept, refuse}
 use Rattle.nvt_config.specs.declared.plan.Change.{Change}

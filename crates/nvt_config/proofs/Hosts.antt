@@ -5,11 +5,11 @@ use Rattle.std.proofs.lemmas.Grind.{common_steps}
 use Rattle.std.proofs.lemmas.List.Quantifiers.{all_pairs_push}
 use Rattle.std.specs.List.{list_any}
 use Rattle.std.specs.Str.{bytes_eq}
-use Rattle.nvt_config.specs.declared.host.Host.{Host}
-use Rattle.nvt_config.specs.Lists.{changed_where}
+use Rattle.config_lists.specs.declared.host.Host.{Host}
+use Rattle.config_lists.specs.Lists.{changed_where}
 use Rattle.nvt_config.specs.Configuration.{Configuration, AreHosts, IsValid, has_host, with_live, with_new_host, with_host}
-use Rattle.nvt_config.proofs.Lists.{length-changed_where, distinct-changed_where}
-use Rattle.nvt_config.proofs.Names.{new_name}
+use Rattle.config_lists.proofs.Lists.{length-changed_where, distinct-changed_where}
+use Rattle.config_lists.proofs.Names.{new_name}
 use Rattle.nvt_config.proofs.Links.{IsLink-elsewhere}
 
 AreHosts-push : (hosts : List Host) (nqn : List ℕ) → AreHosts hosts → list_any (λ h. bytes_eq h.nqn nqn) hosts ≡ false → nat_le 256 (length hosts) ≡ false → AreHosts (hosts ++ record { nqn = nqn; live = true } ∷ [])

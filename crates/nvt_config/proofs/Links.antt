@@ -5,11 +5,11 @@ use Rattle.std.proofs.lemmas.List.Elements.{All-push, All-filter, All-weaker}
 use Rattle.std.proofs.lemmas.List.Kept.{AllPairs-filter}
 use Rattle.std.proofs.lemmas.List.Quantifiers.{all_pairs_push}
 use Rattle.std.specs.Str.{bytes_eq}
-use Rattle.nvt_config.specs.declared.host.Host.{Host}
-use Rattle.nvt_config.specs.declared.link.Link.{Link}
+use Rattle.config_lists.specs.declared.host.Host.{Host}
+use Rattle.config_lists.specs.declared.link.Link.{Link}
 use Rattle.nvt_config.specs.Configuration.{Configuration, IsLink, IsValid, has_subsystem, has_port, has_link, with_link, without_link}
-use Rattle.nvt_config.proofs.Lists.{no_item}
-use Rattle.nvt_config.proofs.Names.{bytes_eq-same}
+use Rattle.config_lists.proofs.Lists.{no_item}
+use Rattle.config_lists.proofs.Names.{bytes_eq-same}
 
 -- where a link leads hangs on the ports and the subsystems alone
 pub IsLink-elsewhere : (c : Configuration) (links : List Link) (hosts : List Host) (ls : List Link) → All (IsLink c) ls → All (IsLink (record c { links = links; hosts = hosts })) ls

@@ -6,11 +6,11 @@ use Rattle.std.proofs.lemmas.List.Elements.{All-push, All-filter, All-weaker}
 use Rattle.std.proofs.lemmas.List.Folds.{list_any-append}
 use Rattle.std.proofs.lemmas.List.Kept.{AllPairs-filter}
 use Rattle.std.proofs.lemmas.List.Quantifiers.{all_pairs_push}
-use Rattle.nvt_config.specs.declared.link.Link.{Link}
-use Rattle.nvt_config.specs.declared.port.Port.{Port}
-use Rattle.nvt_config.specs.Port.{is_port}
+use Rattle.config_lists.specs.declared.link.Link.{Link}
+use Rattle.config_lists.specs.declared.port.Port.{Port}
+use Rattle.config_lists.specs.Port.{is_port}
 use Rattle.nvt_config.specs.Configuration.{Configuration, IsLink, IsValid, has_port, with_port, with_port_set, without_port, is_port_linked}
-use Rattle.nvt_config.proofs.Lists.{no_item, length-without, length-changed_where, All-changed_where, distinct-changed_where, list_any-changed_where, list_any-without}
+use Rattle.config_lists.proofs.Lists.{no_item, length-without, length-changed_where, All-changed_where, distinct-changed_where, list_any-changed_where, list_any-without}
 
 kept_port : (c : Configuration) (port : Port) (id : ℕ) → has_port c id ≡ true → has_port (with_port c port) id ≡ true
 kept_port c port id there =

@@ -7,13 +7,13 @@ use Rattle.std.proofs.lemmas.List.Folds.{list_any-append}
 use Rattle.std.proofs.lemmas.List.Kept.{AllPairs-filter}
 use Rattle.std.proofs.lemmas.List.Quantifiers.{all_pairs_push}
 use Rattle.std.specs.Str.{bytes_eq}
-use Rattle.nvt_config.specs.declared.link.Link.{Link}
-use Rattle.nvt_config.specs.declared.subsystem.Access.{Access}
-use Rattle.nvt_config.specs.declared.subsystem.Subsystem.{Subsystem}
-use Rattle.nvt_config.specs.Subsystem.{is_subsystem}
+use Rattle.config_lists.specs.declared.link.Link.{Link}
+use Rattle.config_lists.specs.declared.subsystem.Access.{Access}
+use Rattle.config_lists.specs.declared.subsystem.Subsystem.{Subsystem}
+use Rattle.config_lists.specs.Subsystem.{is_subsystem}
 use Rattle.nvt_config.specs.Configuration.{Configuration, IsLink, IsValid, has_subsystem, with_subsystem, with_access, without_subsystem, is_subsystem_linked}
-use Rattle.nvt_config.proofs.Lists.{no_item, length-without, length-changed_where, All-changed_where, distinct-changed_where, list_any-changed_where, list_any-without}
-use Rattle.nvt_config.proofs.Names.{same_name, new_name}
+use Rattle.config_lists.proofs.Lists.{no_item, length-without, length-changed_where, All-changed_where, distinct-changed_where, list_any-changed_where, list_any-without}
+use Rattle.config_lists.proofs.Names.{same_name, new_name}
 
 -- a subsystem is found where it was found, and a new one where its name is asked for
 kept_subsystem : (c : Configuration) (s : Subsystem) (nqn : List ℕ) → has_subsystem c nqn ≡ true → has_subsystem (with_subsystem c s) nqn ≡ true

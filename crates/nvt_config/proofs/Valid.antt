@@ -3,11 +3,11 @@ use Rattle.std.proofs.Common.{◌≡◌, ◌&&◌, ℕ, Bool, true, false, not, 
 use Rattle.std.proofs.lemmas.Bool.{and_from, not-false, not_from_false}
 use Rattle.nvt_config.specs.declared.edit.Edit.{Edit}
 use Rattle.nvt_config.specs.declared.edit.Edit.TheVariants.{SubsystemAdd, SubsystemSet, SubsystemDel, PortAdd, PortSet, PortDel, LinkAdd, LinkDel, HostAdd, HostDel}
-use Rattle.nvt_config.specs.declared.port.Family.{Family}
-use Rattle.nvt_config.specs.declared.port.Port.{Port}
-use Rattle.nvt_config.specs.declared.subsystem.Subsystem.{Subsystem}
-use Rattle.nvt_config.specs.Port.{is_port, is_port_number, is_address}
-use Rattle.nvt_config.specs.Subsystem.{is_discovery, is_serial, is_subsystem}
+use Rattle.config_lists.specs.declared.port.Family.{Family}
+use Rattle.config_lists.specs.declared.port.Port.{Port}
+use Rattle.config_lists.specs.declared.subsystem.Subsystem.{Subsystem}
+use Rattle.config_lists.specs.Port.{is_port, is_port_number, is_address}
+use Rattle.config_lists.specs.Subsystem.{is_discovery, is_serial, is_subsystem}
 use Rattle.nvt_config.specs.Configuration.{Configuration, IsValid, has_subsystem, has_port, has_link, is_port_linked, is_subsystem_linked, has_host, has_live_host}
 use Rattle.nvt_config.specs.Accept.{accept, refuse}
 use Rattle.nvt_config.proofs.Subsystems.{IsValid-with_subsystem, IsValid-with_access, IsValid-without_subsystem}

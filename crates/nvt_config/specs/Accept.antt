@@ -6,8 +6,8 @@ use Rattle.nvt_config.specs.declared.fault.EditFault.{EditFault}
 use Rattle.nvt_config.specs.declared.fault.EditFault.TheVariants.{BadValue, NoSuch, Exists, InUse, Full}
 use Rattle.nvt_config.specs.declared.fault.Value.TheVariants as value
 use Rattle.nvt_config.specs.declared.fault.Item.TheVariants as item
-use Rattle.nvt_config.specs.Port.{is_port_number, is_address}
-use Rattle.nvt_config.specs.Subsystem.{is_discovery, is_serial}
+use Rattle.config_lists.specs.Port.{is_port_number, is_address}
+use Rattle.config_lists.specs.Subsystem.{is_discovery, is_serial}
 use Rattle.nvt_config.specs.Configuration.{Configuration, IsValid, has_subsystem, with_subsystem, with_access, without_subsystem, has_port, with_port, with_port_set, without_port, has_link, is_port_linked, is_subsystem_linked, with_link, without_link, has_host, has_live_host, with_host, without_host}
 
 -- the fault if the test passes, and else what comes next

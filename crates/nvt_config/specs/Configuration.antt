@@ -2,14 +2,14 @@
 use Rattle.std.specs.Prelude.{◌≡◌, ◌≢◌, ℕ, Bool, true, false, ◌^◌, ◌≤◌, ◌==◌, ◌&&◌, nat_le, List, [], ◌∷◌, ◌++◌, length, All, AllPairs, IsTrue, if◌then◌else◌}
 use Rattle.std.specs.List.{list_all, list_any}
 use Rattle.std.specs.Str.{bytes_eq}
-use Rattle.nvt_config.specs.declared.host.Host.{Host}
-use Rattle.nvt_config.specs.declared.link.Link.{Link}
-use Rattle.nvt_config.specs.declared.port.Port.{Port}
-use Rattle.nvt_config.specs.declared.subsystem.Access.{Access}
-use Rattle.nvt_config.specs.declared.subsystem.Subsystem.{Subsystem}
-use Rattle.nvt_config.specs.Lists.{changed_where, without}
-use Rattle.nvt_config.specs.Port.{is_port}
-use Rattle.nvt_config.specs.Subsystem.{is_subsystem}
+use Rattle.config_lists.specs.declared.host.Host.{Host}
+use Rattle.config_lists.specs.declared.link.Link.{Link}
+use Rattle.config_lists.specs.declared.port.Port.{Port}
+use Rattle.config_lists.specs.declared.subsystem.Access.{Access}
+use Rattle.config_lists.specs.declared.subsystem.Subsystem.{Subsystem}
+use Rattle.config_lists.specs.Lists.{changed_where, without}
+use Rattle.config_lists.specs.Port.{is_port}
+use Rattle.config_lists.specs.Subsystem.{is_subsystem}
 
 -- The disks' sizes in units of 512 bytes, and the lists, each in the order in which its items were
 -- added.

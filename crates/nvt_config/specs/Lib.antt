@@ -1,9 +1,5 @@
 pub mod Accept
 pub mod Configuration
 pub mod Fault
-pub mod Lists
 pub mod Permission
 pub mod Plan
-pub mod Port
-pub mod Subsystem
-pub mod Text

@@ -3,7 +3,7 @@ use Rattle.std.specs.Prelude.{ℕ, Bool, ◌&&◌, List}
 use Rattle.std.specs.List.{list_any}
 use Rattle.std.specs.Str.{bytes_eq}
 use Rattle.nvt_config.specs.Configuration.{Configuration, has_link}
-use Rattle.nvt_config.specs.Subsystem.{is_open}
+use Rattle.config_lists.specs.Subsystem.{is_open}
 
 abbrev pub is_open_subsystem : Configuration → List ℕ → Bool
 is_open_subsystem c nqn =

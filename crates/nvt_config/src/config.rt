@@ -15,11 +15,11 @@ mod plans;
 
 use crate::edit::Edit;
 use crate::fault::{EditFault, NewFault};
-use crate::host::Host;
-use crate::link::Link;
+use config_lists::host::Host;
+use config_lists::link::Link;
 use crate::plan::{Change, Plan};
-use crate::port::Port;
-use crate::subsystem::Subsystem;
+use config_lists::port::Port;
+use config_lists::subsystem::Subsystem;
 use std::alloc::{AllocError, Global};
 use std::marker::Model;
 

@@ -1,8 +1,8 @@
 //! The edits of a configuration.
 
-use crate::port::Family;
-use crate::subsystem::Access;
-use crate::text::Text;
+use config_lists::port::Family;
+use config_lists::subsystem::Access;
+use config_lists::text::Text;
 use nvt_fields::Nqn;
 
 /// One edit. Its numbers are as its line names them, so they may be out of range; one that names an

@@ -6,20 +6,11 @@
 pub mod config;
 pub mod edit;
 pub mod fault;
-pub mod host;
-pub mod link;
 pub mod permission;
 pub mod plan;
-pub mod port;
-pub mod subsystem;
-pub mod text;
 
 pub use config::Config;
+pub use config_lists::{Access, Family, Host, Link, Port, Subsystem, Text};
 pub use edit::Edit;
 pub use fault::{EditFault, Item, NewFault, Value};
-pub use host::Host;
-pub use link::Link;
 pub use plan::Plan;
-pub use port::{Family, Port};
-pub use subsystem::{Access, Subsystem};
-pub use text::Text;

@@ -3,11 +3,11 @@ ghost use Rattle.std.specs.Prelude.{◌≡◌, ◌==◌, ◌&&◌};
 ghost use Rattle.std.specs.List.{list_any};
 ghost use Rattle.std.specs.Str.{bytes_eq};
 ghost use Rattle.nvt_config.specs.Permission.{may_use};
-ghost use Rattle.nvt_config.specs.Subsystem.{is_open};
+ghost use Rattle.config_lists.specs.Subsystem.{is_open};
 
 use crate::config::Config;
-use crate::link::Link;
-use crate::subsystem::{Access, Subsystem};
+use config_lists::link::Link;
+use config_lists::subsystem::Subsystem;
 
 impl Config {
     /// Whether the host of that name may use the subsystem of that name through the port: the two are
@@ -31,15 +31,4 @@ fn is_open(subsystems: &[Subsystem], nqn: &[u8]) -> bool
         (λ s. bytes_eq s.nqn nqn.now && is_open s.access) subsystems.now }
 {
     subsystems.iter().any(|subsystem| subsystem.nqn.as_bytes() == nqn && subsystem.access.is_open())
-}
-
-impl Access {
-    fn is_open(self) -> bool
-        ensures { result ≡ is_open self }
-    {
-        match self {
-            Access::Open => true,
-            Access::Closed => false,
-        }
-    }
 }

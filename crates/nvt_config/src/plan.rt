@@ -1,10 +1,10 @@
 //! What an edit is going to change, with all the memory for it.
 ghost use Rattle.std.specs.Prelude.{◌≡◌, ◌<◌, ◌∷◌, ◌++◌, [], IfOk, vec_capacity, vec_len};
 
-use crate::host::Host;
-use crate::link::Link;
-use crate::port::Port;
-use crate::subsystem::{Access, Subsystem};
+use config_lists::host::Host;
+use config_lists::link::Link;
+use config_lists::port::Port;
+use config_lists::subsystem::{Access, Subsystem};
 use nvt_fields::Nqn;
 use std::alloc::{AllocError, Global};
 

@@ -3,7 +3,7 @@ use Rattle.std.specs.Prelude.{◌≡◌, ℕ, ◌-◌, ◌==◌, Bool, true, fal
 use Rattle.std.specs.Option.{option_map}
 use Rattle.number_table.specs.Table.{place, with_value, without}
 use Rattle.nvt_config.specs.Configuration.{Configuration}
-use Rattle.nvt_config.specs.declared.port.Port.{Port}
+use Rattle.config_lists.specs.declared.port.Port.{Port}
 use Rattle.pdu_cut.specs.declared.side.Side.TheVariants.{Target}
 use Rattle.pdu_cut.specs.Front.{Front, incomplete, whole, faulty, front}
 use Rattle.target_core.specs.declared.fault.NoConn.{NoConn}

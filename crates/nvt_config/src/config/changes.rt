@@ -6,11 +6,11 @@ ghost use Rattle.nvt_config.specs.Configuration.{with_subsystem, without_link, w
 ghost use Rattle.nvt_config.specs.Configuration.{without_subsystem};
 
 use crate::config::Config;
-use crate::host::{Host, set_live};
-use crate::link::{Link, remove_link};
+use config_lists::host::{Host, set_live};
+use config_lists::link::{Link, remove_link};
 use crate::plan::Addition;
-use crate::port::{Port, remove_port, replace_port};
-use crate::subsystem::{Access, Subsystem, remove_subsystem, set_access};
+use config_lists::port::{Port, remove_port, replace_port};
+use config_lists::subsystem::{Access, Subsystem, remove_subsystem, set_access};
 use nvt_fields::Nqn;
 
 impl Config {

@@ -2,18 +2,18 @@
 ghost use Rattle.std.specs.Prelude.{◌≡◌, not};
 ghost use Rattle.nvt_config.specs.Accept.{accept, refuse, verdict};
 ghost use Rattle.nvt_config.specs.Configuration.{has_port, has_subsystem};
-ghost use Rattle.nvt_config.specs.Port.{is_address, is_port_number};
-ghost use Rattle.nvt_config.specs.declared.port.Family.{Family};
-ghost use Rattle.nvt_config.specs.declared.subsystem.Access.{Access};
+ghost use Rattle.config_lists.specs.Port.{is_address, is_port_number};
+ghost use Rattle.config_lists.specs.declared.port.Family.{Family};
+ghost use Rattle.config_lists.specs.declared.subsystem.Access.{Access};
 
 use crate::config::Config;
 use crate::edit::Edit;
 use crate::fault::{EditFault, Item, Value};
-use crate::host::{has_host, has_live_host};
-use crate::link::{has_link, is_port_linked, is_subsystem_linked};
-use crate::port::{has_port, is_address, is_port_number};
-use crate::subsystem::{has_subsystem, is_discovery, is_serial};
-use crate::text::Text;
+use config_lists::host::{has_host, has_live_host};
+use config_lists::link::{has_link, is_port_linked, is_subsystem_linked};
+use config_lists::port::{has_port, is_address, is_port_number};
+use config_lists::subsystem::{has_subsystem, is_discovery, is_serial};
+use config_lists::text::Text;
 use nvt_fields::Nqn;
 
 const SUBSYSTEMS_MAX: usize = 32;

@@ -4,15 +4,15 @@ ghost use Rattle.nvt_config.specs.Accept.{accept};
 ghost use Rattle.nvt_config.specs.declared.edit.Edit.TheVariants.{HostAdd, LinkAdd, PortAdd};
 ghost use Rattle.nvt_config.specs.declared.edit.Edit.TheVariants.{PortSet, SubsystemAdd};
 ghost use Rattle.nvt_config.specs.Plan.{IsPlanOf};
-ghost use Rattle.nvt_config.specs.Port.{is_port_number};
+ghost use Rattle.config_lists.specs.Port.{is_port_number};
 
 use crate::config::Config;
-use crate::host::{Host, has_host};
-use crate::link::Link;
+use config_lists::host::{Host, has_host};
+use config_lists::link::Link;
 use crate::plan::{Addition, Change, Plan};
-use crate::port::{Family, Port};
-use crate::subsystem::{Access, Subsystem};
-use crate::text::Text;
+use config_lists::port::{Family, Port};
+use config_lists::subsystem::{Access, Subsystem};
+use config_lists::text::Text;
 use nvt_fields::Nqn;
 use std::alloc::{AllocError, Global};
 

@@ -1,6 +1,6 @@
 use Rattle.std.proofs.Common.{◌≡◌, All, IsTrue, length, ap, sym, subst, arith}
-use Rattle.nvt_config.specs.declared.port.Port.{Port}
-use Rattle.nvt_config.specs.Port.{is_port}
+use Rattle.config_lists.specs.declared.port.Port.{Port}
+use Rattle.config_lists.specs.Port.{is_port}
 use Rattle.discovery_view.specs.Records.{ports_in_order, subsystems_in_order}
 use Rattle.discovery_view.specs.Walk.{entries_of}
 use Rattle.discovery_view.proofs.Orders.{All-in_order}

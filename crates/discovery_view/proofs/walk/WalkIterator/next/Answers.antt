@@ -1,6 +1,6 @@
 use Rattle.std.proofs.Common.{◌≡◌, ◌∙◌, ◌<◌, IsTrue, [], drop, length, sym, arith}
 use Rattle.std.proofs.lemmas.Bool.{ltb-true}
-use Rattle.nvt_config.specs.Port.{is_port}
+use Rattle.config_lists.specs.Port.{is_port}
 use Rattle.discovery_view.specs.Records.{records_among}
 use Rattle.discovery_view.specs.Walk.{entries_of}
 use Rattle.discovery_view.proofs.Walks.{entry_ahead, entry_holds, none_ahead, port_done, rest_of}

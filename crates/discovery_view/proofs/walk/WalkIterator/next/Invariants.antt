@@ -1,5 +1,5 @@
 use Rattle.std.proofs.Common.{◌≡◌, ◌≤◌, ◌-◌, All, IsTrue, drop, length}
-use Rattle.nvt_config.specs.Port.{is_port}
+use Rattle.config_lists.specs.Port.{is_port}
 use Rattle.discovery_view.specs.Walk.{entries_of, records_left}
 use Rattle.discovery_view.proofs.walk.WalkIterator.next.Given as goal
 

@@ -1,5 +1,5 @@
 use Rattle.std.proofs.Common.{◌≡◌, length, arith}
-use Rattle.nvt_config.proofs.Lists.{written_back}
+use Rattle.config_lists.proofs.Lists.{written_back}
 use Rattle.nvt_config.proofs.config.Config.replace_port.Goals as goal
 
 pub invariant_of-self : goal.invariant_of-self

@@ -2,7 +2,7 @@
 ghost use Rattle.std.specs.Prelude.{◌≡◌, ◌==◌, ◌&&◌};
 ghost use Rattle.std.specs.List.{list_any};
 ghost use Rattle.std.specs.Str.{bytes_eq};
-ghost use Rattle.nvt_config.specs.Lists.{without};
+ghost use Rattle.config_lists.specs.Lists.{without};
 
 use nvt_fields::Nqn;
 use std::alloc::AllocError;
@@ -27,26 +27,30 @@ impl Clone for Link {
     }
 }
 
-pub(crate) fn has_link(links: &[Link], port: u64, subsystem: &Nqn) -> bool
+/// Whether the subsystem of that name is served on that port.
+pub fn has_link(links: &[Link], port: u64, subsystem: &Nqn) -> bool
     ensures { result ≡ list_any
         (λ link. link.port == port && bytes_eq link.subsystem subsystem.now) links.now }
 {
     links.iter().any(|link| u64::from(link.port) == port && link.subsystem == *subsystem)
 }
 
-pub(crate) fn is_port_linked(links: &[Link], port: u64) -> bool
+/// Whether a subsystem is served on that port.
+pub fn is_port_linked(links: &[Link], port: u64) -> bool
     ensures { result ≡ list_any (λ link. link.port == port) links.now }
 {
     links.iter().any(|link| u64::from(link.port) == port)
 }
 
-pub(crate) fn is_subsystem_linked(links: &[Link], subsystem: &Nqn) -> bool
+/// Whether the subsystem of that name is served on a port.
+pub fn is_subsystem_linked(links: &[Link], subsystem: &Nqn) -> bool
     ensures { result ≡ list_any (λ link. bytes_eq link.subsystem subsystem.now) links.now }
 {
     links.iter().any(|link| link.subsystem == *subsystem)
 }
 
-pub(crate) fn remove_link(links: &mut Vec<Link>, port: u64, subsystem: &Nqn)
+/// Takes the link of that port and that subsystem away.
+pub fn remove_link(links: &mut Vec<Link>, port: u64, subsystem: &Nqn)
     ensures { links.new.items ≡ without
         (λ link. link.port == port && bytes_eq link.subsystem subsystem.now) links.old.items }
 {

@@ -2,9 +2,9 @@
 ghost use Rattle.std.specs.Prelude.{◌≡◌};
 ghost use Rattle.std.specs.List.{list_any};
 ghost use Rattle.std.specs.Str.{bytes_eq};
-ghost use Rattle.nvt_config.specs.declared.subsystem.Subsystem.{Subsystem};
-ghost use Rattle.nvt_config.specs.Lists.{changed_where, without};
-ghost use Rattle.nvt_config.specs.Subsystem.{is_discovery, is_serial};
+ghost use Rattle.config_lists.specs.declared.subsystem.Subsystem.{Subsystem};
+ghost use Rattle.config_lists.specs.Lists.{changed_where, without};
+ghost use Rattle.config_lists.specs.Subsystem.{is_discovery, is_open, is_serial};
 
 use crate::text::Text;
 use nvt_fields::{DISCOVERY_NQN, Nqn};
@@ -19,6 +19,18 @@ pub enum Access {
     Open,
     /// The hosts that it allows.
     Closed,
+}
+
+impl Access {
+    /// Whether each host may use it.
+    pub fn is_open(self) -> bool
+        ensures { result ≡ is_open self }
+    {
+        match self {
+            Access::Open => true,
+            Access::Closed => false,
+        }
+    }
 }
 
 /// What hosts connect to.
@@ -43,25 +55,29 @@ impl Clone for Subsystem {
     }
 }
 
-pub(crate) fn is_discovery(nqn: &Nqn) -> bool
+/// Whether it is the discovery subsystem's name.
+pub fn is_discovery(nqn: &Nqn) -> bool
     ensures { result ≡ is_discovery nqn.now }
 {
     nqn.as_bytes() == DISCOVERY_NQN.as_slice()
 }
 
-pub(crate) fn is_serial(text: &Text) -> bool
+/// Whether a subsystem may have this serial number: 1 to 20 bytes, each from 21h to 7Eh.
+pub fn is_serial(text: &Text) -> bool
     ensures { result ≡ is_serial text.now }
 {
     text.is_word(SERIAL_MAX)
 }
 
-pub(crate) fn has_subsystem(subsystems: &[Subsystem], nqn: &Nqn) -> bool
+/// Whether a subsystem of that name is there.
+pub fn has_subsystem(subsystems: &[Subsystem], nqn: &Nqn) -> bool
     ensures { result ≡ list_any (λ subsystem. bytes_eq subsystem.nqn nqn.now) subsystems.now }
 {
     subsystems.iter().any(|subsystem| subsystem.nqn == *nqn)
 }
 
-pub(crate) fn set_access(subsystems: &mut [Subsystem], nqn: &Nqn, access: Access)
+/// Gives the subsystem of that name this access.
+pub fn set_access(subsystems: &mut [Subsystem], nqn: &Nqn, access: Access)
     ensures { let set : Subsystem → Subsystem = λ s. record s { access = access } in
         subsystems.new ≡ changed_where (λ s. bytes_eq s.nqn nqn.now) set subsystems.old }
 {
@@ -72,7 +88,8 @@ pub(crate) fn set_access(subsystems: &mut [Subsystem], nqn: &Nqn, access: Access
     }
 }
 
-pub(crate) fn remove_subsystem(subsystems: &mut Vec<Subsystem>, nqn: &Nqn)
+/// Takes the subsystem of that name away.
+pub fn remove_subsystem(subsystems: &mut Vec<Subsystem>, nqn: &Nqn)
     ensures { subsystems.new.items
         ≡ without (λ s. bytes_eq s.nqn nqn.now) subsystems.old.items }
 {

@@ -1,7 +1,7 @@
 use Rattle.std.proofs.Common.{◌==◌, sym, ◌∙◌}
 use Rattle.std.proofs.lemmas.Bool.{eqb-true, false_from_ne_true}
-use Rattle.nvt_config.proofs.Lists.{set-changed_where, changed_where_none}
-use Rattle.nvt_config.proofs.port.replace_port.Goals as goal
+use Rattle.config_lists.proofs.Lists.{set-changed_where, changed_where_none}
+use Rattle.config_lists.proofs.port.replace_port.Goals as goal
 
 pub returns-in-Some : goal.returns-in-Some
 returns-in-Some c =

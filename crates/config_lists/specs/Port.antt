@@ -1,7 +1,7 @@
 -- What a port may hold.
 use Rattle.std.specs.Prelude.{ℕ, Bool, ◌&&◌, nat_le, List}
-use Rattle.nvt_config.specs.declared.port.Port.{Port}
-use Rattle.nvt_config.specs.Text.{is_word}
+use Rattle.config_lists.specs.declared.port.Port.{Port}
+use Rattle.config_lists.specs.Text.{is_word}
 
 -- a port's number, and that of its service
 abbrev pub is_port_number : ℕ → Bool

@@ -2,10 +2,10 @@
 use Rattle.std.specs.Prelude.{ℕ, Bool, true, false, not, ◌&&◌, List}
 use Rattle.std.specs.Str.{bytes_eq}
 use Rattle.nvt_fields.specs.Name.{discovery_nqn}
-use Rattle.nvt_config.specs.declared.subsystem.Access.{Access}
-use Rattle.nvt_config.specs.declared.subsystem.Access.TheVariants.{Open, Closed}
-use Rattle.nvt_config.specs.declared.subsystem.Subsystem.{Subsystem}
-use Rattle.nvt_config.specs.Text.{is_word}
+use Rattle.config_lists.specs.declared.subsystem.Access.{Access}
+use Rattle.config_lists.specs.declared.subsystem.Access.TheVariants.{Open, Closed}
+use Rattle.config_lists.specs.declared.subsystem.Subsystem.{Subsystem}
+use Rattle.config_lists.specs.Text.{is_word}
 
 abbrev pub is_open : Access → Bool
 is_open Open = true

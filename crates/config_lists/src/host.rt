@@ -2,8 +2,8 @@
 ghost use Rattle.std.specs.Prelude.{◌≡◌, ◌&&◌};
 ghost use Rattle.std.specs.List.{list_any};
 ghost use Rattle.std.specs.Str.{bytes_eq};
-ghost use Rattle.nvt_config.specs.declared.host.Host.{Host};
-ghost use Rattle.nvt_config.specs.Lists.{changed_where};
+ghost use Rattle.config_lists.specs.declared.host.Host.{Host};
+ghost use Rattle.config_lists.specs.Lists.{changed_where};
 
 use nvt_fields::Nqn;
 use std::alloc::AllocError;
@@ -27,19 +27,22 @@ impl Clone for Host {
     }
 }
 
-pub(crate) fn has_host(hosts: &[Host], nqn: &Nqn) -> bool
+/// Whether a host of that name was ever added.
+pub fn has_host(hosts: &[Host], nqn: &Nqn) -> bool
     ensures { result ≡ list_any (λ host. bytes_eq host.nqn nqn.now) hosts.now }
 {
     hosts.iter().any(|host| host.nqn == *nqn)
 }
 
-pub(crate) fn has_live_host(hosts: &[Host], nqn: &Nqn) -> bool
+/// Whether a live host of that name is there.
+pub fn has_live_host(hosts: &[Host], nqn: &Nqn) -> bool
     ensures { result ≡ list_any (λ host. bytes_eq host.nqn nqn.now && host.live) hosts.now }
 {
     hosts.iter().any(|host| host.nqn == *nqn && host.live)
 }
 
-pub(crate) fn set_live(hosts: &mut [Host], nqn: &Nqn, live: bool)
+/// Makes the host of that name live, or not.
+pub fn set_live(hosts: &mut [Host], nqn: &Nqn, live: bool)
     ensures { let set : Host → Host = λ host. record host { live = live } in
         hosts.new ≡ changed_where (λ host. bytes_eq host.nqn nqn.now) set hosts.old }
 {

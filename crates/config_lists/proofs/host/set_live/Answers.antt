@@ -1,9 +1,9 @@
 use Rattle.std.proofs.Common.{◌≡◌, Bool, slice_set, ap, sym, ◌∙◌}
 use Rattle.std.specs.Str.{bytes_eq}
-use Rattle.nvt_config.specs.declared.host.Host.{Host}
-use Rattle.nvt_config.proofs.Lists.{changed_where_more, changed_where_past}
-use Rattle.nvt_config.proofs.host.set_live.Goals as goal
-use Rattle.nvt_config.proofs.host.set_live.Goals.{then-eq, else-eq}
+use Rattle.config_lists.specs.declared.host.Host.{Host}
+use Rattle.config_lists.proofs.Lists.{changed_where_more, changed_where_past}
+use Rattle.config_lists.proofs.host.set_live.Goals as goal
+use Rattle.config_lists.proofs.host.set_live.Goals.{then-eq, else-eq}
 
 pub loop-host-preserved : goal.loop-host-preserved
 loop-host-preserved c =

@@ -12,7 +12,7 @@ use Rattle.std.proofs.lemmas.List.Quantifiers.{position-Some}
 use Rattle.std.proofs.lemmas.Map.Views.{any-filter_same}
 use Rattle.std.proofs.lemmas.List.Sums.{fails_before_first, length-filter, count_by-le-length}
 use Rattle.std.specs.List.{list_any, position_or_len}
-use Rattle.nvt_config.specs.Lists.{changed_where, without}
+use Rattle.config_lists.specs.Lists.{changed_where, without}
 
 -- where there is no first item that passes, each fails
 no_place : {X : Type 0} (test : X → Bool) (xs : List X) (k : ℕ) (d : X) → position test xs ≡ None → k < length xs → test (get_or xs k d) ≡ false

@@ -1,8 +1,8 @@
 //! A port: where the target listens.
 ghost use Rattle.std.specs.Prelude.{◌≡◌, ◌≢◌, ◌==◌, AllPairs, position};
 ghost use Rattle.std.specs.List.{list_any};
-ghost use Rattle.nvt_config.specs.Lists.{changed_where, without};
-ghost use Rattle.nvt_config.specs.Port.{is_address, is_port_number};
+ghost use Rattle.config_lists.specs.Lists.{changed_where, without};
+ghost use Rattle.config_lists.specs.Port.{is_address, is_port_number};
 
 use crate::text::Text;
 use std::alloc::AllocError;
@@ -41,25 +41,29 @@ impl Clone for Port {
     }
 }
 
-pub(crate) fn is_port_number(n: u64) -> bool
+/// Whether a port, or its service, may have this number: 1 to 65,535.
+pub fn is_port_number(n: u64) -> bool
     ensures { result ≡ is_port_number n }
 {
     (1..=65_535).contains(&n)
 }
 
-pub(crate) fn is_address(text: &Text) -> bool
+/// Whether a port may have this address: 1 to 256 bytes, each from 21h to 7Eh.
+pub fn is_address(text: &Text) -> bool
     ensures { result ≡ is_address text.now }
 {
     text.is_word(ADDRESS_MAX)
 }
 
-pub(crate) fn has_port(ports: &[Port], id: u64) -> bool
+/// Whether a port of that number is there.
+pub fn has_port(ports: &[Port], id: u64) -> bool
     ensures { result ≡ list_any (λ port. port.id == id) ports.now }
 {
     ports.iter().any(|port| u64::from(port.id) == id)
 }
 
-pub(crate) fn replace_port(ports: &mut [Port], port: Port)
+/// Puts a port in the place of the one of its number, where that is there.
+pub fn replace_port(ports: &mut [Port], port: Port)
     requires { AllPairs (λ p q. p.id ≢ q.id) ports.old }
     ensures { ports.new ≡ changed_where (λ old. old.id == port.id) (λ _. port) ports.old }
 {
@@ -74,7 +78,8 @@ fn place_of(ports: &[Port], id: u16) -> Option<usize>
     ports.iter().position(|port| port.id == id)
 }
 
-pub(crate) fn remove_port(ports: &mut Vec<Port>, id: u64)
+/// Takes the port of that number away.
+pub fn remove_port(ports: &mut Vec<Port>, id: u64)
     ensures { ports.new.items ≡ without (λ port. port.id == id) ports.old.items }
 {
     ports.retain(|port| u64::from(port.id) != id);

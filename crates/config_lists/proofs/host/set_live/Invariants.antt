@@ -1,8 +1,8 @@
 use Rattle.std.proofs.Common.{◌≡◌, ◌++◌, take, drop}
 use Rattle.std.specs.Str.{bytes_eq}
-use Rattle.nvt_config.specs.declared.host.Host.{Host}
-use Rattle.nvt_config.specs.Lists.{changed_where}
-use Rattle.nvt_config.proofs.host.set_live.Given as goal
+use Rattle.config_lists.specs.declared.host.Host.{Host}
+use Rattle.config_lists.specs.Lists.{changed_where}
+use Rattle.config_lists.proofs.host.set_live.Given as goal
 
 -- the hosts before the index are set, and the others as they were
 abbrev pub invariant-loop-host : goal.invariant-loop-host

@@ -2,7 +2,7 @@
 ghost use Rattle.std.specs.Prelude.{◌≡◌};
 ghost use Rattle.std.specs.Char.{is_ascii_graphic};
 ghost use Rattle.std.specs.List.{list_all};
-ghost use Rattle.nvt_config.specs.Text.{is_word};
+ghost use Rattle.config_lists.specs.Text.{is_word};
 
 use std::alloc::AllocError;
 use std::marker::Model;
@@ -35,8 +35,8 @@ impl Text {
         self.bytes
     }
 
-    // Whether it is 1 byte to as many as `most`, each from 21h to 7Eh.
-    pub(crate) fn is_word(&self, most: usize) -> bool
+    /// Whether it is 1 byte to as many as `most`, each from 21h to 7Eh.
+    pub fn is_word(&self, most: usize) -> bool
         ensures { result ≡ is_word most self.now }
     {
         let bytes = self.as_bytes();

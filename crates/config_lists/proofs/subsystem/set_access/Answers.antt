@@ -1,9 +1,9 @@
 use Rattle.std.proofs.Common.{◌≡◌, Bool, slice_set, ap, sym, ◌∙◌}
 use Rattle.std.specs.Str.{bytes_eq}
-use Rattle.nvt_config.specs.declared.subsystem.Subsystem.{Subsystem}
-use Rattle.nvt_config.proofs.Lists.{changed_where_more, changed_where_past}
-use Rattle.nvt_config.proofs.subsystem.set_access.Goals as goal
-use Rattle.nvt_config.proofs.subsystem.set_access.Goals.{then-eq, else-eq}
+use Rattle.config_lists.specs.declared.subsystem.Subsystem.{Subsystem}
+use Rattle.config_lists.proofs.Lists.{changed_where_more, changed_where_past}
+use Rattle.config_lists.proofs.subsystem.set_access.Goals as goal
+use Rattle.config_lists.proofs.subsystem.set_access.Goals.{then-eq, else-eq}
 
 pub loop-subsystem-preserved : goal.loop-subsystem-preserved
 loop-subsystem-preserved c =

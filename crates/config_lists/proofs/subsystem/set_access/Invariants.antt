@@ -1,8 +1,8 @@
 use Rattle.std.proofs.Common.{◌≡◌, ◌++◌, take, drop}
 use Rattle.std.specs.Str.{bytes_eq}
-use Rattle.nvt_config.specs.declared.subsystem.Subsystem.{Subsystem}
-use Rattle.nvt_config.specs.Lists.{changed_where}
-use Rattle.nvt_config.proofs.subsystem.set_access.Given as goal
+use Rattle.config_lists.specs.declared.subsystem.Subsystem.{Subsystem}
+use Rattle.config_lists.specs.Lists.{changed_where}
+use Rattle.config_lists.proofs.subsystem.set_access.Given as goal
 
 -- the subsystems before the index are set, and the others as they were
 abbrev pub invariant-loop-subsystem : goal.invariant-loop-subsystem

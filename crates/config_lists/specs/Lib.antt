@@ -1,0 +1,4 @@
+pub mod Lists
+pub mod Port
+pub mod Subsystem
+pub mod Text

@@ -1,0 +1,16 @@
+//! The lists of a storage target's configuration, each by itself: what an item of it is, whether one
+//! of a name is there, and how one is set or removed. What holds between the lists, and which edits
+//! there are, is `nvt_config`'s.
+#![tactic(auto)]
+
+pub mod host;
+pub mod link;
+pub mod port;
+pub mod subsystem;
+pub mod text;
+
+pub use host::Host;
+pub use link::Link;
+pub use port::{Family, Port};
+pub use subsystem::{Access, Subsystem};
+pub use text::Text;
