@@ -15,9 +15,9 @@ mod plans;
 
 use crate::edit::Edit;
 use crate::fault::{EditFault, NewFault};
+use crate::plan::{Change, Plan};
 use config_lists::host::Host;
 use config_lists::link::Link;
-use crate::plan::{Change, Plan};
 use config_lists::port::Port;
 use config_lists::subsystem::Subsystem;
 use std::alloc::{AllocError, Global};

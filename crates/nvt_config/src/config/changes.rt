@@ -6,9 +6,9 @@ ghost use Rattle.nvt_config.specs.Configuration.{with_subsystem, without_link, w
 ghost use Rattle.nvt_config.specs.Configuration.{without_subsystem};
 
 use crate::config::Config;
+use crate::plan::Addition;
 use config_lists::host::{Host, set_live};
 use config_lists::link::{Link, remove_link};
-use crate::plan::Addition;
 use config_lists::port::{Port, remove_port, replace_port};
 use config_lists::subsystem::{Access, Subsystem, remove_subsystem, set_access};
 use nvt_fields::Nqn;

@@ -7,9 +7,9 @@ ghost use Rattle.nvt_config.specs.Plan.{IsPlanOf};
 ghost use Rattle.config_lists.specs.Port.{is_port_number};
 
 use crate::config::Config;
+use crate::plan::{Addition, Change, Plan};
 use config_lists::host::{Host, has_host};
 use config_lists::link::Link;
-use crate::plan::{Addition, Change, Plan};
 use config_lists::port::{Family, Port};
 use config_lists::subsystem::{Access, Subsystem};
 use config_lists::text::Text;
