@@ -1,5 +1,5 @@
 //! A subsystem: what hosts connect to.
-ghost use Rattle.std.specs.Prelude.{◌≡◌};
+ghost use Rattle.std.specs.Prelude.{◌≡◌, ◌&&◌};
 ghost use Rattle.std.specs.List.{list_any};
 ghost use Rattle.std.specs.Str.{bytes_eq};
 ghost use Rattle.config_lists.specs.declared.subsystem.Subsystem.{Subsystem};
@@ -74,6 +74,16 @@ pub fn has_subsystem(subsystems: &[Subsystem], nqn: &Nqn) -> bool
     ensures { result ≡ list_any (λ subsystem. bytes_eq subsystem.nqn nqn.now) subsystems.now }
 {
     subsystems.iter().any(|subsystem| subsystem.nqn == *nqn)
+}
+
+/// Whether a subsystem of that name is there, and each host may use it.
+pub fn has_open_subsystem(subsystems: &[Subsystem], nqn: &[u8]) -> bool
+    ensures { result ≡ list_any
+        (λ s. bytes_eq s.nqn nqn.now && is_open s.access) subsystems.now }
+{
+    subsystems
+        .iter()
+        .any(|subsystem| subsystem.nqn.as_bytes() == nqn && subsystem.access.is_open())
 }
 
 /// Gives the subsystem of that name this access.

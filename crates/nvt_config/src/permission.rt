@@ -1,13 +1,10 @@
 //! Which subsystem a host may use.
-ghost use Rattle.std.specs.Prelude.{◌≡◌, ◌==◌, ◌&&◌};
-ghost use Rattle.std.specs.List.{list_any};
-ghost use Rattle.std.specs.Str.{bytes_eq};
+ghost use Rattle.std.specs.Prelude.{◌≡◌};
 ghost use Rattle.nvt_config.specs.Permission.{may_use};
-ghost use Rattle.config_lists.specs.Subsystem.{is_open};
 
 use crate::config::Config;
-use config_lists::link::Link;
-use config_lists::subsystem::Subsystem;
+use config_lists::link::has_link;
+use config_lists::subsystem::has_open_subsystem;
 
 impl Config {
     /// Whether the host of that name may use the subsystem of that name through the port: the two are
@@ -15,20 +12,7 @@ impl Config {
     pub fn may_use(&self, host: &[u8], subsystem: &[u8], port: u16) -> bool
         ensures { result ≡ may_use self.now host.now subsystem.now port }
     {
-        is_linked(self.links(), port, subsystem) && is_open(self.subsystems(), subsystem)
+        has_link(self.links(), u64::from(port), subsystem)
+            && has_open_subsystem(self.subsystems(), subsystem)
     }
-}
-
-fn is_linked(links: &[Link], port: u16, subsystem: &[u8]) -> bool
-    ensures { result ≡ list_any
-        (λ link. link.port == port && bytes_eq link.subsystem subsystem.now) links.now }
-{
-    links.iter().any(|link| link.port == port && link.subsystem.as_bytes() == subsystem)
-}
-
-fn is_open(subsystems: &[Subsystem], nqn: &[u8]) -> bool
-    ensures { result ≡ list_any
-        (λ s. bytes_eq s.nqn nqn.now && is_open s.access) subsystems.now }
-{
-    subsystems.iter().any(|subsystem| subsystem.nqn.as_bytes() == nqn && subsystem.access.is_open())
 }

@@ -99,7 +99,7 @@ impl Config {
         self.wants_port(port)?;
         self.wants_subsystem(subsystem)?;
         refuse(
-            has_link(&self.links, port, subsystem),
+            has_link(&self.links, port, subsystem.as_bytes()),
             EditFault::Exists(Item::Link),
         )
     }
@@ -110,7 +110,7 @@ impl Config {
         self.wants_port(port)?;
         self.wants_subsystem(subsystem)?;
         refuse(
-            !has_link(&self.links, port, subsystem),
+            !has_link(&self.links, port, subsystem.as_bytes()),
             EditFault::NoSuch(Item::Link),
         )
     }
