@@ -1,5 +1,5 @@
 -- The count of the changes to a host's records, from the newest configuration back.
-use Rattle.std.proofs.Common.{◌≡◌, ℕ, ◌+◌, ◌<◌, ◌%◌, ◌^◌, true, false, List, [], ◌∷◌, ◌++◌, reverse, refl, ap, sym, ◌∙◌, arith, inl, inr}
+use Rattle.std.proofs.Common.{◌≡◌, ℕ, ◌+◌, ◌<◌, ◌%◌, ◌^◌, List, [], ◌∷◌, ◌++◌, reverse, refl, ap, sym, ◌∙◌, arith, inl, inr}
 use Rattle.std.proofs.Math.Nat.{mod-add-mod, mod-eq_of_lt}
 use Rattle.std.proofs.lemmas.Bool.{cases_Bool}
 use Rattle.std.proofs.lemmas.List.{reverse-append}
@@ -12,19 +12,15 @@ use Rattle.discovery_view.specs.View.{Shown, ShowsFirst, ShowsNext, changes_reco
 changes_back : (b c : Configuration) (past rest : List Configuration) (host : List ℕ) → past ≡ rest ++ b ∷ [] → changes_until c (reverse past) host ≡ changes_records b c host + changes_until b (reverse rest) host
 changes_back b c past rest host is = rw (is, reverse-append) refl
 
-pub same_before : (b c : Configuration) (past rest : List Configuration) (host : List ℕ) → past ≡ rest ++ b ∷ [] → same_records (records_of b host) (records_of c host) ≡ true → changes_until c (reverse past) host ≡ changes_until b (reverse rest) host
-same_before b c past rest host is same =
-    let none : changes_records b c host ≡ 0 = rw same refl in
-    omega (arith, changes_back b c past rest host is, none)
+-- before any is looked at
+pub counted_none : (total m : ℕ) → (0 + total) % m ≡ total % m
+counted_none total m = ap (λ k. k % m) (omega arith)
 
-pub change_before : (b c : Configuration) (past rest : List Configuration) (host : List ℕ) → past ≡ rest ++ b ∷ [] → same_records (records_of b host) (records_of c host) ≡ false → changes_until c (reverse past) host ≡ 1 + changes_until b (reverse rest) host
-change_before b c past rest host is differ =
-    let one : changes_records b c host ≡ 1 = rw differ refl in
-    omega (arith, changes_back b c past rest host is, one)
-
--- a count that goes round
-pub counted : (n rest m : ℕ) → ((n + 1) % m + rest) % m ≡ (n + (1 + rest)) % m
-counted n rest m = mod-add-mod (n + 1) m rest ∙ ap (λ k. k % m) (omega arith)
+-- the changes so far, with one configuration more looked at, and those before it
+pub counted_back : (b c : Configuration) (past rest : List Configuration) (host : List ℕ) (n m : ℕ) → past ≡ rest ++ b ∷ [] → ((n + changes_records b c host) % m + changes_until b (reverse rest) host) % m ≡ (n + changes_until c (reverse past) host) % m
+counted_back b c past rest host n m is =
+    let all = changes_back b c past rest host is in
+    mod-add-mod (n + changes_records b c host) m (changes_until b (reverse rest) host) ∙ ap (λ k. k % m) (omega arith)
 
 pub count_ends : (n total m : ℕ) → n < m → (n + 0) % m ≡ total % m → n ≡ total % m
 count_ends n total m below same =

@@ -68,10 +68,8 @@ impl DiscoveryView {
         ensures room { OnOk result (1 ≤ self.new.room) }
         ensures kept { self.new.shown ≡ self.old.shown }
     {
-        let mut next = config.try_clone()?;
-        let change = next.prepare(edit)?;
-        next.commit(change);
         self.past.reserve(1)?;
+        let next = edited(config, edit)?;
         Ok(Plan { next })
     }
 
@@ -121,14 +119,23 @@ impl DiscoveryView {
         let mut past = self.past.as_slice();
         while let Some((before, rest)) = past.split_last() {
             let earlier = Listing::new(before, host);
-            if !earlier.is_same(&shown) {
-                count = count.wrapping_add(1);
-            }
+            count = count.wrapping_add(earlier.changes_to(&shown));
             shown = earlier;
             past = rest;
         }
         count
     }
+}
+
+// What an edit that is accepted makes of a configuration.
+fn edited(config: &Config, edit: &Edit) -> Result<Config, AllocError>
+    requires { IsOk (accept config.now edit.now) }
+    ensures { IfOk result (λ next. accept config.now edit.now ≡ Ok next) }
+{
+    let mut next = config.try_clone()?;
+    let change = next.prepare(edit)?;
+    next.commit(change);
+    Ok(next)
 }
 
 /// Whatever a configuration holds, the records that it shows to a host are those of the subsystems and
