@@ -1,5 +1,5 @@
 //! NVMe qualified names (Base 2.0, section 4.5).
-ghost use Rattle.std.specs.Prelude.{◌≡◌, IfOk, IsOkAnd, IsOkUnless, IfSome, MatchOption, codes, nat_eq, position, ◌==◌, ◌<◌, ◌≤◌, length};
+ghost use Rattle.std.specs.Prelude.{◌≡◌, IfOk, IsOkAnd, IsOkUnless, IfSome, MatchOption, nat_eq, position, ◌==◌, ◌<◌, ◌≤◌, length};
 ghost use Rattle.std.specs.Char.{is_ascii_graphic};
 ghost use Rattle.std.specs.List.{list_all, starts_with};
 ghost use Rattle.std.specs.Str.{bytes_eq};
@@ -74,7 +74,7 @@ impl Nqn {
     /// The name's length in bytes.
     pub fn len(&self) -> usize
         ensures value { result ≡ length self.now }
-        ensures bound { result ≤ 223 }
+        ensures bound { result ≤ NQN_MAX }
     {
         self.bytes.len()
     }
@@ -158,7 +158,7 @@ fn is_name(text: &[u8]) -> bool
 }
 
 fn has_prefix(text: &[u8]) -> bool
-    ensures { result ≡ starts_with nat_eq text.now (codes "nqn.") }
+    ensures { result ≡ starts_with nat_eq text.now PREFIX.now }
 {
     text.starts_with(PREFIX)
 }

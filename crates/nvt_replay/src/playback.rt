@@ -16,7 +16,7 @@ use std::io::Write;
 use target_core::{OpenFault, StepFault, Stepped, Target};
 use thiserror::Error;
 
-const CONNECTIONS: usize = 64;
+const CONNECTIONS: usize = target_core::CONNECTIONS_MAX;
 
 const PIECE: usize = 32_768;
 

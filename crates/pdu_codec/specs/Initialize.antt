@@ -4,14 +4,15 @@ use Rattle.std.specs.Int.{w16, w32, to_le_bytes}
 use Rattle.nvt_fields.specs.Field.{field_at}
 use Rattle.nvt_fields.specs.declared.pdu_type.PduType.TheVariants as types
 use Rattle.pdu_codec.specs.declared.initialize.IcReq.{IcReq}
+use Rattle.pdu_codec.specs.declared.initialize.TheConstants.IcReq.{PFV_AT, HPDA_AT}
 use Rattle.pdu_codec.specs.declared.initialize.IcResp.{IcResp}
 use Rattle.pdu_codec.specs.CommonHeader.{common_header}
 
 -- what an ICReq of these bytes asks for
 abbrev pub ic_req_of : List ℕ → IcReq
 ic_req_of bytes = record {
-  pfv = field_at 2 8 bytes;
-  hpda = slice_index bytes 10;
+  pfv = field_at 2 PFV_AT bytes;
+  hpda = slice_index bytes HPDA_AT;
   dgst = slice_index bytes 11;
   maxr2t = field_at 4 12 bytes;
 }

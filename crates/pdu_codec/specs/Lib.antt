@@ -1,6 +1,7 @@
 pub mod C2hData
 pub mod CapsuleResp
 pub mod CommonHeader
+pub mod ConnectData
 pub mod Initialize
 pub mod Output
 pub mod Sgl

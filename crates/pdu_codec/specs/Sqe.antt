@@ -4,8 +4,13 @@ use Rattle.nvt_fields.specs.Field.{field_at}
 use Rattle.pdu_codec.specs.Sgl.{sgl_of}
 use Rattle.pdu_codec.specs.declared.sgl.Sgl.{Sgl}
 use Rattle.pdu_codec.specs.declared.command.Connect.{Connect}
+use Rattle.pdu_codec.specs.declared.command.TheConstants.Connect.{RECFMT_AT, QID_AT, SQSIZE_AT, CATTR_AT, KATO_AT}
 use Rattle.pdu_codec.specs.declared.command.Property.{Property}
 use Rattle.pdu_codec.specs.declared.command.GetLogPage.{GetLogPage}
+
+-- the entry of a capsule: what follows the common header in its 72 header bytes
+abbrev pub entry_in : List ℕ → List ℕ
+entry_in header = slice_range header 8 72
 
 abbrev pub opcode_of : List ℕ → ℕ
 opcode_of entry = slice_index entry 0
@@ -30,11 +35,11 @@ sgl1_of entry = sgl_of (slice_range entry 24 40)
 -- Connect (Base 2.0, section 6.3)
 abbrev pub connect_of : List ℕ → Connect
 connect_of entry = record {
-  recfmt = field_at 2 40 entry;
-  qid = field_at 2 42 entry;
-  sqsize = field_at 2 44 entry;
-  cattr = slice_index entry 46;
-  kato = field_at 4 48 entry;
+  recfmt = field_at 2 RECFMT_AT entry;
+  qid = field_at 2 QID_AT entry;
+  sqsize = field_at 2 SQSIZE_AT entry;
+  cattr = slice_index entry CATTR_AT;
+  kato = field_at 4 KATO_AT entry;
 }
 
 -- Property Get and Property Set (Base 2.0, sections 6.5 and 6.6)

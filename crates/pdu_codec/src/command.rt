@@ -22,16 +22,28 @@ pub struct Connect {
 impl Connect {
     ghost use Rattle.pdu_codec.specs.Sqe.{connect_of};
 
+    // The offsets of the fields in the submission queue entry.
+
+    pub const RECFMT_AT: usize = 40;
+
+    pub const QID_AT: usize = 42;
+
+    pub const SQSIZE_AT: usize = 44;
+
+    pub const CATTR_AT: usize = 46;
+
+    pub const KATO_AT: usize = 48;
+
     pub fn read(sqe: &Sqe<'_>) -> Connect
         ensures { result ≡ connect_of sqe.now.entry.now }
     {
         let entry = sqe.entry;
         Connect {
-            recfmt: u16_at(entry, 40),
-            qid: u16_at(entry, 42),
-            sqsize: u16_at(entry, 44),
-            cattr: entry[46],
-            kato: u32_at(entry, 48),
+            recfmt: u16_at(entry, Connect::RECFMT_AT),
+            qid: u16_at(entry, Connect::QID_AT),
+            sqsize: u16_at(entry, Connect::SQSIZE_AT),
+            cattr: entry[Connect::CATTR_AT],
+            kato: u32_at(entry, Connect::KATO_AT),
         }
     }
 }

@@ -1,5 +1,5 @@
 ghost use Rattle.std.specs.Prelude.{◌≡◌, ◌≤◌, ◌+◌, length, slice_range};
-ghost use Rattle.nvt_fields.specs.Field.{field_at};
+ghost use Rattle.pdu_codec.specs.ConnectData.{hostid_of, cntlid_of, subnqn_of, hostnqn_of};
 
 use nvt_fields::u16_at;
 
@@ -17,18 +17,31 @@ pub struct ConnectData<'a> {
 }
 
 impl<'a> ConnectData<'a> {
+    /// The length of the data, in bytes.
+    pub const LEN: usize = 1024;
+
+    // The offsets of the fields in the data.
+
+    pub const HOSTID_AT: usize = 0;
+
+    pub const CNTLID_AT: usize = 16;
+
+    pub const SUBNQN_AT: usize = 256;
+
+    pub const HOSTNQN_AT: usize = 512;
+
     /// The parts of the data.
-    pub fn read(bytes: &'a [u8; 1024]) -> ConnectData<'a>
-        ensures hostid { result.hostid.now ≡ slice_range bytes.now 0 16 }
-        ensures cntlid { result.cntlid ≡ field_at 2 16 bytes.now }
-        ensures subnqn { result.subnqn.now ≡ slice_range bytes.now 256 512 }
-        ensures hostnqn { result.hostnqn.now ≡ slice_range bytes.now 512 768 }
+    pub fn read(bytes: &'a [u8; ConnectData::LEN]) -> ConnectData<'a>
+        ensures hostid { result.hostid.now ≡ hostid_of bytes.now }
+        ensures cntlid { result.cntlid ≡ cntlid_of bytes.now }
+        ensures subnqn { result.subnqn.now ≡ subnqn_of bytes.now }
+        ensures hostnqn { result.hostnqn.now ≡ hostnqn_of bytes.now }
     {
         ConnectData {
-            hostid: part(bytes, 0),
-            cntlid: u16_at(bytes, 16),
-            subnqn: part(bytes, 256),
-            hostnqn: part(bytes, 512),
+            hostid: part(bytes, ConnectData::HOSTID_AT),
+            cntlid: u16_at(bytes, ConnectData::CNTLID_AT),
+            subnqn: part(bytes, ConnectData::SUBNQN_AT),
+            hostnqn: part(bytes, ConnectData::HOSTNQN_AT),
         }
     }
 }

@@ -21,14 +21,20 @@ pub struct IcReq {
 impl IcReq {
     ghost use Rattle.pdu_codec.specs.Initialize.{ic_req_of};
 
+    // Offsets of fields in the header.
+
+    pub const PFV_AT: usize = 8;
+
+    pub const HPDA_AT: usize = 10;
+
     /// The request in a header of 128 bytes.
     pub fn read(header: &[u8]) -> IcReq
         requires { 16 ≤ length header.now }
         ensures { result ≡ ic_req_of header.now }
     {
         IcReq {
-            pfv: u16_at(header, 8),
-            hpda: header[10],
+            pfv: u16_at(header, IcReq::PFV_AT),
+            hpda: header[IcReq::HPDA_AT],
             dgst: header[11],
             maxr2t: u32_at(header, 12),
         }

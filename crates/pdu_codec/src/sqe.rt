@@ -1,5 +1,5 @@
-ghost use Rattle.std.specs.Prelude.{◌≡◌, length, slice_range};
-ghost use Rattle.pdu_codec.specs.Sqe.{opcode_of, fuse_of, cid_of, nsid_of, fctype_of, sgl1_of};
+ghost use Rattle.std.specs.Prelude.{◌≡◌, length};
+ghost use Rattle.pdu_codec.specs.Sqe.{entry_in, opcode_of, fuse_of, cid_of, nsid_of, fctype_of, sgl1_of};
 
 use crate::sgl::Sgl;
 use nvt_fields::{u16_at, u32_at};
@@ -13,7 +13,7 @@ pub struct Sqe<'a> {
 impl<'a> Sqe<'a> {
     /// The entry of a capsule: what follows the common header in its 72 header bytes.
     pub fn read(header: &'a [u8; 72]) -> Sqe<'a>
-        ensures { result.entry.now ≡ slice_range header.now 8 72 }
+        ensures { result.entry.now ≡ entry_in header.now }
     {
         Sqe {
             entry: <&[u8; 64]>::try_from(&header[8..72]).unwrap(),

@@ -5,6 +5,7 @@ use Rattle.number_table.specs.Table.{place, with_value, without}
 use Rattle.nvt_config.specs.Configuration.{Configuration}
 use Rattle.config_lists.specs.declared.port.Port.{Port}
 use Rattle.pdu_cut.specs.declared.side.Side.TheVariants.{Target}
+use Rattle.pdu_cut.specs.Side.{capacity_of}
 use Rattle.pdu_cut.specs.Front.{Front, incomplete, whole, faulty, front}
 use Rattle.target_core.specs.declared.fault.NoConn.{NoConn}
 use Rattle.target_core.specs.declared.fault.OpenFault.{OpenFault}
@@ -12,6 +13,7 @@ use Rattle.target_core.specs.declared.fault.OpenFault.TheVariants.{NoSuchPort, F
 use Rattle.target_core.specs.Connection.{ConnectionState}
 use Rattle.target_core.specs.Views.{ShowFirst, ViewsShown, pages_shown}
 use Rattle.target_decision.specs.declared.session.Conversation.{Conversation}
+use Rattle.target_decision.specs.declared.world.TheConstants.{CONNECTIONS_MAX}
 use Rattle.target_decision.specs.Session.{is_ended}
 use Rattle.target_decision.specs.World.{Pages, World}
 use Rattle.target_history.specs.Event.{Event}
@@ -25,18 +27,18 @@ pub record TargetState : Type 0 where
   pub streams : List (Option (List ℕ))
   pub connections : List (Option ConnectionState)
 
--- this configuration, unchanged so far, and no connection of the 64 that there may be
+-- this configuration, unchanged so far, and no connection of those that there may be
 pub record IsNewTarget (c : Configuration) (t : TargetState) : Type 0 where
   pub config : t.config ≡ c
   pub shown : ShowFirst c t.shown
-  pub streams : t.streams ≡ replicate 64 None
-  pub connections : t.connections ≡ replicate 64 None
+  pub streams : t.streams ≡ replicate CONNECTIONS_MAX None
+  pub connections : t.connections ≡ replicate CONNECTIONS_MAX None
 
--- what holds of each target: it has a stream for each connection that is known, of the 64 that there may be
+-- what holds of each target: it has a stream for each connection that is known, of those that there may be
 pub record IsTarget (t : TargetState) : Type 0 where
-  pub places : length t.connections ≡ 64
+  pub places : length t.connections ≡ CONNECTIONS_MAX
   pub alike : (k : ℕ) → is_none (place t.streams k) ≡ is_none (place t.connections k)
-  pub streams : length t.streams ≡ 64
+  pub streams : length t.streams ≡ CONNECTIONS_MAX
 
 -- ---- what a decision may look at
 
@@ -90,7 +92,7 @@ is_ended_at (Some c) = is_ended c.conversation.session
 
 -- how many bytes a connection may receive: none once it is ended
 abbrev pub room_of : List ℕ → ConnectionState → ℕ
-room_of held c = if is_ended c.conversation.session then 0 else 32768 - length held
+room_of held c = if is_ended c.conversation.session then 0 else capacity_of Target - length held
 
 abbrev pub room_at : Option (List ℕ) → Option ConnectionState → ℕ
 room_at None o = 0

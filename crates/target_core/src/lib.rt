@@ -26,3 +26,4 @@ mod views;
 
 pub use fault::{NoConn, OpenFault, StepFault, Stepped};
 pub use target::Target;
+pub use target_decision::CONNECTIONS_MAX;

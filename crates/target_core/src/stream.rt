@@ -3,6 +3,7 @@ ghost use Rattle.std.specs.Prelude.{◌≡◌, ◌-◌, ◌≤◌, [], ◌++◌,
 ghost use Rattle.pdu_cut.specs.declared.side.Side.TheVariants as side;
 ghost use Rattle.pdu_cut.specs.Cut.{front_shown};
 ghost use Rattle.pdu_cut.specs.Front.{front};
+ghost use Rattle.pdu_cut.specs.Side.{capacity_of};
 ghost use Rattle.target_decision.specs.Decision.{head_of, consumed_of};
 
 use pdu_cut::{Cut, RxBuf, Side};
@@ -37,14 +38,15 @@ impl Stream {
 
     /// How many more bytes it has room for.
     pub(crate) fn room(&self) -> usize
-        ensures { result ≡ 32768 - length self.now }
+        ensures { result ≡ capacity_of side.Target - length self.now }
     {
         self.buffer.room()
     }
 
     /// Takes as many of the piece's first bytes as it has room for, and returns their number.
     pub(crate) fn receive(&mut self, piece: &[u8]) -> usize
-        ensures taken { result ≡ min (32768 - length self.old) (length piece.now) }
+        ensures taken { let room = capacity_of side.Target - length self.old in
+            result ≡ min room (length piece.now) }
         ensures held { self.new ≡ self.old ++ take result piece.now }
     {
         self.buffer.receive(piece)

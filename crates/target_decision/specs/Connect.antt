@@ -2,14 +2,17 @@
 use Rattle.std.specs.Prelude.{ℕ, ◌+◌, Bool, true, false, not, ◌==◌, ◌||◌, ◌&&◌, nat_eq, nat_lt, List, [], length, slice_range, Option, Some, None, is_none, Result, Ok, Err, if◌then◌else◌}
 use lib.Pointwise.{pointwise}
 use Rattle.nvt_fields.specs.declared.status.Status.{Status}
-use Rattle.nvt_fields.specs.Status.{incompatible_format, connect_controller_busy, connect_invalid_parameters, sgl_type_invalid, data_sgl_length_invalid, sgl_offset_invalid}
-use Rattle.nvt_fields.specs.Field.{field_at}
+use Rattle.nvt_fields.specs.declared.status.TheConstants.Status.{INCOMPATIBLE_FORMAT, CONNECT_CONTROLLER_BUSY, CONNECT_INVALID_PARAMETERS, SGL_TYPE_INVALID, DATA_SGL_LENGTH_INVALID, SGL_OFFSET_INVALID}
 use Rattle.nvt_fields.specs.Name.{discovery_nqn, fault_of, up_to_zero}
 use Rattle.pdu_codec.specs.declared.command.Connect.{Connect}
 use Rattle.pdu_codec.specs.declared.sgl.Sgl.{Sgl}
 use Rattle.pdu_codec.specs.declared.sgl.SglType.{SglType}
 use Rattle.pdu_codec.specs.declared.sgl.SglType.TheVariants.{CapsuleOffset, Transport, Other}
+use Rattle.pdu_codec.specs.declared.command.TheConstants.Connect.{QID_AT, SQSIZE_AT}
+use Rattle.pdu_codec.specs.declared.connect_data.TheConstants.ConnectData.{LEN, CNTLID_AT, SUBNQN_AT, HOSTNQN_AT}
+use Rattle.pdu_codec.specs.ConnectData.{cntlid_of, subnqn_of, hostnqn_of}
 use Rattle.pdu_codec.specs.Sqe.{connect_of, sgl1_of}
+use Rattle.target_decision.specs.declared.connect.TheConstants.{ANY_CONTROLLER, IN_DATA, QID_MAX, SQSIZE_MAX}
 use Rattle.target_decision.specs.declared.capsule.Success.{Success}
 use Rattle.target_decision.specs.declared.capsule.Refusal.{Refusal}
 use Rattle.target_decision.specs.declared.decision.Change.TheVariants as change
@@ -23,10 +26,10 @@ is_capsule_offset Other = false
 -- the command's data, which has to be in the capsule and whole
 unfoldable pub connect_data : Sgl → List ℕ → Result (List ℕ) Status
 connect_data sgl bytes =
-    if not (is_capsule_offset sgl.sgl_type) then Err sgl_type_invalid else
-    if not (sgl.len == 1024) then Err data_sgl_length_invalid else
-    if nat_lt (length bytes) (sgl.address + 1024) then Err sgl_offset_invalid else
-    Ok (slice_range bytes sgl.address (sgl.address + 1024))
+    if not (is_capsule_offset sgl.sgl_type) then Err SGL_TYPE_INVALID else
+    if not (sgl.len == LEN) then Err DATA_SGL_LENGTH_INVALID else
+    if nat_lt (length bytes) (sgl.address + LEN) then Err SGL_OFFSET_INVALID else
+    Ok (slice_range bytes sgl.address (sgl.address + LEN))
 
 -- whether a field holds a well-formed name
 unfoldable pub holds_name : List ℕ → Bool
@@ -36,27 +39,30 @@ holds_name field = is_none (fault_of (up_to_zero field))
 unfoldable pub is_known_subsystem : List ℕ → Bool
 is_known_subsystem field = holds_name field && pointwise nat_eq (up_to_zero field) discovery_nqn
 
--- The result that names the first invalid parameter: its offset, with bit 16 set where it is in the
--- data.
+-- the result that names a parameter of the data: its offset, with bit 16 set
+abbrev pub in_data : ℕ → ℕ
+in_data at = IN_DATA + at
+
+-- The result that names the first invalid parameter: its offset in the entry or in the data.
 unfoldable pub invalid_parameter : Connect → List ℕ → Option ℕ
 invalid_parameter connect bytes =
-    if nat_lt 8 connect.qid then Some 0x2A else
-    if nat_lt connect.sqsize 1 || nat_lt 63 connect.sqsize then Some 0x2C else
-    if not (is_known_subsystem (slice_range bytes 256 512)) then Some 0x10100 else
-    if not (holds_name (slice_range bytes 512 768)) then Some 0x10200 else
-    if not (connect.qid == 0) then Some 0x2A else
-    if not (field_at 2 16 bytes == 0xFFFF) then Some 0x10010 else None
+    if nat_lt QID_MAX connect.qid then Some QID_AT else
+    if nat_lt connect.sqsize 1 || nat_lt SQSIZE_MAX connect.sqsize then Some SQSIZE_AT else
+    if not (is_known_subsystem (subnqn_of bytes)) then Some (in_data SUBNQN_AT) else
+    if not (holds_name (hostnqn_of bytes)) then Some (in_data HOSTNQN_AT) else
+    if not (connect.qid == 0) then Some QID_AT else
+    if not (cntlid_of bytes == ANY_CONTROLLER) then Some (in_data CNTLID_AT) else None
 
 -- a new controller gets the identifier that is free, if there is one
 abbrev pub admitted_by : Option ℕ → Option ℕ → Connect → Result Success Refusal
-admitted_by (Some result) free connect = Err (record { status = connect_invalid_parameters; result = result })
-admitted_by None None connect = refused connect_controller_busy
+admitted_by (Some result) free connect = Err (record { status = CONNECT_INVALID_PARAMETERS; result = result })
+admitted_by None None connect = refused CONNECT_CONTROLLER_BUSY
 admitted_by None (Some cntlid) connect =
     done cntlid (change.Begin (record { cntlid = cntlid; sqsize = connect.sqsize }))
 
 unfoldable pub admitted : Option ℕ → Connect → List ℕ → Result Success Refusal
 admitted free connect bytes =
-    refuse (not (connect.recfmt == 0)) incompatible_format (admitted_by (invalid_parameter connect bytes) free connect)
+    refuse (not (connect.recfmt == 0)) INCOMPATIBLE_FORMAT (admitted_by (invalid_parameter connect bytes) free connect)
 
 abbrev pub connected_by : Result (List ℕ) Status → Option ℕ → Connect → Result Success Refusal
 connected_by (Err status) free connect = refused status
@@ -68,7 +74,7 @@ connect free entry bytes = connected_by (connect_data (sgl1_of entry) bytes) fre
 
 abbrev pub host_in_data : Result (List ℕ) Status → List ℕ
 host_in_data (Err status) = []
-host_in_data (Ok bytes) = up_to_zero (slice_range bytes 512 768)
+host_in_data (Ok bytes) = up_to_zero (hostnqn_of bytes)
 
 -- the host that a Connect names
 unfoldable pub host_named : List ℕ → List ℕ → List ℕ

@@ -8,6 +8,7 @@ ghost use Rattle.target_decision.specs.World.{pages_in, world_in};
 
 use crate::controller::Controller;
 use crate::decision::{Change, Decision, Reply, terminate};
+use crate::fabrics::{CONNECT, FABRICS};
 use crate::page::PagePart;
 use crate::queue::next_head;
 use crate::session::Session;
@@ -16,9 +17,6 @@ use crate::{admin, connect, fabrics};
 use nvt_fields::{FatalErrorStatus, PduType, Status};
 use pdu_codec::Sqe;
 use pdu_cut::PduView;
-
-/// The opcode of all Fabrics commands.
-const FABRICS: u8 = 0x7F;
 
 /// The most bytes of data that a capsule may bring.
 const IN_CAPSULE_MAX: usize = 8_192;
@@ -93,7 +91,7 @@ fn before_connect<T: Converses>(world: &World<'_, T>, sqe: &Sqe<'_>, payload: &[
     ensures { let w = world_in T.conversation_of world.now in
         result ≡ first_command w sqe.now.entry.now payload.now }
 {
-    if sqe.opcode() == FABRICS && sqe.fctype() == fabrics::CONNECT {
+    if sqe.opcode() == FABRICS && sqe.fctype() == CONNECT {
         connect::command(world, sqe, payload)
     } else {
         refused(Status::COMMAND_SEQUENCE_ERROR)

@@ -17,18 +17,19 @@ const QID_MAX: u16 = 8;
 
 const SQSIZE_MAX: u16 = 63;
 
-// Results of invalid parameters: the parameter's offset, and bit 16 where it is in the data.
-const QID: u64 = 0x2A;
+/// Where a result names an invalid parameter of the data: bit 16, beside the parameter's offset.
+const IN_DATA: u64 = 0x1_0000;
 
-const SQSIZE: u64 = 0x2C;
+// The results that name each parameter.
+const QID: u64 = Connect::QID_AT as u64;
 
-const DATA: u64 = 0x1_0000;
+const SQSIZE: u64 = Connect::SQSIZE_AT as u64;
 
-const CNTLID_FIELD: u64 = DATA + 0x10;
+const CNTLID: u64 = IN_DATA + ConnectData::CNTLID_AT as u64;
 
-const SUBNQN: u64 = DATA + 0x100;
+const SUBNQN: u64 = IN_DATA + ConnectData::SUBNQN_AT as u64;
 
-const HOSTNQN: u64 = DATA + 0x200;
+const HOSTNQN: u64 = IN_DATA + ConnectData::HOSTNQN_AT as u64;
 
 /// Answers a Connect: with a new controller, or with the first reason against it.
 #[tactic(auto, unfolding(crate::specs::Connect::connect))]
@@ -58,7 +59,11 @@ pub(crate) fn host_name<'a>(sqe: &Sqe<'_>, payload: &'a [u8]) -> &'a [u8]
 
 // A new controller gets the identifier that is free, if there is one.
 #[tactic(auto, unfolding(crate::specs::Connect::admitted))]
-fn admit<T: Converses>(world: &World<'_, T>, connect: &Connect, bytes: &[u8; 1024]) -> Outcome
+fn admit<T: Converses>(
+    world: &World<'_, T>,
+    connect: &Connect,
+    bytes: &[u8; ConnectData::LEN],
+) -> Outcome
     ensures { let w = world_in T.conversation_of world.now in
         result ≡ admitted (free_cntlid w.conversation) connect.now bytes.now }
 {
@@ -83,7 +88,7 @@ fn admit<T: Converses>(world: &World<'_, T>, connect: &Connect, bytes: &[u8; 102
 
 // The command's data, which has to be in the capsule and whole.
 #[tactic(auto, unfolding(crate::specs::Connect::connect_data))]
-fn in_capsule<'a>(sgl: &Sgl, payload: &'a [u8]) -> Result<&'a [u8; 1024], Status>
+fn in_capsule<'a>(sgl: &Sgl, payload: &'a [u8]) -> Result<&'a [u8; ConnectData::LEN], Status>
     ensures { MatchResult result
         (λ bytes. connect_data sgl.now payload.now ≡ Ok bytes.now)
         (λ status. connect_data sgl.now payload.now ≡ Err status) }
@@ -91,20 +96,21 @@ fn in_capsule<'a>(sgl: &Sgl, payload: &'a [u8]) -> Result<&'a [u8; 1024], Status
     if sgl.sgl_type != SglType::CapsuleOffset {
         return Err(Status::SGL_TYPE_INVALID);
     }
-    if sgl.len != 1024 {
+    let len = ConnectData::LEN;
+    if sgl.len as usize != len {
         return Err(Status::DATA_SGL_LENGTH_INVALID);
     }
-    if payload.len() < 1024 || sgl.address > payload.len() as u64 - 1024 {
+    if payload.len() < len || sgl.address > (payload.len() - len) as u64 {
         return Err(Status::SGL_OFFSET_INVALID);
     }
     let at = sgl.address as usize;
-    Ok(<&[u8; 1024]>::try_from(&payload[at..at + 1024]).unwrap())
+    Ok(<&[u8; ConnectData::LEN]>::try_from(&payload[at..at + len]).unwrap())
 }
 
 // The first parameter that is invalid. Until other controllers are built, no name but the discovery
 // subsystem's is known.
 #[tactic(auto, unfolding(crate::specs::Connect::invalid_parameter))]
-fn invalid_parameter(connect: &Connect, bytes: &[u8; 1024]) -> Option<u64>
+fn invalid_parameter(connect: &Connect, bytes: &[u8; ConnectData::LEN]) -> Option<u64>
     ensures { result ≡ invalid_parameter connect.now bytes.now }
 {
     let data = ConnectData::read(bytes);
@@ -124,7 +130,7 @@ fn invalid_parameter(connect: &Connect, bytes: &[u8; 1024]) -> Option<u64>
         return Some(QID);
     }
     if data.cntlid != ANY_CONTROLLER {
-        return Some(CNTLID_FIELD);
+        return Some(CNTLID);
     }
     None
 }

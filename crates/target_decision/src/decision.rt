@@ -12,6 +12,9 @@ use nvt_fields::{FatalErrorStatus, PduType, Status};
 use pdu_codec::IcReq;
 use pdu_cut::{Cut, PduView};
 
+/// The offset of the transfer tag in an H2CData.
+const TTAG_AT: u32 = 10;
+
 /// What is owed to a PDU.
 #[derive(Clone, Copy)]
 pub enum Decision {
@@ -117,7 +120,7 @@ fn next<T: Converses>(world: &World<'_, T>, session: &Session, pdu: &PduView<'_>
         PduType::H2cTermReq => Decision::Close,
         PduType::CapsuleCmd => capsule::decide(world, session, pdu),
         // No command of an admin queue asks for data by R2T, so no TTAG is known.
-        PduType::H2cData => terminate(FatalErrorStatus::InvalidHeaderField, 10),
+        PduType::H2cData => terminate(FatalErrorStatus::InvalidHeaderField, TTAG_AT),
         _ => terminate(FatalErrorStatus::SequenceError, 0),
     }
 }
@@ -127,10 +130,10 @@ fn initialize(request: &IcReq) -> Decision
     ensures { result ≡ initialize request.now }
 {
     if request.pfv != 0 {
-        return terminate(FatalErrorStatus::UnsupportedParameter, 8);
+        return terminate(FatalErrorStatus::UnsupportedParameter, IcReq::PFV_AT as u32);
     }
     if request.hpda != 0 {
-        return terminate(FatalErrorStatus::InvalidHeaderField, 10);
+        return terminate(FatalErrorStatus::InvalidHeaderField, IcReq::HPDA_AT as u32);
     }
     Decision::Initialize
 }

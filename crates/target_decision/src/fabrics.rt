@@ -8,6 +8,10 @@ use crate::registers::{self, Registers};
 use nvt_fields::Status;
 use pdu_codec::{Property, Sqe};
 
+/// The opcode of all Fabrics commands.
+pub(crate) const FABRICS: u8 = 0x7F;
+
+// The types of Fabrics commands.
 const PROPERTY_SET: u8 = 0x00;
 
 pub(crate) const CONNECT: u8 = 0x01;

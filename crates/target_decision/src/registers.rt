@@ -5,6 +5,17 @@ ghost use Rattle.target_decision.specs.Registers.{asks_shutdown, is_enabled, pro
 use nvt_fields::Status;
 use pdu_codec::Property;
 
+// The offsets of the properties.
+const CAP_AT: u32 = 0x00;
+
+const VS_AT: u32 = 0x08;
+
+const CC_AT: u32 = 0x14;
+
+const CSTS_AT: u32 = 0x1C;
+
+const CRTO_AT: u32 = 0x68;
+
 /// Controller Capabilities: 64 queue entries at most, contiguous queues, a timeout of 1 s, the NVM
 /// command set, and a memory page size of 4,096 bytes.
 const CAP: u64 = 0x0800_0020_0201_003F;
@@ -69,11 +80,11 @@ impl Registers {
         ensures { result ≡ property_at self.now ofst }
     {
         match ofst {
-            0x00 => Some((CAP, 1)),
-            0x08 => Some((VS, 0)),
-            0x14 => Some((u64::from(self.cc), 0)),
-            0x1C => Some((self.status(), 0)),
-            0x68 => Some((CRTO, 0)),
+            CAP_AT => Some((CAP, 1)),
+            VS_AT => Some((VS, 0)),
+            CC_AT => Some((u64::from(self.cc), 0)),
+            CSTS_AT => Some((self.status(), 0)),
+            CRTO_AT => Some((CRTO, 0)),
             _ => None,
         }
     }
@@ -116,7 +127,7 @@ impl Registers {
 pub(crate) fn property_set(property: &Property) -> Result<u32, Status>
     ensures { result ≡ property_set property.now }
 {
-    if property.ofst == 0x14 && property.attrib % 8 == 0 {
+    if property.ofst == CC_AT && property.attrib % 8 == 0 {
         Ok((property.value % 0x1_0000_0000) as u32)
     } else {
         Err(Status::INVALID_FIELD)

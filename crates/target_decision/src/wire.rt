@@ -19,7 +19,7 @@ pub(crate) const WIRE_MAX: usize = 128;
 /// Appends the PDUs of a decision. `head` is the header of the PDU decided on, or its first bytes,
 /// and `payload` the data that a reply returns.
 pub(crate) fn write(output: &mut BytesMut, decision: &Decision, head: &[u8], payload: &[u8])
-    requires room { 128 + length head.now + length payload.now ≤ output.old.spare }
+    requires room { WIRE_MAX + length head.now + length payload.now ≤ output.old.spare }
     requires head { length head.now ≤ 128 }
     requires payload { length payload.now < 2 ^ 18 }
     ensures { output.new.items ≡ output.old.items ++ wire_of decision.now head.now payload.now }
@@ -38,7 +38,7 @@ pub(crate) fn write(output: &mut BytesMut, decision: &Decision, head: &[u8], pay
 fn write_initialized(output: &mut BytesMut)
     requires { 128 ≤ output.old.spare }
     ensures { output.new.items ≡ output.old.items
-        ++ ic_resp (record { pfv = 0; cpda = 0; dgst = 0; maxh2cdata = 16384 }) }
+        ++ ic_resp (record { pfv = 0; cpda = 0; dgst = 0; maxh2cdata = MAX_H2C_DATA }) }
 {
     let response = IcResp {
         pfv: 0,

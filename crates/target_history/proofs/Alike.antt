@@ -1,11 +1,9 @@
 -- What a connection is sent depends on what happened to it alone, and on what its worlds show it.
 use Rattle.std.proofs.Common.{◌≡◌, ℕ, ◌*◌, Bool, true, false, ◌||◌, List, [], ◌∷◌, ◌++◌, Option, Some, None, refl, sym, ap, ◌∙◌, append-nil}
-use Rattle.std.specs.Prelude.{if◌then◌else◌, not, ◌==◌, ◌&&◌, nat_lt, length}
-use Rattle.nvt_fields.specs.Status.{invalid_field, invalid_opcode, command_sequence_error}
+use Rattle.std.specs.Prelude.{if◌then◌else◌}
 use Rattle.nvt_fields.specs.declared.pdu_type.PduType.{PduType}
 use Rattle.nvt_fields.specs.declared.pdu_type.PduType.TheVariants.{IcReq, IcResp, H2cTermReq, C2hTermReq, CapsuleCmd, CapsuleResp, H2cData, C2hData, R2t}
-use Rattle.nvt_fields.specs.declared.termination.FatalErrorStatus.TheVariants.{LimitExceeded}
-use Rattle.pdu_codec.specs.Sqe.{cid_of, fctype_of, fuse_of, get_log_page_of, opcode_of}
+use Rattle.pdu_codec.specs.Sqe.{get_log_page_of}
 use Rattle.pdu_cut.specs.Front.{Front, incomplete, whole, faulty}
 use Rattle.pdu_cut.specs.Pdu.{Pdu, data_part}
 use Rattle.target_decision.specs.declared.controller.Controller.{Controller}
@@ -16,13 +14,10 @@ use Rattle.target_decision.specs.declared.page.PagePart.{PagePart}
 use Rattle.target_decision.specs.declared.session.Conversation.{Conversation}
 use Rattle.target_decision.specs.declared.session.Session.{Session}
 use Rattle.target_decision.specs.declared.session.Session.TheVariants.{Opened, Initialized, Admin, Ended}
-use Rattle.target_decision.specs.Capsule.{admin_command, command_in, fabrics_command, first_command, queue_command, reply_of}
-use Rattle.target_decision.specs.Connect.{connect}
+use Rattle.target_decision.specs.Capsule.{admin_command, command_in, first_command, queue_command}
 use Rattle.target_decision.specs.Controllers.{free_cntlid}
-use Rattle.target_decision.specs.Decision.{data_of, decide, decide_pdu, entry_of, head_of, next_by, part_of, terminate, wire_of}
+use Rattle.target_decision.specs.Decision.{data_of, decide, decide_pdu, entry_of, head_of, next_by, part_of, wire_of}
 use Rattle.target_decision.specs.LogPage.{page_of_lid, read_known, read_page}
-use Rattle.target_decision.specs.Outcome.{Outcome, refuse, refused}
-use Rattle.target_decision.specs.Registers.{is_ready}
 use Rattle.target_decision.specs.Session.{host_of, is_ended}
 use Rattle.target_decision.specs.World.{Pages, World}
 use Rattle.nvt_fields.specs.Window.{window}
@@ -40,20 +35,17 @@ read_alike v w host entry (Some page) h = ap (λ (bytes : List ℕ). read_page p
 
 admin_alike : (v w : Pages) (host entry : List ℕ) → AreAlikeFor host v w → admin_command v host entry ≡ admin_command w host entry
 admin_alike v w host entry h =
-    ap (λ (o : Outcome). if opcode_of entry == 0x02 then o else refused invalid_opcode)
-    (read_alike v w host entry (page_of_lid (get_log_page_of entry).lid) h)
+    rw (read_alike v w host entry (page_of_lid (get_log_page_of entry).lid) h)
 
 queue_alike : (v w : Pages) (c : Controller) (entry : List ℕ) → AreAlikeFor c.host v w
     → queue_command v c entry ≡ queue_command w c entry
 queue_alike v w c entry h =
-    ap (λ (o : Outcome). if opcode_of entry == 0x7F then fabrics_command c.registers entry else
-    refuse (not (is_ready c.registers)) command_sequence_error o) (admin_alike v w c.host entry h)
+    rw (admin_alike v w c.host entry h)
 
 first_alike : (v w : World) (entry bytes : List ℕ) → free_cntlid v.conversation ≡ free_cntlid w.conversation
     → first_command v entry bytes ≡ first_command w entry bytes
 first_alike v w entry bytes h =
-    ap (λ (free : Option ℕ). if (opcode_of entry == 0x7F) && (fctype_of entry == 0x01)
-    then connect free entry bytes else refused command_sequence_error) h
+    rw h
 
 in_alike : (v w : World) (s : Session) (entry bytes : List ℕ) → free_cntlid v.conversation ≡ free_cntlid w.conversation
     → AreAlikeFor (host_of s) v.pages w.pages → command_in v s entry bytes ≡ command_in w s entry bytes
@@ -65,9 +57,7 @@ in_alike v w Ended entry bytes free page = first_alike v w entry bytes free
 next_alike : (kind : PduType) (v w : World) (s : Session) (pdu : Pdu) → free_cntlid v.conversation ≡ free_cntlid w.conversation
     → AreAlikeFor (host_of s) v.pages w.pages → next_by kind v s pdu ≡ next_by kind w s pdu
 next_alike CapsuleCmd v w s pdu free page =
-    ap (λ (o : Outcome). if nat_lt 8192 (length (data_part pdu)) then terminate LimitExceeded 0 else
-    decision.Reply (reply_of s (cid_of (entry_of pdu)) (refuse (not (fuse_of (entry_of pdu) == 0)) invalid_field o)))
-    (in_alike v w s (entry_of pdu) (data_part pdu) free page)
+    rw (in_alike v w s (entry_of pdu) (data_part pdu) free page)
 next_alike IcReq v w s pdu free page = refl
 next_alike IcResp v w s pdu free page = refl
 next_alike H2cTermReq v w s pdu free page = refl

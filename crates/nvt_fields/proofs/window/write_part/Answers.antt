@@ -1,6 +1,5 @@
-use Rattle.std.proofs.Common.{◌≡◌, ℕ, List, ◌++◌, length, take, drop, ◌+◌, ◌-◌, sym, ap, ◌∙◌, arith}
+use Rattle.std.proofs.Common.{length, ◌-◌, arith}
 use Rattle.std.proofs.lemmas.List.{take_rest}
-use Rattle.nvt_fields.specs.Window.{window}
 use Rattle.nvt_fields.proofs.Windows.{put_at_end, window_behind, window_from_start, window_in_front, window_over_rest}
 use Rattle.nvt_fields.proofs.window.write_part.Goals as goal
 
