@@ -179,17 +179,19 @@ impl<'a, W: Write> Playback<'a, W> {
         ensures { IfErr result IsOfRun }
     {
         match line {
-            StreamLine::Open { port } => self.open(port)?,
+            StreamLine::Open { port } => self.open(port),
             StreamLine::Receive { connection, hex } => match self.known_number(connection) {
-                Some(k) => self.receive(k, hex)?,
-                None => self.printer.event(connection, "none")?,
+                Some(k) => self.receive(k, hex),
+                None => self.printer.event(connection, "none"),
             },
             StreamLine::End { connection } => match self.known_number(connection) {
-                Some(k) => self.give_up(k),
-                None => self.printer.event(connection, "none")?,
+                Some(k) => {
+                    self.give_up(k);
+                    Ok(())
+                }
+                None => self.printer.event(connection, "none"),
             },
         }
-        self.settle()
     }
 
     fn open(&mut self, port: u16) -> Result<(), ReplayFault>
