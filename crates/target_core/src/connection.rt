@@ -2,8 +2,8 @@
 ghost use Rattle.std.specs.Prelude.{◌≡◌, ◌≤◌, OnErr, OnOk, drop, length};
 ghost use Rattle.pdu_cut.specs.Cut.{front_shown};
 ghost use Rattle.target_core.specs.Connection.{acted, fresh_on, settled};
-ghost use Rattle.target_decision.specs.Decision.{head_of};
-ghost use Rattle.target_decision.specs.Session.{is_ended};
+ghost use Rattle.target_decision.specs.Decision.{head_of, host_in};
+ghost use Rattle.target_decision.specs.Session.{NamesHost, is_ended};
 ghost use Rattle.target_decision.specs.World.{pages_in};
 
 use bytes::BytesMut;
@@ -79,7 +79,8 @@ impl Connection {
         decision: &Decision,
         front: &Cut<'_>,
     ) -> Result<(), AllocError>
-        requires { length (head_of (front_shown front.now)) ≤ 128 }
+        requires head { length (head_of (front_shown front.now)) ≤ 128 }
+        requires named { NamesHost decision.now (host_in (front_shown front.now)) }
         ensures acted { let found = front_shown front.now in
             OnOk result (self.new ≡ acted (pages_in pages.now) decision.now found self.old) }
         ensures err { OnErr result (self.new ≡ self.old) }

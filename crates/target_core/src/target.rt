@@ -9,7 +9,8 @@ ghost use Rattle.target_core.specs.Agreement.{Agrees, EditAgrees, EndAgrees, End
 ghost use Rattle.pdu_cut.specs.Cut.{front_shown};
 ghost use Rattle.target_core.specs.Connection.{acted};
 ghost use Rattle.target_core.specs.Moves.{ActedAt, CanConsume, Moves, StepsAt, stepped_by};
-ghost use Rattle.target_decision.specs.Decision.{decide, head_of, is_end};
+ghost use Rattle.target_decision.specs.Decision.{decide, head_of, host_in, is_end};
+ghost use Rattle.target_decision.specs.Session.{NamesHost};
 ghost use Rattle.target_decision.specs.World.{pages_in};
 ghost use Rattle.target_core.specs.Target.{free_number, is_ended_at, is_incomplete, open_fault, output_at, room_at, without_connection, world_of, IsNewTarget, ReceivesAt, TakenAt};
 ghost use Rattle.target_history.specs.Event.{edited, given_up, opened};
@@ -336,8 +337,9 @@ fn decide_on(
     connection: &Connection,
     front: &Cut<'_>,
 ) -> Decision
-    ensures { let w = world_of (pages_in pages.now) connections.now in
+    ensures decision { let w = world_of (pages_in pages.now) connections.now in
         result ≡ decide w connection.now.conversation (front_shown front.now) }
+    ensures named { NamesHost result (host_in (front_shown front.now)) }
 {
     let world = World { pages, connections };
     decide(&world, connection.conversation(), front)
@@ -352,7 +354,8 @@ fn act(
     decision: &Decision,
     front: &Cut<'_>,
 ) -> Result<(), AllocError>
-    requires { length (head_of (front_shown front.now)) ≤ 128 }
+    requires head { length (head_of (front_shown front.now)) ≤ 128 }
+    requires named { NamesHost decision.now (host_in (front_shown front.now)) }
     ensures acted { let f = acted (pages_in pages.now) decision.now (front_shown front.now) in
         OnOk result (ActedAt k f (place connections.old k) connections.old connections.new) }
     ensures err { OnErr result (connections.new ≡ connections.old) }

@@ -1,5 +1,6 @@
 -- How far target and host have come on a connection.
 use Rattle.std.specs.Prelude.{ℕ, Bool, true, false, ◌==◌, List, []}
+use Rattle.nvt_fields.specs.Name.{IsName}
 use Rattle.target_decision.specs.declared.session.Conversation.{Conversation}
 use Rattle.target_decision.specs.declared.session.Session.{Session}
 use Rattle.target_decision.specs.declared.session.Session.TheVariants.{Opened, Initialized, Admin, Ended}
@@ -54,6 +55,19 @@ move_of decision.Initialize host = move.Initialize
 move_of (decision.Reply r) host = move_replied r.change host
 move_of (decision.Terminate t) host = move.End
 move_of decision.Close host = move.End
+
+-- A controller is for a host with a well-formed name: of another change, and of another decision, any
+-- name will do.
+abbrev pub HasHost : Change → List ℕ → Type 0
+HasHost change.Stay host = Unit {0}
+HasHost (change.Begin a) host = IsName host
+HasHost (change.Configure cc) host = Unit {0}
+
+abbrev pub NamesHost : Decision → List ℕ → Type 0
+NamesHost decision.Initialize host = Unit {0}
+NamesHost (decision.Reply r) host = HasHost r.change host
+NamesHost (decision.Terminate t) host = Unit {0}
+NamesHost decision.Close host = Unit {0}
 
 abbrev pub responded_in : Session → Session
 responded_in (Admin controller queue) = Admin controller (responded queue)

@@ -1,8 +1,9 @@
 //! What follows from a decision on its own connection: its PDUs are sent, and the session moves.
 ghost use Rattle.std.specs.Prelude.{◌≡◌, ◌≤◌, ◌++◌, IfOk, OnErr, OnOk, length};
+ghost use Rattle.nvt_fields.specs.Name.{IsName};
 ghost use Rattle.pdu_cut.specs.Cut.{front_shown};
 ghost use Rattle.target_decision.specs.Decision.{head_of, host_in, sent_by, consumed_of};
-ghost use Rattle.target_decision.specs.Session.{move_begun, move_of, session_after};
+ghost use Rattle.target_decision.specs.Session.{NamesHost, move_begun, move_of, session_after};
 ghost use Rattle.target_decision.specs.World.{pages_in};
 
 use crate::capsule::host_name;
@@ -14,7 +15,7 @@ use crate::session::{Session, SessionMove};
 use crate::wire::{self, WIRE_MAX};
 use crate::world::Pages;
 use bytes::BytesMut;
-use nvt_fields::Nqn;
+use nvt_fields::{Nqn, NqnFault};
 use pdu_cut::Cut;
 use std::alloc::{AllocError, Global};
 
@@ -28,7 +29,8 @@ pub fn perform(
     decision: &Decision,
     front: &Cut<'_>,
 ) -> Result<(), AllocError>
-    requires { length (head_of (front_shown front.now)) ≤ 128 }
+    requires head { length (head_of (front_shown front.now)) ≤ 128 }
+    requires named { NamesHost decision.now (host_in (front_shown front.now)) }
     ensures session { let host = host_in (front_shown front.now) in
         OnOk result (session.new ≡ session_after session.old decision.now host) }
     ensures output { let sent = sent_by (pages_in pages.now) session.old decision.now (front_shown front.now) in
@@ -81,6 +83,7 @@ fn host_in<'a>(front: &Cut<'a>) -> &'a [u8]
 
 // Where a decision leads the session, where the PDU names this host.
 fn move_of(alloc: Global, decision: &Decision, host: &[u8]) -> Result<SessionMove, AllocError>
+    requires { NamesHost decision.now host.now }
     ensures { IfOk result (λ move. move ≡ move_of decision.now host.now) }
 {
     match decision {
@@ -95,6 +98,7 @@ fn move_of(alloc: Global, decision: &Decision, host: &[u8]) -> Result<SessionMov
 }
 
 fn begin(alloc: Global, admission: &Admission, host: &[u8]) -> Result<SessionMove, AllocError>
+    requires { IsName host.now }
     ensures { IfOk result (λ move. move ≡ move_begun admission.now host.now) }
 {
     match Nqn::read(alloc, host) {
@@ -106,7 +110,7 @@ fn begin(alloc: Global, admission: &Admission, host: &[u8]) -> Result<SessionMov
                 queue,
             })
         }
-        // A Connect is admitted with a well-formed name alone, so that memory was wanted.
-        Err(_) => Err(AllocError),
+        Err(NqnFault::Memory) => Err(AllocError),
+        Err(NqnFault::TooLong | NqnFault::BadNqn) => unreachable!(),
     }
 }

@@ -1,7 +1,8 @@
 //! What a PDU leads to, as a value: decided by looking alone, before anything changes.
 ghost use Rattle.std.specs.Prelude.{◌≡◌};
 ghost use Rattle.pdu_cut.specs.Cut.{front_shown};
-ghost use Rattle.target_decision.specs.Decision.{decide, decide_pdu, first_by, initialize, is_end, next_by, terminate};
+ghost use Rattle.target_decision.specs.Decision.{decide, decide_pdu, first_by, host_in, initialize, is_end, next_by, terminate};
+ghost use Rattle.target_decision.specs.Session.{NamesHost};
 ghost use Rattle.target_decision.specs.World.{world_in};
 
 use crate::capsule;
@@ -77,6 +78,18 @@ pub struct Admission {
 
 /// What is owed to what stands at the front of a connection's stream.
 pub fn decide<T: Converses>(
+    world: &World<'_, T>,
+    conversation: &Conversation,
+    front: &Cut<'_>,
+) -> Decision
+    ensures decision { let w = world_in T.conversation_of world.now in
+        result ≡ decide w conversation.now (front_shown front.now) }
+    ensures named { NamesHost result (host_in (front_shown front.now)) }
+{
+    decide_front(world, conversation, front)
+}
+
+fn decide_front<T: Converses>(
     world: &World<'_, T>,
     conversation: &Conversation,
     front: &Cut<'_>,

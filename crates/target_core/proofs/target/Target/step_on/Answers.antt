@@ -19,6 +19,6 @@ returns-in-Ok c =
     let complete = sym c.is_incomplete.ensures ∙ c.if-is_incomplete.false in
     rw (← c.self.view_is, stream, known)
     (step_done (the_view c.self.inside) _ _ _ _ _ _ _ stream known lasts c.peek-front.ensures.front complete
-    (rw c.pages-pages.ensures at c.decide_on-decision.ensures) refl refl
+    (rw c.pages-pages.ensures at c.decide_on-decision.ensures.decision) refl refl
     (rw c.pages-pages.ensures at (acted_known _ _ _ _ _ _ known c.in-Ok.ensures.acted))
     (rw c.consumed_of-len.ensures at (acted_known _ _ _ _ _ _ stream c.consume.ensures)) c.stepped.ensures)
