@@ -75,6 +75,19 @@ pub fn replay<W: Write>(
         W.contents out.new ≡ W.contents out.old) }
 {
     let target = configured(alloc, edits, units)?;
+    run(alloc, target, stream, out)
+}
+
+// Runs the script over the target.
+fn run<W: Write>(
+    alloc: Global,
+    target: Target,
+    stream: &[u8],
+    out: &mut W,
+) -> Result<(), ReplayFault>
+    ensures ok { OnOk result (All IsStreamLine (lines_of stream.now)) }
+    ensures fault { IfErr result (λ fault. EndsScript fault (lines_of stream.now)) }
+{
     let mut playback = Playback {
         target,
         known: [false; CONNECTIONS],
