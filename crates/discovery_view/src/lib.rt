@@ -1,5 +1,5 @@
-//! The discovery log page of each host: which records a configuration shows to a host, how often edits
-//! changed them, and the page's bytes from any offset. It knows no connection and no command.
+//! The discovery log page of each host: which records a configuration shows to a host, how often
+//! edits changed them, and the page's bytes from any offset. It knows no connection and no command.
 #![tactic(auto)]
 
 mod entry;

@@ -8,7 +8,8 @@ use crate::walk::Walk;
 use nvt_config::{Config, Port, Subsystem};
 use std::marker::Model;
 
-/// What a configuration shows to a host. A contract sees what the records tell, in the page's order.
+/// What a configuration shows to a host. A contract sees what the records tell, in the page's
+/// order.
 #[derive(Drop)]
 pub(crate) struct Listing<'a> {
     config: &'a Config,
@@ -25,10 +26,12 @@ impl<'a> Model for Listing<'a> {
 
     ghost Value = { List Parts };
 
-    ghost view = { λ l. records_left l.config.now l.host.now (entries_of l.ports.items) (entries_of l.subsystems.items) (entries_of l.subsystems.items) };
+    ghost view = { λ l. records_left l.config.now l.host.now (entries_of l.ports.items)
+        (entries_of l.subsystems.items) (entries_of l.subsystems.items) };
 
     ghost invariant = { λ l. All (λ port. IsTrue (is_port port)) (entries_of l.ports.items)
-        × (length (entries_of l.ports.items) ≤ 32) × (length (entries_of l.subsystems.items) ≤ 32) };
+        × (length (entries_of l.ports.items) ≤ 32)
+        × (length (entries_of l.subsystems.items) ≤ 32) };
 }
 
 impl<'a> Listing<'a> {

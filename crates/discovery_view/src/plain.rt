@@ -1,5 +1,5 @@
-//! The generation counter by its definition, slowly: the configuration is built anew after each edit,
-//! and the records that it shows to a host are written out and compared.
+//! The generation counter by its definition, slowly: the configuration is built anew after each
+//! edit, and the records that it shows to a host are written out and compared.
 
 use nvt_config::{Access, Config, Edit, EditFault, Family, Link, NewFault, Port};
 use std::alloc::{AllocError, Global};

@@ -50,7 +50,6 @@ impl Model for Plan {
 
 impl DiscoveryView {
     /// The view of a configuration that no edit has changed yet.
-    #[tactic(auto, using(crate::proofs::Counts::shows_first))]
     pub fn new(alloc: Global, config: &Config) -> Result<DiscoveryView, AllocError>
         ensures { IfOk result (λ view. ShowsFirst config.now view.shown) }
     {
@@ -60,8 +59,8 @@ impl DiscoveryView {
         })
     }
 
-    /// Takes all the memory to go over to the configuration that an edit makes of this one. Every answer is
-    /// as before, also after want of memory.
+    /// Takes all the memory to go over to the configuration that an edit makes of this one. Every
+    /// answer is as before, also after want of memory.
     pub fn prepare(&mut self, config: &Config, edit: &Edit) -> Result<Plan, AllocError>
         requires { IsOk (accept config.now edit.now) }
         ensures plan { IfOk result (λ plan. accept config.now edit.now ≡ Ok plan) }
@@ -74,7 +73,6 @@ impl DiscoveryView {
     }
 
     /// Goes over to what was prepared last. Takes no memory.
-    #[tactic(auto, using(crate::proofs::Counts::shows_next), unfolding(crate::specs::View::records_in, crate::specs::View::count_in))]
     pub fn commit(&mut self, plan: Plan)
         requires { 1 ≤ self.old.room }
         ensures { ShowsNext plan self.old.shown self.new.shown }
@@ -85,7 +83,6 @@ impl DiscoveryView {
     }
 
     /// Fills `out` with the host's page from an offset on, and with zeros past the page's end.
-    #[tactic(auto, unfolding(crate::specs::View::records_in))]
     pub fn window(&self, host: &[u8], offset: u64, out: &mut [u8])
         ensures { out.new ≡ window (page_in self.now.shown host.now) offset (length out.old) }
     {
@@ -138,9 +135,9 @@ fn edited(config: &Config, edit: &Edit) -> Result<Config, AllocError>
     Ok(next)
 }
 
-/// Whatever a configuration holds, the records that it shows to a host are those of the subsystems and
-/// ports that the host may use, one each, by rising port number and then by rising name. This is a fact
-/// of the definitions; a call does nothing.
+/// Whatever a configuration holds, the records that it shows to a host are those of the subsystems
+/// and ports that the host may use, one each, by rising port number and then by rising name. This is
+/// a fact of the definitions; a call does nothing.
 pub fn records_are_listed()
     ensures { RecordsAreListed }
 {}

@@ -29,7 +29,8 @@ impl<'s, 'a> Model for Walk<'s, 'a> {
 
     ghost Value = { List Parts };
 
-    ghost view = { λ w. records_left w.config.now w.host.now (entries_of (drop w.ports_done w.ports.now))
+    ghost view = { λ w. records_left w.config.now w.host.now
+        (entries_of (drop w.ports_done w.ports.now))
         (entries_of (drop w.subsystems_done w.subsystems.now)) (entries_of w.subsystems.now) };
 
     ghost invariant = { λ w. All (λ port. IsTrue (is_port port)) (entries_of w.ports.now)
@@ -48,7 +49,8 @@ impl<'s, 'a> Walk<'s, 'a> {
         subsystems: &'s [Option<&'a Subsystem>],
     ) -> Walk<'s, 'a>
         requires { All (λ port. IsTrue (is_port port)) (entries_of ports.now) }
-        ensures { result ≡ records_left config.now host.now (entries_of ports.now) (entries_of subsystems.now) (entries_of subsystems.now) }
+        ensures { result ≡ records_left config.now host.now (entries_of ports.now)
+            (entries_of subsystems.now) (entries_of subsystems.now) }
     {
         Walk {
             config,
@@ -95,7 +97,8 @@ fn next_on<'a>(
     ensures entry { MatchOption result
         (records_among config.now host.now port.now (entries_of subsystems.now) ≡ [])
         (λ found. records_among config.now host.now port.now (entries_of subsystems.now)
-        ≡ found.1 ∷ records_among config.now host.now port.now (entries_of (drop found.0 subsystems.now))) }
+        ≡ found.1
+        ∷ records_among config.now host.now port.now (entries_of (drop found.0 subsystems.now))) }
     ensures taken { IfSome result (λ found. found.0 ≤ length subsystems.now) }
 {
     for (done, slot) in subsystems.iter().enumerate() {

@@ -1,10 +1,12 @@
 //! A script of connections, run over a target that a file of edits configured.
 
-ghost use Rattle.std.specs.Prelude.{◌≡◌, ◌+◌, ◌<◌, ◌≤◌, ◌^◌, IfErr, IfOk, OnErr, OnOk, All, IsOkUnless, true};
+ghost use Rattle.std.specs.Prelude.{◌≡◌, IfErr, IfOk, OnOk, All, true};
 ghost use Rattle.std.specs.Bool.{OnFalse};
 ghost use Rattle.nvt_config.specs.Configuration.{are_disks, disks_alone};
 ghost use Rattle.config_text.specs.Lines.{lines_of};
-ghost use Rattle.nvt_replay.specs.Replay.{AcceptsAll, Configures, EndsScript, Explains, IsBeforeScript, IsFirstRefused, IsOfRun, MakesEdit, RefusesEdits, RefusesLines, TakesLine};
+ghost use Rattle.nvt_replay.specs.Replay.{AcceptsAll, Configures, EndsScript, Explains};
+ghost use Rattle.nvt_replay.specs.Replay.{IsBeforeScript, IsOfRun, MakesEdit};
+ghost use Rattle.nvt_replay.specs.Replay.{RefusesEdits, RefusesLines, TakesLine};
 ghost use Rattle.nvt_replay.specs.StreamLine.{IsStreamLine};
 
 use crate::print::Printer;
@@ -68,7 +70,8 @@ pub fn replay<W: Write>(
     units: &[u64],
     out: &mut W,
 ) -> Result<(), ReplayFault>
-    ensures ok { OnOk result (AcceptsAll edits.now units.now × All IsStreamLine (lines_of stream.now)) }
+    ensures ok { OnOk result
+        (AcceptsAll edits.now units.now × All IsStreamLine (lines_of stream.now)) }
     ensures disks { OnFalse (are_disks units.now) (result ≡ Err ReplayFault.Disks) }
     ensures fault { IfErr result (λ fault. Explains fault edits.now stream.now units.now) }
     ensures unwritten { IfErr result (λ fault. IsBeforeScript fault →
@@ -117,7 +120,8 @@ fn configured(alloc: Global, edits: &[u8], units: &[u64]) -> Result<Target, Repl
 // Applies the edits, up to the first line that is refused.
 fn take_edits(alloc: Global, target: &mut Target, edits: &[u8]) -> Result<(), ReplayFault>
     ensures ok { OnOk result (Configures (lines_of edits.now) target.old.config target.new.config) }
-    ensures fault { IfErr result (λ fault. RefusesLines fault (lines_of edits.now) target.old.config) }
+    ensures fault { IfErr result (λ fault.
+        RefusesLines fault (lines_of edits.now) target.old.config) }
 {
     let mut number = 0;
     for line in Lines::of(edits) {

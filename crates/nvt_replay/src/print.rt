@@ -1,7 +1,8 @@
 //! What `replay` prints: a line for each PDU that is sent, and for each connection that is opened,
 //! ended by the target or not known.
 
-ghost use Rattle.std.specs.Prelude.{◌≡◌, ◌<◌, ◌≤◌, ◌∷◌, ◌++◌, [], IfErr, IfSome, OnOk, is_ok, length};
+ghost use Rattle.std.specs.Prelude.{◌≡◌, ◌<◌, ◌≤◌, ◌∷◌, ◌++◌, [], length};
+ghost use Rattle.std.specs.Prelude.{IfErr, IfSome, OnOk, is_ok};
 ghost use Rattle.std.specs.Io.KnownBytes.{Appends};
 ghost use Rattle.hex.specs.Hex.{encode_lower};
 ghost use Rattle.nvt_replay.specs.Printed.{event_line, pdu_length, pdu_line};

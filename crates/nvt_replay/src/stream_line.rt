@@ -1,6 +1,7 @@
 //! The lines of a script of connections.
 
-ghost use Rattle.std.specs.Prelude.{◌≡◌, ◌≢◌, ◌^◌, ◌<◌, ◌∷◌, ◌++◌, ℕ, List, IfNone, IfSome, IsTrue, ◌↔◌, ◌==◌, length, MatchOption, codes};
+ghost use Rattle.std.specs.Prelude.{◌≡◌, ◌≢◌, ◌^◌, ◌<◌, ◌∷◌, ◌++◌, ◌↔◌, ◌==◌, ℕ, List};
+ghost use Rattle.std.specs.Prelude.{IfNone, IfSome, IsTrue, MatchOption, codes, length};
 ghost use Rattle.std.specs.List.{AllPass, position_or_len};
 ghost use Rattle.hex.specs.Hex.{is_hex_digit};
 ghost use Rattle.config_text.specs.Number.{IsNumber};
