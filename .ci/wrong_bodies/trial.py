@@ -3,6 +3,7 @@
 import re
 from dataclasses import dataclass
 
+from calls import compiled
 from checks import PROVED, REFUSED, could_be_read, failures
 from edits import apply
 from source import is_of
@@ -25,14 +26,14 @@ def module_of(owner, sources):
     return ""
 
 
-def path_of(function, sources):
-    """Returns what names the function in a check of it alone: its path, or its module's where it stands in an
-    impl of a trait."""
-    if not function.owner:
-        return "::".join(it for it in (function.module(), function.name) if it)
+def paths_of(function, crate, sources, printed):
+    """Returns what names the function in a check of it alone: its path; or where it stands in an impl of a trait,
+    those of the names that rattle prints that are its own, or its module where these are not known."""
     if function.trait:
-        return function.module()
-    return "::".join(it for it in (module_of(function.owner, sources), function.owner, function.name) if it)
+        own = {it for it in printed if "::fn::" not in it and is_of(function, crate, it)}
+        return own or {function.module()}
+    owner = [module_of(function.owner, sources), function.owner] if function.owner else [function.module()]
+    return {"::".join(it for it in (*owner, function.name) if it)}
 
 
 class Trial:
@@ -40,6 +41,7 @@ class Trial:
 
     def __init__(self, checker, crate, sources):
         self.checker, self.crate, self.sources = checker, crate, sources
+        self.printed = compiled(crate)
 
     def in_round(self, edits):
         """Tries a round, and returns a verdict for each edit."""
@@ -50,7 +52,7 @@ class Trial:
         """Tries edits in one check of their functions, and returns the verdicts on those that it plainly refuses."""
         changes = [it for edit in edits for it in edit.changes]
         functions = [it.function for it in edits]
-        only = sorted({path_of(it, self.sources) for it in functions})
+        only = sorted(set().union(*map(self.paths_of, functions)))
         _, lines = self.checker.check(self.crate, apply(changes, self.sources), functions, only)
         if could_be_read(lines):
             return {}
@@ -77,6 +79,9 @@ class Trial:
             return Verdict(edit, True, f"refused at {(self.own(edit, found) or sorted(found))[0]}, alone")
         said = [it for it in lines if re.match(r"\S+:\d+:\d+: error|rattle: no verdict", it)] or lines[-2:]
         return Verdict(edit, False, f"NOT REFUSED at a goal of any function: {said[0][:200]}")
+
+    def paths_of(self, function):
+        return paths_of(function, self.crate.name, self.sources, self.printed)
 
     def own(self, edit, found):
         return [name for name in sorted(found) if edit.function and self.is_of(edit.function, name)]
