@@ -1,5 +1,6 @@
 //! NVMe qualified names (Base 2.0, section 4.5).
-ghost use Rattle.std.specs.Prelude.{◌≡◌, IfOk, IsOkAnd, IsOkUnless, IfSome, MatchOption, nat_eq, position, ◌==◌, ◌<◌, ◌≤◌, length};
+ghost use Rattle.std.specs.Prelude.{◌≡◌, ◌==◌, ◌<◌, ◌≤◌, nat_eq, length, position};
+ghost use Rattle.std.specs.Prelude.{IfOk, IsOkAnd, IsOkUnless, IfSome, MatchOption};
 ghost use Rattle.std.specs.Char.{is_ascii_graphic};
 ghost use Rattle.std.specs.List.{list_all, starts_with};
 ghost use Rattle.std.specs.Str.{bytes_eq};
@@ -55,7 +56,9 @@ impl Model for Nqn {
 impl Nqn {
     /// The name that the text is.
     pub fn read(alloc: Global, text: &[u8]) -> Result<Nqn, NqnFault>
-        ensures refused { MatchOption (fault_of text.now) (IsOkUnless result NqnFault.Memory) (λ fault. result ≡ Err fault) }
+        ensures refused { MatchOption (fault_of text.now)
+            (IsOkUnless result NqnFault.Memory)
+            (λ fault. result ≡ Err fault) }
         ensures same { IfOk result (λ name. name ≡ text.now) }
     {
         check(text)?;
@@ -115,7 +118,9 @@ impl Eq for Nqn {
 /// The name in a field of 256 bytes: those before its first zero byte. What follows the zero is not
 /// looked at.
 pub fn nqn_field(field: &[u8; 256]) -> Result<&[u8], NqnFault>
-    ensures { MatchOption (fault_of (up_to_zero field.now)) (IsOkAnd result (λ name. name.now ≡ up_to_zero field.now)) (λ fault. result ≡ Err fault) }
+    ensures { let text = up_to_zero field.now in MatchOption (fault_of text)
+        (IsOkAnd result (λ name. name.now ≡ text))
+        (λ fault. result ≡ Err fault) }
 {
     let name = up_to_zero(field);
     match check(name) {

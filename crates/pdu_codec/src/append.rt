@@ -42,7 +42,8 @@ pub(crate) fn append(
     tail: &[u8],
 ) -> Result<(), Full>
     requires { zeros ≤ 112 }
-    ensures { AppendsOrFull out.old out.new (header.now ++ fields.now ++ replicate zeros 0 ++ tail.now) result }
+    ensures { let bytes = header.now ++ fields.now ++ replicate zeros 0 ++ tail.now in
+        AppendsOrFull out.old out.new bytes result }
 {
     let spare = out.capacity() - out.len();
     let fixed = 8 + fields.len() + zeros;

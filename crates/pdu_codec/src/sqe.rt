@@ -1,5 +1,6 @@
 ghost use Rattle.std.specs.Prelude.{◌≡◌, length};
-ghost use Rattle.pdu_codec.specs.Sqe.{entry_in, opcode_of, fuse_of, cid_of, nsid_of, fctype_of, sgl1_of};
+ghost use Rattle.pdu_codec.specs.Sqe.{entry_in, opcode_of, fuse_of, cid_of, nsid_of};
+ghost use Rattle.pdu_codec.specs.Sqe.{fctype_of, sgl1_of};
 
 use crate::sgl::Sgl;
 use nvt_fields::{u16_at, u32_at};

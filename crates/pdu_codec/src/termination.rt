@@ -40,7 +40,8 @@ impl TermReq {
         head: &[u8],
     ) -> Result<(), Full>
         requires { 24 + length head.now < 2 ^ 32 }
-        ensures { AppendsOrFull out.old out.new (c2h_term_req (fatal_code_of fes) fei head.now) result }
+        ensures { let bytes = c2h_term_req (fatal_code_of fes) fei head.now in
+            AppendsOrFull out.old out.new bytes result }
     {
         let header = common_header(PduType::C2hTermReq, 0, 24, 0, 24 + head.len() as u32);
         append(out, &header, &fields(fes, fei), 10, head)

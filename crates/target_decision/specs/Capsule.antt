@@ -5,8 +5,6 @@ use Rattle.nvt_fields.specs.declared.status.Status.{Status}
 use Rattle.nvt_fields.specs.declared.status.TheConstants.Status.{SUCCESS, INVALID_OPCODE, INVALID_FIELD, COMMAND_SEQUENCE_ERROR}
 use Rattle.pdu_codec.specs.Sqe.{opcode_of, fuse_of, fctype_of, property_of}
 use Rattle.target_decision.specs.declared.admin.TheConstants.{GET_LOG_PAGE}
-use Rattle.target_decision.specs.declared.capsule.Refusal.{Refusal}
-use Rattle.target_decision.specs.declared.capsule.Success.{Success}
 use Rattle.target_decision.specs.declared.controller.Controller.{Controller}
 use Rattle.target_decision.specs.declared.decision.Change.{Change}
 use Rattle.target_decision.specs.declared.decision.Change.TheVariants as change
@@ -18,22 +16,22 @@ use Rattle.target_decision.specs.declared.session.Session.TheVariants.{Opened, I
 use Rattle.target_decision.specs.Connect.{connect}
 use Rattle.target_decision.specs.Controllers.{free_cntlid}
 use Rattle.target_decision.specs.LogPage.{get_log_page}
-use Rattle.target_decision.specs.Outcome.{done, refuse, refused}
+use Rattle.target_decision.specs.Outcome.{Outcome, done, refuse, refused}
 use Rattle.target_decision.specs.Queue.{next_head, next_head_of}
 use Rattle.target_decision.specs.Registers.{is_ready, property_get, property_set}
 use Rattle.target_decision.specs.World.{Pages, World}
 
 -- what a command comes to that gives this value, or has this status
-abbrev pub given_by : Result ℕ Status → Result Success Refusal
+abbrev pub given_by : Result ℕ Status → Outcome
 given_by (Ok value) = done value change.Stay
 given_by (Err status) = refused status
 
-abbrev pub set_by : Result ℕ Status → Result Success Refusal
+abbrev pub set_by : Result ℕ Status → Outcome
 set_by (Ok cc) = done 0 (change.Configure cc)
 set_by (Err status) = refused status
 
 -- Fabrics commands on an admin queue, by their type: a second Connect is out of sequence
-abbrev pub fabrics_command : Registers → List ℕ → Result Success Refusal
+abbrev pub fabrics_command : Registers → List ℕ → Outcome
 fabrics_command registers entry =
     if fctype_of entry == PROPERTY_SET then set_by (property_set (property_of entry)) else
     if fctype_of entry == CONNECT then refused COMMAND_SEQUENCE_ERROR else
@@ -41,30 +39,30 @@ fabrics_command registers entry =
     refused INVALID_FIELD
 
 -- admin commands of a ready controller, by their opcode
-abbrev pub admin_command : Pages → List ℕ → List ℕ → Result Success Refusal
+abbrev pub admin_command : Pages → List ℕ → List ℕ → Outcome
 admin_command pages host entry =
     if opcode_of entry == GET_LOG_PAGE then get_log_page pages host entry else refused INVALID_OPCODE
 
 -- a command on a controller's admin queue
-abbrev pub queue_command : Pages → Controller → List ℕ → Result Success Refusal
+abbrev pub queue_command : Pages → Controller → List ℕ → Outcome
 queue_command pages controller entry =
     if opcode_of entry == FABRICS then fabrics_command controller.registers entry else
     refuse (not (is_ready controller.registers)) COMMAND_SEQUENCE_ERROR (admin_command pages controller.host entry)
 
 -- a command on a connection that has no queue yet
-abbrev pub first_command : World → List ℕ → List ℕ → Result Success Refusal
+abbrev pub first_command : World → List ℕ → List ℕ → Outcome
 first_command w entry bytes =
     if (opcode_of entry == FABRICS) && (fctype_of entry == CONNECT)
     then connect (free_cntlid w.conversation) entry bytes else refused COMMAND_SEQUENCE_ERROR
 
-abbrev pub command_in : World → Session → List ℕ → List ℕ → Result Success Refusal
+abbrev pub command_in : World → Session → List ℕ → List ℕ → Outcome
 command_in w (Admin controller queue) entry bytes = queue_command w.pages controller entry
 command_in w Opened entry bytes = first_command w entry bytes
 command_in w Initialized entry bytes = first_command w entry bytes
 command_in w Ended entry bytes = first_command w entry bytes
 
 -- what a command comes to, by its entry and the data in its capsule
-abbrev pub command : World → Session → List ℕ → List ℕ → Result Success Refusal
+abbrev pub command : World → Session → List ℕ → List ℕ → Outcome
 command w session entry bytes = refuse (not (fuse_of entry == 0)) INVALID_FIELD (command_in w session entry bytes)
 
 abbrev pub head_counted : Session → ℕ
@@ -79,7 +77,7 @@ head_after session (change.Begin a) = next_head a.sqsize 0
 head_after session change.Stay = head_counted session
 head_after session (change.Configure cc) = head_counted session
 
-abbrev pub reply_of : Session → ℕ → Result Success Refusal → Reply
+abbrev pub reply_of : Session → ℕ → Outcome → Reply
 reply_of session cid (Ok s) =
     record { cid = cid; sqhd = head_after session s.change; status = SUCCESS; result = s.result; «data» = s.«data»; change = s.change }
 reply_of session cid (Err r) =

@@ -13,10 +13,8 @@ use Rattle.pdu_codec.specs.declared.connect_data.TheConstants.ConnectData.{LEN, 
 use Rattle.pdu_codec.specs.ConnectData.{cntlid_of, subnqn_of, hostnqn_of}
 use Rattle.pdu_codec.specs.Sqe.{connect_of, sgl1_of}
 use Rattle.target_decision.specs.declared.connect.TheConstants.{ANY_CONTROLLER, IN_DATA, QID_MAX, SQSIZE_MAX}
-use Rattle.target_decision.specs.declared.capsule.Success.{Success}
-use Rattle.target_decision.specs.declared.capsule.Refusal.{Refusal}
 use Rattle.target_decision.specs.declared.decision.Change.TheVariants as change
-use Rattle.target_decision.specs.Outcome.{done, refuse, refused}
+use Rattle.target_decision.specs.Outcome.{Outcome, done, refuse, refused}
 
 abbrev pub is_capsule_offset : SglType → Bool
 is_capsule_offset CapsuleOffset = true
@@ -54,22 +52,22 @@ invalid_parameter connect bytes =
     if not (cntlid_of bytes == ANY_CONTROLLER) then Some (in_data CNTLID_AT) else None
 
 -- a new controller gets the identifier that is free, if there is one
-abbrev pub admitted_by : Option ℕ → Option ℕ → Connect → Result Success Refusal
+abbrev pub admitted_by : Option ℕ → Option ℕ → Connect → Outcome
 admitted_by (Some result) free connect = Err (record { status = CONNECT_INVALID_PARAMETERS; result = result })
 admitted_by None None connect = refused CONNECT_CONTROLLER_BUSY
 admitted_by None (Some cntlid) connect =
     done cntlid (change.Begin (record { cntlid = cntlid; sqsize = connect.sqsize }))
 
-unfoldable pub admitted : Option ℕ → Connect → List ℕ → Result Success Refusal
+unfoldable pub admitted : Option ℕ → Connect → List ℕ → Outcome
 admitted free connect bytes =
     refuse (not (connect.recfmt == 0)) INCOMPATIBLE_FORMAT (admitted_by (invalid_parameter connect bytes) free connect)
 
-abbrev pub connected_by : Result (List ℕ) Status → Option ℕ → Connect → Result Success Refusal
+abbrev pub connected_by : Result (List ℕ) Status → Option ℕ → Connect → Outcome
 connected_by (Err status) free connect = refused status
 connected_by (Ok bytes) free connect = admitted free connect bytes
 
 -- what a Connect comes to, by its entry and the data in its capsule, where this identifier is free
-unfoldable pub connect : Option ℕ → List ℕ → List ℕ → Result Success Refusal
+unfoldable pub connect : Option ℕ → List ℕ → List ℕ → Outcome
 connect free entry bytes = connected_by (connect_data (sgl1_of entry) bytes) free (connect_of entry)
 
 abbrev pub host_in_data : Result (List ℕ) Status → List ℕ

@@ -1,16 +1,14 @@
 -- Get Log Page (Base 2.0, section 5.16).
-use Rattle.std.specs.Prelude.{ℕ, ◌+◌, ◌*◌, ◌%◌, Bool, true, false, not, ◌==◌, ◌||◌, nat_lt, List, length, Option, Some, None, Result, Ok, if◌then◌else◌}
+use Rattle.std.specs.Prelude.{ℕ, ◌+◌, ◌*◌, ◌%◌, Bool, true, false, not, ◌==◌, ◌||◌, nat_lt, List, length, Option, Some, None, Ok, if◌then◌else◌}
 use Rattle.nvt_fields.specs.declared.status.TheConstants.Status.{INVALID_FIELD, INVALID_LOG_PAGE, SGL_TYPE_INVALID, DATA_SGL_LENGTH_INVALID}
 use Rattle.pdu_codec.specs.declared.sgl.SglType.{SglType}
 use Rattle.pdu_codec.specs.declared.sgl.SglType.TheVariants.{CapsuleOffset, Transport, Other}
 use Rattle.pdu_codec.specs.Sqe.{get_log_page_of, sgl1_of}
-use Rattle.target_decision.specs.declared.capsule.Success.{Success}
-use Rattle.target_decision.specs.declared.capsule.Refusal.{Refusal}
 use Rattle.target_decision.specs.declared.decision.Change.TheVariants.{Stay}
 use Rattle.target_decision.specs.declared.log_page.TheConstants.{DISCOVERY, READ_MAX}
 use Rattle.target_decision.specs.declared.page.Page.{Page}
 use Rattle.target_decision.specs.declared.page.Page.TheVariants.{Discovery}
-use Rattle.target_decision.specs.Outcome.{refuse, refused}
+use Rattle.target_decision.specs.Outcome.{Outcome, refuse, refused}
 use Rattle.target_decision.specs.World.{Pages, page_named}
 
 abbrev pub is_transport : SglType → Bool
@@ -23,7 +21,7 @@ abbrev pub page_of_lid : ℕ → Option Page
 page_of_lid lid = if lid == DISCOVERY then Some Discovery else None
 
 -- what a read of this page comes to, where these are its bytes: it may begin up to the page's end
-abbrev pub read_page : Page → List ℕ → List ℕ → Result Success Refusal
+abbrev pub read_page : Page → List ℕ → List ℕ → Outcome
 read_page page bytes entry =
     let request = get_log_page_of entry in
     let len = (request.numd + 1) * 4 in
@@ -37,10 +35,10 @@ read_page page bytes entry =
       change = Stay;
     }))))
 
-abbrev pub read_known : Option Page → Pages → List ℕ → List ℕ → Result Success Refusal
+abbrev pub read_known : Option Page → Pages → List ℕ → List ℕ → Outcome
 read_known None pages host entry = refused INVALID_LOG_PAGE
 read_known (Some page) pages host entry = read_page page (page_named page pages host) entry
 
 -- what a read of a log page of this host comes to
-abbrev pub get_log_page : Pages → List ℕ → List ℕ → Result Success Refusal
+abbrev pub get_log_page : Pages → List ℕ → List ℕ → Outcome
 get_log_page pages host entry = read_known (page_of_lid (get_log_page_of entry).lid) pages host entry

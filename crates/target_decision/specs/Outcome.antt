@@ -8,12 +8,12 @@ use Rattle.target_decision.specs.declared.decision.Change.{Change}
 abbrev pub Outcome : Type 0
 Outcome = Result Success Refusal
 
-abbrev pub done : ℕ → Change → Result Success Refusal
+abbrev pub done : ℕ → Change → Outcome
 done value change = Ok (record { result = value; «data» = None; change = change })
 
-abbrev pub refused : Status → Result Success Refusal
+abbrev pub refused : Status → Outcome
 refused status = Err (record { status = status; result = 0 })
 
 -- the status if the test passes, and else what comes next
-abbrev pub refuse : Bool → Status → Result Success Refusal → Result Success Refusal
+abbrev pub refuse : Bool → Status → Outcome → Outcome
 refuse test status next = if test then refused status else next

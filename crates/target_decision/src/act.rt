@@ -33,7 +33,8 @@ pub fn perform(
     requires named { NamesHost decision.now (host_in (front_shown front.now)) }
     ensures session { let host = host_in (front_shown front.now) in
         OnOk result (session.new ≡ session_after session.old decision.now host) }
-    ensures output { let sent = sent_by (pages_in pages.now) session.old decision.now (front_shown front.now) in
+    ensures output { let found = front_shown front.now in
+        let sent = sent_by (pages_in pages.now) session.old decision.now found in
         OnOk result (output.new.items ≡ output.old.items ++ sent) }
     ensures err { OnErr result
         ((session.new ≡ session.old) × (output.new.items ≡ output.old.items)) }

@@ -1,7 +1,8 @@
 //! A command capsule: the checks that come before its command is looked at.
 ghost use Rattle.std.specs.Prelude.{◌≡◌};
 ghost use Rattle.pdu_cut.specs.Front.{whole};
-ghost use Rattle.target_decision.specs.Capsule.{command, first_command, head_after, queue_command, reply_of};
+ghost use Rattle.target_decision.specs.Capsule.{command, first_command, queue_command};
+ghost use Rattle.target_decision.specs.Capsule.{head_after, reply_of};
 ghost use Rattle.target_decision.specs.Decision.{capsule, host_in};
 ghost use Rattle.target_decision.specs.Outcome.{done, refused};
 ghost use Rattle.target_decision.specs.World.{pages_in, world_in};

@@ -1,7 +1,8 @@
 //! Connect (Base 2.0, section 6.3), to a discovery controller alone.
 ghost use Rattle.std.specs.Prelude.{◌≡◌, MatchResult};
 ghost use Rattle.target_decision.specs.Controllers.{free_cntlid};
-ghost use Rattle.target_decision.specs.Connect.{admitted, connect, connect_data, holds_name, host_named, invalid_parameter, is_known_subsystem};
+ghost use Rattle.target_decision.specs.Connect.{admitted, connect, connect_data, host_named};
+ghost use Rattle.target_decision.specs.Connect.{holds_name, invalid_parameter, is_known_subsystem};
 ghost use Rattle.target_decision.specs.World.{world_in};
 
 use crate::capsule::{Outcome, Refusal, done, refused};

@@ -1,7 +1,8 @@
 //! What a PDU leads to, as a value: decided by looking alone, before anything changes.
 ghost use Rattle.std.specs.Prelude.{◌≡◌};
 ghost use Rattle.pdu_cut.specs.Cut.{front_shown};
-ghost use Rattle.target_decision.specs.Decision.{decide, decide_pdu, first_by, host_in, initialize, is_end, next_by, terminate};
+ghost use Rattle.target_decision.specs.Decision.{decide, decide_pdu, first_by, host_in, initialize};
+ghost use Rattle.target_decision.specs.Decision.{is_end, next_by, terminate};
 ghost use Rattle.target_decision.specs.Session.{NamesHost};
 ghost use Rattle.target_decision.specs.World.{world_in};
 

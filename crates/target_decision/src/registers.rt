@@ -46,7 +46,8 @@ pub struct Registers {
 }
 
 impl Registers {
-    ghost use Rattle.target_decision.specs.Registers.{configured, controller_status, is_ready, property_at, property_get, registers_at_connect};
+    ghost use Rattle.target_decision.specs.Registers.{configured, controller_status, is_ready};
+    ghost use Rattle.target_decision.specs.Registers.{property_at, property_get, registers_at_connect};
 
     pub(crate) fn new() -> Registers
         ensures { result ≡ registers_at_connect }

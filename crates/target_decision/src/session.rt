@@ -1,6 +1,7 @@
 //! How far target and host have come on a connection.
 ghost use Rattle.std.specs.Prelude.{◌≡◌};
-ghost use Rattle.target_decision.specs.Session.{has_controller, host_of, is_ended, moved, opened_on};
+ghost use Rattle.target_decision.specs.Session.{has_controller, host_of, is_ended};
+ghost use Rattle.target_decision.specs.Session.{moved, opened_on};
 
 use crate::controller::Controller;
 use crate::queue::Queue;

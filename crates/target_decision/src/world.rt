@@ -1,5 +1,5 @@
 //! What a decision may look at beside its own connection.
-ghost use Rattle.std.specs.Prelude.{◌≡◌};
+ghost use Rattle.std.specs.Prelude.{◌≡◌, ℕ};
 ghost use Rattle.std.specs.Option.{option_copied, option_map};
 ghost use Rattle.number_table.specs.Table.{place};
 ghost use Rattle.target_decision.specs.Controllers.{free_cntlid, has_controller_at, is_used};
@@ -50,7 +50,8 @@ impl<'a, T: Converses> World<'a, T> {
 
 #[tactic(auto, unfolding(crate::specs::Controllers::is_used))]
 fn is_used<T: Converses>(connections: &NumberTable<T>, cntlid: u16) -> bool
-    ensures { result ≡ is_used (λ k. option_map T.conversation_of (place connections.now k)) cntlid }
+    ensures { let conversation = λ (k : ℕ). option_map T.conversation_of (place connections.now k) in
+        result ≡ is_used conversation cntlid }
 {
     (0..CONNECTIONS_MAX).any(|k| has_controller(connections.get(k), cntlid))
 }
