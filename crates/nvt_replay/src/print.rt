@@ -128,7 +128,7 @@ fn push_hex(text: &mut Vec<u8>, bytes: &[u8]) -> Result<(), AllocError>
         return Err(AllocError);
     };
     text.resize(end, 0)?;
-    let _ = hex::encode_to_slice(bytes, &mut text[start..]);
+    hex::encode_to_slice(bytes, &mut text[start..]).unwrap();
     Ok(())
 }
 

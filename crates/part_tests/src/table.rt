@@ -25,6 +25,7 @@ fn put_least<T: Drop>(table: &mut NumberTable<T>, value: T) -> Option<usize> {
 fn full(alloc: Global, values: &[u8]) -> Result<NumberTable<u8>, AllocError> {
     let mut table = NumberTable::new(alloc, values.len())?;
     for value in values {
+        // The number is the value's place: the table has one for each.
         let _ = put_least(&mut table, *value);
     }
     Ok(table)
@@ -138,6 +139,7 @@ fn calls_are_answered(rt: HostRuntime) {
 // Puts words, the second of which is made longer in its place.
 fn fill(alloc: Global, table: &mut NumberTable<String>) -> Result<(), AllocError> {
     for word in ["zero", "one"] {
+        // The numbers are 0 and 1, as the test reads them.
         let _ = put_least(table, String::from_str(alloc, word)?);
     }
     match table.get_mut(1) {
