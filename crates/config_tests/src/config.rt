@@ -10,7 +10,7 @@ use outline::has_lists;
 use std::alloc::{AllocError, Global};
 use std::fmt::Display;
 use std::test::Fail;
-use test_edits::{Line, apply, is_same};
+use test_edits::{Line, is_applied, is_same};
 
 const DISKS: &[u64] = &[8, 1 << 40];
 
@@ -79,7 +79,7 @@ fn runs_filled(alloc: Global, config: &mut Config, script: Script) -> bool {
 
 fn is_filled(alloc: Global, config: &mut Config) -> bool {
     for line in FILLED {
-        if apply(alloc, config, *line).is_err() {
+        if !is_applied(alloc, config, *line) {
             return false;
         }
     }

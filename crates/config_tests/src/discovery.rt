@@ -55,7 +55,7 @@ fn follow(followed: &mut Followed, edit: &Edit) -> bool {
 fn is_made(alloc: Global, followed: &mut Followed, line: Line<'_>) -> bool {
     match edit(alloc, line) {
         Ok(edit) => followed.config.check(&edit).is_ok() && follow(followed, &edit),
-        Err(AllocError) => false,
+        Err(_) => false,
     }
 }
 

@@ -1,10 +1,10 @@
 //! The configuration: each kind of edit, and its copies.
-use super::rows::{A, EDITS, HOST, UNITS, tell};
+use super::rows::{A, EDITS, HOST, UNITS, edit_of, tell};
 use nvt_config::{Config, Edit, EditFault, Host, Link, NewFault, Port, Subsystem, Text};
 use std::alloc::{AllocError, Global};
 use std::process::Abort;
 use std::test::Fail;
-use test_edits::{Line, edit, is_same};
+use test_edits::{Line, is_same};
 
 // Makes the edit of a line; whether it is accepted, and all is as before where it wants memory.
 fn is_made(
@@ -13,7 +13,9 @@ fn is_made(
     line: Line<'_>,
     refused: &mut u32,
 ) -> Result<bool, AllocError> {
-    let edit = edit(alloc, line)?;
+    let Some(edit) = edit_of(alloc, line)? else {
+        return Ok(false);
+    };
     is_applied(config, &edit, refused)
 }
 

@@ -1,7 +1,9 @@
 //! Edits of each kind, and what a test says at its end.
-use nvt_config::{Access, Family};
+use nvt_config::{Access, Edit, Family};
+use nvt_fields::NqnFault;
+use std::alloc::{AllocError, Global};
 use std::test::Fail;
-use test_edits::Line;
+use test_edits::{Line, edit};
 
 pub const A: &[u8] = b"nqn.2026-01.test:a";
 
@@ -32,6 +34,15 @@ pub const EDITS: &[Line<'static>] = &[
     Line::HostAdd(HOST),
     Line::SubsystemSet(A, Access::Open),
 ];
+
+/// The edit of a line whose name is well-formed. Want of memory alone is an error.
+pub fn edit_of(alloc: Global, line: Line<'_>) -> Result<Option<Edit>, AllocError> {
+    match edit(alloc, line) {
+        Ok(edit) => Ok(Some(edit)),
+        Err(NqnFault::Memory) => Err(AllocError),
+        Err(NqnFault::TooLong | NqnFault::BadNqn) => Ok(None),
+    }
+}
 
 /// Prints how many calls answered Memory.
 pub fn tell(rt: &impl Print, refused: u32) -> Result<(), Fail> {

@@ -1,13 +1,13 @@
 //! The target: each kind of edit, with two connections open.
 use super::conversation;
 use super::pdus::ic_req;
-use super::rows::{EDITS, UNITS, tell};
+use super::rows::{EDITS, UNITS, edit_of, tell};
 use nvt_config::{Config, Edit, EditFault, NewFault};
 use std::alloc::{AllocError, Global};
 use std::process::Abort;
 use std::test::Fail;
 use target_core::{OpenFault, StepFault, Stepped, Target};
-use test_edits::{Line, edit, is_same};
+use test_edits::{Line, is_same};
 
 // What is seen of the connections: of each its room, whether it is ended, and how much output waits.
 fn seen(target: &Target) -> [(usize, bool, usize); 3] {
@@ -25,7 +25,9 @@ pub fn is_edited(
     line: Line<'_>,
     refused: &mut u32,
 ) -> Result<bool, AllocError> {
-    let edit = edit(alloc, line)?;
+    let Some(edit) = edit_of(alloc, line)? else {
+        return Ok(false);
+    };
     is_made(target, &edit, refused)
 }
 

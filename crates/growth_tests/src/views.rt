@@ -1,11 +1,11 @@
 //! The discovery view: it is made, and prepares for each kind of edit.
-use super::rows::{EDITS, HOST, UNITS, tell};
+use super::rows::{EDITS, HOST, UNITS, edit_of, tell};
 use discovery_view::DiscoveryView;
 use nvt_config::{Config, Edit, EditFault, NewFault};
 use std::alloc::{AllocError, Global};
 use std::process::Abort;
 use std::test::Fail;
-use test_edits::{Line, edit};
+use test_edits::Line;
 
 // A configuration and its view.
 #[derive(Drop)]
@@ -58,7 +58,9 @@ fn is_edited(
     line: Line<'_>,
     refused: &mut u32,
 ) -> Result<bool, AllocError> {
-    let edit = edit(alloc, line)?;
+    let Some(edit) = edit_of(alloc, line)? else {
+        return Ok(false);
+    };
     Ok(is_followed(followed, &edit, refused))
 }
 

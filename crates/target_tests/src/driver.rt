@@ -72,7 +72,7 @@ impl Driver {
     pub fn edit(&mut self, line: Line<'_>) {
         match edit(self.alloc, line) {
             Ok(edit) => self.failed |= self.target.edit(&edit).is_err(),
-            Err(AllocError) => self.failed = true,
+            Err(_) => self.failed = true,
         }
     }
 

@@ -4,12 +4,12 @@
 
 mod same;
 
-use nvt_config::{Access, Config, Edit, EditFault, Family, Text};
-use nvt_fields::Nqn;
+use nvt_config::{Access, Config, Edit, Family, Text};
+use nvt_fields::{Nqn, NqnFault};
 pub use same::is_same;
 use std::alloc::{AllocError, Global};
 
-/// An edit with its names and texts lent. The names are well-formed.
+/// An edit with its names and texts lent.
 #[derive(Clone, Copy)]
 pub enum Line<'a> {
     /// Its name, its serial number and who may use it.
@@ -27,8 +27,8 @@ pub enum Line<'a> {
     HostDel(&'a [u8]),
 }
 
-/// The edit of a line. It wants memory for each name and each text alone.
-pub fn edit(alloc: Global, line: Line<'_>) -> Result<Edit, AllocError> {
+/// The edit of a line, or why its name is none. It wants memory for each name and each text alone.
+pub fn edit(alloc: Global, line: Line<'_>) -> Result<Edit, NqnFault> {
     match line {
         Line::SubsystemAdd(nqn, serial, access) => subsystem_add(alloc, nqn, serial, access),
         Line::SubsystemSet(nqn, access) => subsystem_set(alloc, nqn, access),
@@ -45,23 +45,19 @@ pub fn edit(alloc: Global, line: Line<'_>) -> Result<Edit, AllocError> {
     }
 }
 
-/// Makes the edit of a line, or says why not: `Memory` also where the edit itself wants memory.
-pub fn apply(alloc: Global, config: &mut Config, line: Line<'_>) -> Result<(), EditFault> {
+/// Makes the edit of a line; whether it is accepted.
+pub fn is_applied(alloc: Global, config: &mut Config, line: Line<'_>) -> bool {
     match edit(alloc, line) {
-        Ok(edit) => config.apply(&edit),
-        Err(AllocError) => Err(EditFault::Memory),
+        Ok(edit) => config.apply(&edit).is_ok(),
+        Err(_) => false,
     }
 }
 
-fn name(alloc: Global, nqn: &[u8]) -> Result<Nqn, AllocError> {
-    match Nqn::read(alloc, nqn) {
-        Ok(nqn) => Ok(nqn),
-        Err(_) => Err(AllocError),
+fn text(alloc: Global, bytes: &[u8]) -> Result<Text, NqnFault> {
+    match Vec::from_slice(alloc, bytes) {
+        Ok(bytes) => Ok(Text::from(bytes)),
+        Err(AllocError) => Err(NqnFault::Memory),
     }
-}
-
-fn text(alloc: Global, bytes: &[u8]) -> Result<Text, AllocError> {
-    Ok(Text::from(Vec::from_slice(alloc, bytes)?))
 }
 
 fn subsystem_add(
@@ -69,8 +65,8 @@ fn subsystem_add(
     nqn: &[u8],
     serial: &[u8],
     access: Access,
-) -> Result<Edit, AllocError> {
-    let nqn = name(alloc, nqn)?;
+) -> Result<Edit, NqnFault> {
+    let nqn = Nqn::read(alloc, nqn)?;
     let serial = text(alloc, serial)?;
     Ok(Edit::SubsystemAdd {
         nqn,
@@ -79,17 +75,17 @@ fn subsystem_add(
     })
 }
 
-fn subsystem_set(alloc: Global, nqn: &[u8], access: Access) -> Result<Edit, AllocError> {
-    let nqn = name(alloc, nqn)?;
+fn subsystem_set(alloc: Global, nqn: &[u8], access: Access) -> Result<Edit, NqnFault> {
+    let nqn = Nqn::read(alloc, nqn)?;
     Ok(Edit::SubsystemSet { nqn, access })
 }
 
-fn subsystem_del(alloc: Global, nqn: &[u8]) -> Result<Edit, AllocError> {
-    let nqn = name(alloc, nqn)?;
+fn subsystem_del(alloc: Global, nqn: &[u8]) -> Result<Edit, NqnFault> {
+    let nqn = Nqn::read(alloc, nqn)?;
     Ok(Edit::SubsystemDel { nqn })
 }
 
-fn port_add(alloc: Global, id: u64, address: &[u8], service: u64) -> Result<Edit, AllocError> {
+fn port_add(alloc: Global, id: u64, address: &[u8], service: u64) -> Result<Edit, NqnFault> {
     let address = text(alloc, address)?;
     Ok(Edit::PortAdd {
         id,
@@ -105,7 +101,7 @@ fn port_set(
     family: Family,
     address: &[u8],
     service: u64,
-) -> Result<Edit, AllocError> {
+) -> Result<Edit, NqnFault> {
     let address = text(alloc, address)?;
     Ok(Edit::PortSet {
         id,
@@ -115,22 +111,22 @@ fn port_set(
     })
 }
 
-fn link_add(alloc: Global, port: u64, nqn: &[u8]) -> Result<Edit, AllocError> {
-    let subsystem = name(alloc, nqn)?;
+fn link_add(alloc: Global, port: u64, nqn: &[u8]) -> Result<Edit, NqnFault> {
+    let subsystem = Nqn::read(alloc, nqn)?;
     Ok(Edit::LinkAdd { port, subsystem })
 }
 
-fn link_del(alloc: Global, port: u64, nqn: &[u8]) -> Result<Edit, AllocError> {
-    let subsystem = name(alloc, nqn)?;
+fn link_del(alloc: Global, port: u64, nqn: &[u8]) -> Result<Edit, NqnFault> {
+    let subsystem = Nqn::read(alloc, nqn)?;
     Ok(Edit::LinkDel { port, subsystem })
 }
 
-fn host_add(alloc: Global, nqn: &[u8]) -> Result<Edit, AllocError> {
-    let nqn = name(alloc, nqn)?;
+fn host_add(alloc: Global, nqn: &[u8]) -> Result<Edit, NqnFault> {
+    let nqn = Nqn::read(alloc, nqn)?;
     Ok(Edit::HostAdd { nqn })
 }
 
-fn host_del(alloc: Global, nqn: &[u8]) -> Result<Edit, AllocError> {
-    let nqn = name(alloc, nqn)?;
+fn host_del(alloc: Global, nqn: &[u8]) -> Result<Edit, NqnFault> {
+    let nqn = Nqn::read(alloc, nqn)?;
     Ok(Edit::HostDel { nqn })
 }

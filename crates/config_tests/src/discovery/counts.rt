@@ -83,7 +83,7 @@ fn is_planned(followed: &mut Followed, edit: &Edit) -> bool {
 fn is_line_planned(alloc: Global, followed: &mut Followed, line: Line<'_>) -> bool {
     match edit(alloc, line) {
         Ok(edit) => is_planned(followed, &edit),
-        Err(AllocError) => false,
+        Err(_) => false,
     }
 }
 

@@ -67,7 +67,7 @@ fn go_on(alloc: Global, followed: &mut Followed, edits: &mut Vec<Edit>, line: Li
             let is_followed = follow(followed, &edit);
             edits.push(edit).is_ok() && is_followed
         }
-        Err(AllocError) => false,
+        Err(_) => false,
     }
 }
 

@@ -67,7 +67,7 @@ impl Script {
     pub fn edit(&mut self, line: Line<'_>) {
         match edit(self.alloc, line) {
             Ok(edit) => self.make(&edit),
-            Err(AllocError) => self.expect(false, "want of memory for an edit"),
+            Err(_) => self.expect(false, "the edit of a line"),
         }
     }
 
