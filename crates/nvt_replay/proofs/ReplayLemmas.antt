@@ -1,6 +1,9 @@
 -- The lines of a file, taken in turn.
-use Rattle.std.proofs.Common.{◌≡◌, ℕ, ◌+◌, ◌-◌, ◌<◌, List, [], ◌∷◌, ◌++◌, length, suc, get_or, get_or-drop, take, drop, length-drop, refl, sym, ap, subst, ◌∙◌, arith, true, inl, inr, Result, Ok, Err}
-use Rattle.std.specs.List.{All}
+use Rattle.std.proofs.Common.{◌≡◌, ℕ, ◌+◌, ◌-◌, ◌*◌, ◌<◌, MatchResult, IsOk, List, [], ◌∷◌, ◌++◌, length, suc, get_or, get_or-drop, take, drop, length-drop, refl, sym, ap, subst, ◌∙◌, arith, true, inl, inr, Result, Ok, Err}
+use Rattle.std.specs.List.{All, AllPass}
+use Rattle.hex.specs.Hex.{decode_sized, is_hex_digit}
+use Rattle.hex.specs.declared.error.FromHexError.{FromHexError}
+use Rattle.hex.proofs.HexLemmas.{IsOk-decode_sized}
 use Rattle.std.proofs.lemmas.List.{drop-drop, take_all, take_more}
 use Rattle.std.proofs.lemmas.List.Elements.{All-push}
 use Rattle.nvt_config.specs.declared.edit.Edit.{Edit}
@@ -131,3 +134,13 @@ malformed_at all n line rest e before not =
       before = subst (λ k. All IsStreamLine (take k all)) (sym front) before;
       malformed = λ is. not (subst IsStreamLine (ap (λ k. get_or all k []) front ∙ next.is) is);
     }
+
+-- pairs of hex digits are decoded into room for as many bytes
+pub is_decoded : (text : List ℕ) (n : ℕ) (out : List ℕ) (result : Result (Unit {0}) FromHexError)
+    → MatchResult (decode_sized text n) (λ bytes. (result ≡ Ok tt) × (out ≡ bytes)) (λ e. result ≡ Err e)
+    → (length text ≡ 2 * n) × AllPass is_hex_digit text → IsOk result
+is_decoded text n out result value fits = by (decode_sized text n) refl value where
+  by : (r : Result (List ℕ) FromHexError) → decode_sized text n ≡ r
+      → MatchResult r (λ bytes. (result ≡ Ok tt) × (out ≡ bytes)) (λ e. result ≡ Err e) → IsOk result
+  by (Ok bytes) is value = rw value.0 refl
+  by (Err e) is value = let failed : Result (List ℕ) FromHexError = Err e in let fails : IsOk failed = rw is at ((IsOk-decode_sized text n).1 fits) in cc

@@ -35,3 +35,9 @@ IsStreamLine line =
     ((port : ℕ) × Opens line port)
     ⊎ ((k : ℕ) × (hex : List ℕ) × Receives line k hex)
     ⊎ ((k : ℕ) × Ends line k)
+
+-- what an `rx` line brings is hex digits
+abbrev pub HasDigits : StreamLine → Type 0
+HasDigits (Open port) = Unit {0}
+HasDigits (Receive k hex) = AllPass is_hex_digit hex.now
+HasDigits (End k) = Unit {0}

@@ -1,13 +1,15 @@
 //! A script of connections, run over a target that a file of edits configured.
 
-ghost use Rattle.std.specs.Prelude.{◌≡◌, IfErr, IfOk, OnOk, All, true};
+ghost use Rattle.std.specs.Prelude.{◌≡◌, ◌*◌, IfErr, IfOk, OnOk, All, true, length};
 ghost use Rattle.std.specs.Bool.{OnFalse};
+ghost use Rattle.std.specs.List.{AllPass};
+ghost use Rattle.hex.specs.Hex.{decode_of, is_hex_digit};
 ghost use Rattle.nvt_config.specs.Configuration.{are_disks, disks_alone};
 ghost use Rattle.config_text.specs.Lines.{lines_of};
 ghost use Rattle.nvt_replay.specs.Replay.{AcceptsAll, Configures, EndsScript, Explains};
 ghost use Rattle.nvt_replay.specs.Replay.{IsBeforeScript, IsOfRun, MakesEdit};
 ghost use Rattle.nvt_replay.specs.Replay.{RefusesEdits, RefusesLines, TakesLine};
-ghost use Rattle.nvt_replay.specs.StreamLine.{IsStreamLine};
+ghost use Rattle.nvt_replay.specs.StreamLine.{HasDigits, IsStreamLine};
 
 use crate::print::Printer;
 use crate::stream_line::{StreamLine, read_stream_line};
@@ -193,6 +195,7 @@ impl<'a, W: Write> Playback<'a, W> {
     }
 
     fn play(&mut self, line: StreamLine<'_>) -> Result<(), ReplayFault>
+        requires { HasDigits line }
         ensures { IfErr result IsOfRun }
     {
         match line {
@@ -229,6 +232,7 @@ impl<'a, W: Write> Playback<'a, W> {
     // Hands the bytes out, as many at a time as the connection has room for, and lets all
     // connections step in between. What is left once the connection has ended is dropped.
     fn receive(&mut self, k: usize, hex: &[u8]) -> Result<(), ReplayFault>
+        requires { AllPass is_hex_digit hex.now }
         ensures { IfErr result IsOfRun }
     {
         let mut rest = hex;
@@ -239,8 +243,10 @@ impl<'a, W: Write> Playback<'a, W> {
             }
             let (front, after) = rest.split_at(2 * len);
             self.piece.resize(len, 0)?;
-            let _ = hex::decode_to_slice(front, self.piece.as_mut_slice());
-            let _ = self.target.receive(k, &self.piece);
+            decode_hex(front, self.piece.as_mut_slice());
+            if self.target.receive(k, &self.piece).is_err() {
+                break;
+            }
             rest = after;
             self.settle()?;
         }
@@ -309,4 +315,13 @@ impl<'a, W: Write> Playback<'a, W> {
         }
         Ok(())
     }
+}
+
+// Writes the bytes that pairs of hex digits say into room for as many.
+fn decode_hex(digits: &[u8], bytes: &mut [u8])
+    requires digits { AllPass is_hex_digit digits.now }
+    requires room { length digits.now ≡ 2 * length bytes.old }
+    ensures { decode_of digits.now ≡ Ok bytes.new }
+{
+    hex::decode_to_slice(digits, bytes).unwrap();
 }
