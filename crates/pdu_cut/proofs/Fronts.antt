@@ -8,7 +8,7 @@ use Rattle.pdu_cut.specs.declared.header.CommonHeader.{CommonHeader}
 use Rattle.pdu_cut.specs.declared.header.HeaderFault.{HeaderFault}
 use Rattle.pdu_cut.specs.CommonHeader.{header_of, type_or_fault}
 use Rattle.pdu_cut.specs.Pdu.{Pdu, IsPdu}
-use Rattle.pdu_cut.specs.Front.{incomplete, whole, faulty, front, front_by, IsFront}
+use Rattle.pdu_cut.specs.Front.{incomplete, whole, faulty, front, front_by, BeginsWithPdu}
 use Rattle.pdu_cut.proofs.Headers.{passes_header, least_header, eight_within, header_of-append, header_of-take}
 
 -- the first PLEN bytes behind a header without a fault are a PDU
@@ -27,7 +27,7 @@ pdu_at side bytes kind e h =
 -- and they stand at the front
 pub front_at : (side : Side) (bytes : List ℕ) (kind : PduType)
     → type_or_fault side (header_of bytes) ≡ Ok kind → (header_of bytes).plen ≤ length bytes
-    → IsFront side bytes (record { kind = kind; bytes = take (header_of bytes).plen bytes })
+    → BeginsWithPdu side bytes (record { kind = kind; bytes = take (header_of bytes).plen bytes })
 front_at side bytes kind e h =
     let len = length-take-le (header_of bytes).plen bytes h in
     record {
@@ -39,30 +39,30 @@ front_at side bytes kind e h =
 long_enough : (side : Side) (bytes : List ℕ) (kind : PduType) (pdu : Pdu) (short : Bool)
     → nat_lt (length bytes) (header_of bytes).plen ≡ short → type_or_fault side (header_of bytes) ≡ Ok kind
     → cond short incomplete (whole (record { kind = kind; bytes = take (header_of bytes).plen bytes })) ≡ whole pdu
-    → IsFront side bytes pdu
+    → BeginsWithPdu side bytes pdu
 long_enough side bytes kind pdu true s e h = cc
 long_enough side bytes kind pdu false s e h =
     let n = (header_of bytes).plen in
     let le : n ≤ length bytes = ltb-false (length bytes) n s in
     let found : Pdu = record { kind = kind; bytes = take n bytes } in
     let same : found ≡ pdu = cc in
-    let stands : IsFront side bytes found = front_at side bytes kind e le in
-    subst (λ (x : Pdu). IsFront side bytes x) same stands
+    let stands : BeginsWithPdu side bytes found = front_at side bytes kind e le in
+    subst (λ (x : Pdu). BeginsWithPdu side bytes x) same stands
 
 front_by_whole : (side : Side) (bytes : List ℕ) (r : Result PduType HeaderFault) (pdu : Pdu)
-    → type_or_fault side (header_of bytes) ≡ r → front_by r bytes ≡ whole pdu → IsFront side bytes pdu
+    → type_or_fault side (header_of bytes) ≡ r → front_by r bytes ≡ whole pdu → BeginsWithPdu side bytes pdu
 front_by_whole side bytes (Err fault) pdu e h = cc
 front_by_whole side bytes (Ok kind) pdu e h = long_enough side bytes kind pdu _ refl e h
 
-pub front_whole : (side : Side) (bytes : List ℕ) (pdu : Pdu) → front side bytes ≡ whole pdu → IsFront side bytes pdu
+pub front_whole : (side : Side) (bytes : List ℕ) (pdu : Pdu) → front side bytes ≡ whole pdu → BeginsWithPdu side bytes pdu
 front_whole side bytes pdu h = by_length _ h
   where
-    by_length : (short : Bool) → cond short incomplete (front_by (type_or_fault side (header_of bytes)) bytes) ≡ whole pdu → IsFront side bytes pdu
+    by_length : (short : Bool) → cond short incomplete (front_by (type_or_fault side (header_of bytes)) bytes) ≡ whole pdu → BeginsWithPdu side bytes pdu
     by_length true h = cc
     by_length false h = front_by_whole side bytes _ pdu refl h
 
 -- the bytes are the PDU at the front and what follows
-pub front_then : (side : Side) (bytes : List ℕ) (pdu : Pdu) → IsFront side bytes pdu
+pub front_then : (side : Side) (bytes : List ℕ) (pdu : Pdu) → BeginsWithPdu side bytes pdu
     → bytes ≡ pdu.bytes ++ drop (length pdu.bytes) bytes
 front_then side bytes pdu f =
     let n = length pdu.bytes in

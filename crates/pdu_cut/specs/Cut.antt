@@ -1,4 +1,4 @@
--- The front that a look into a receive buffer shows.
+-- What a look into a receive buffer answers: it shows the front of the bytes held.
 use Rattle.pdu_cut.specs.declared.cut.Cut.{Cut}
 use Rattle.pdu_cut.specs.declared.cut.Cut.TheVariants.{More, Pdu, Fault}
 use Rattle.pdu_cut.specs.Pdu.{Pdu as SpecPdu}

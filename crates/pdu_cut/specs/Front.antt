@@ -27,7 +27,7 @@ front side bytes =
     front_by (type_or_fault side (header_of bytes)) bytes
 
 -- a whole PDU stands at the front of the bytes
-pub record IsFront (side : Side) (held : List ℕ) (pdu : Pdu) : Type 0 where
+pub record BeginsWithPdu (side : Side) (held : List ℕ) (pdu : Pdu) : Type 0 where
   pub is_pdu : IsPdu side pdu
   pub within : length pdu.bytes ≤ length held
   pub begins : pdu.bytes ≡ take (length pdu.bytes) held

@@ -19,7 +19,7 @@ pub record BeginsWith (side : Side) (stream : List ℕ) (pdus : List Pdu) (rest 
 abbrev pub HasNoWhole : Side → List ℕ → Type 0
 HasNoWhole side bytes = (pdu : Pdu) → front side bytes ≢ whole pdu
 
--- the stream is these whole PDUs and no more: the rest begins with none
+-- how a stream is cut: it is these whole PDUs and no more, and the rest begins with none
 pub record IsCut (side : Side) (stream : List ℕ) (pdus : List Pdu) (rest : List ℕ) : Type 0 where
   pub begins : BeginsWith side stream pdus rest
   pub stops : HasNoWhole side rest

@@ -30,7 +30,7 @@ impl Model for RxBuf {
 }
 
 impl RxBuf {
-    ghost use Rattle.pdu_cut.specs.Front.{front, IsFront};
+    ghost use Rattle.pdu_cut.specs.Front.{front, BeginsWithPdu};
     ghost use Rattle.pdu_cut.specs.Cut.{front_shown, IfPdu};
 
     /// An empty buffer for what this side receives.
@@ -65,7 +65,7 @@ impl RxBuf {
     /// What stands at the front of the bytes held.
     pub fn peek(&self) -> Cut<'_>
         ensures front { front_shown result ≡ front self.now.side self.now.held }
-        ensures whole { IfPdu result (λ pdu. IsFront self.now.side self.now.held pdu) }
+        ensures whole { IfPdu result (λ pdu. BeginsWithPdu self.now.side self.now.held pdu) }
     {
         let bytes = self.bytes.as_slice();
         if bytes.len() < COMMON_HEADER_LEN {
