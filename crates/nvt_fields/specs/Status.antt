@@ -1,7 +1,47 @@
--- The word of a completion that has a status (Base 2.0, section 3.3.3.2.1).
-use Rattle.std.specs.Prelude.{ℕ, ◌+◌, ◌*◌, ◌%◌, ◌^◌, if◌then◌else◌}
+-- Statuses and the word of a completion that has one (Base 2.0, section 3.3.3.2.1).
+use Rattle.std.specs.Prelude.{ℕ, ◌+◌, ◌*◌, ◌%◌, ◌^◌, true, false, if◌then◌else◌}
 use Rattle.nvt_fields.specs.declared.status.Status.{Status}
 
 -- the code in bits 8:1, its type in bits 11:9, do-not-retry in bit 15
 abbrev pub word_of : Status → ℕ
 word_of s = s.sc * 2 ^ 1 + s.sct % 2 ^ 3 * 2 ^ 9 + (if s.dnr then 2 ^ 15 else 0)
+
+abbrev pub success : Status
+success = record { sct = 0; sc = 0x00; dnr = false }
+
+-- a generic error, and one of the command's own
+abbrev pub generic : ℕ → Status
+generic sc = record { sct = 0; sc = sc; dnr = true }
+
+abbrev pub command_specific : ℕ → Status
+command_specific sc = record { sct = 1; sc = sc; dnr = true }
+
+abbrev pub invalid_opcode : Status
+invalid_opcode = generic 0x01
+
+abbrev pub invalid_field : Status
+invalid_field = generic 0x02
+
+abbrev pub command_sequence_error : Status
+command_sequence_error = generic 0x0C
+
+abbrev pub data_sgl_length_invalid : Status
+data_sgl_length_invalid = generic 0x0F
+
+abbrev pub sgl_type_invalid : Status
+sgl_type_invalid = generic 0x11
+
+abbrev pub sgl_offset_invalid : Status
+sgl_offset_invalid = generic 0x16
+
+abbrev pub invalid_log_page : Status
+invalid_log_page = command_specific 0x09
+
+abbrev pub incompatible_format : Status
+incompatible_format = command_specific 0x80
+
+abbrev pub connect_controller_busy : Status
+connect_controller_busy = command_specific 0x81
+
+abbrev pub connect_invalid_parameters : Status
+connect_invalid_parameters = command_specific 0x82

@@ -1,6 +1,6 @@
 //! NVMe qualified names (Base 2.0, section 4.5).
 ghost use Rattle.std.specs.Prelude.{◌≡◌, ◌==◌, ◌<◌, ◌≤◌, nat_eq, length, position};
-ghost use Rattle.std.specs.Prelude.{IfOk, IsOkAnd, IsOkUnless, IfSome, MatchOption};
+ghost use Rattle.std.specs.Prelude.{IfOk, IsOkAnd, IsOkUnless, IfSome, MatchOption, codes};
 ghost use Rattle.std.specs.Char.{is_ascii_graphic};
 ghost use Rattle.std.specs.List.{list_all, starts_with};
 ghost use Rattle.std.specs.Str.{bytes_eq};
@@ -77,7 +77,7 @@ impl Nqn {
     /// The name's length in bytes.
     pub fn len(&self) -> usize
         ensures value { result ≡ length self.now }
-        ensures bound { result ≤ NQN_MAX }
+        ensures bound { result ≤ 223 }
     {
         self.bytes.len()
     }
@@ -163,7 +163,7 @@ fn is_name(text: &[u8]) -> bool
 }
 
 fn has_prefix(text: &[u8]) -> bool
-    ensures { result ≡ starts_with nat_eq text.now PREFIX.now }
+    ensures { result ≡ starts_with nat_eq text.now (codes "nqn.") }
 {
     text.starts_with(PREFIX)
 }

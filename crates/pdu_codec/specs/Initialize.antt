@@ -4,15 +4,21 @@ use Rattle.std.specs.Int.{w16, w32, to_le_bytes}
 use Rattle.nvt_fields.specs.Field.{field_at}
 use Rattle.nvt_fields.specs.declared.pdu_type.PduType.TheVariants as types
 use Rattle.pdu_codec.specs.declared.initialize.IcReq.{IcReq}
-use Rattle.pdu_codec.specs.declared.initialize.TheConstants.IcReq.{PFV_AT, HPDA_AT}
 use Rattle.pdu_codec.specs.declared.initialize.IcResp.{IcResp}
 use Rattle.pdu_codec.specs.CommonHeader.{common_header}
+
+-- the offsets of two fields of an ICReq, by which a termination names them
+abbrev pub pfv_at : ℕ
+pfv_at = 8
+
+abbrev pub hpda_at : ℕ
+hpda_at = 10
 
 -- what an ICReq of these bytes asks for
 abbrev pub ic_req_of : List ℕ → IcReq
 ic_req_of bytes = record {
-  pfv = field_at 2 PFV_AT bytes;
-  hpda = slice_index bytes HPDA_AT;
+  pfv = field_at 2 pfv_at bytes;
+  hpda = slice_index bytes hpda_at;
   dgst = slice_index bytes 11;
   maxr2t = field_at 4 12 bytes;
 }

@@ -4,7 +4,6 @@ use Rattle.nvt_fields.specs.Field.{field_at}
 use Rattle.pdu_codec.specs.Sgl.{sgl_of}
 use Rattle.pdu_codec.specs.declared.sgl.Sgl.{Sgl}
 use Rattle.pdu_codec.specs.declared.command.Connect.{Connect}
-use Rattle.pdu_codec.specs.declared.command.TheConstants.Connect.{RECFMT_AT, QID_AT, SQSIZE_AT, CATTR_AT, KATO_AT}
 use Rattle.pdu_codec.specs.declared.command.Property.{Property}
 use Rattle.pdu_codec.specs.declared.command.GetLogPage.{GetLogPage}
 
@@ -32,14 +31,21 @@ fctype_of entry = slice_index entry 4
 abbrev pub sgl1_of : List ℕ → Sgl
 sgl1_of entry = sgl_of (slice_range entry 24 40)
 
+-- the offsets of two fields of a Connect, by which a result names them
+abbrev pub qid_at : ℕ
+qid_at = 42
+
+abbrev pub sqsize_at : ℕ
+sqsize_at = 44
+
 -- Connect (Base 2.0, section 6.3)
 abbrev pub connect_of : List ℕ → Connect
 connect_of entry = record {
-  recfmt = field_at 2 RECFMT_AT entry;
-  qid = field_at 2 QID_AT entry;
-  sqsize = field_at 2 SQSIZE_AT entry;
-  cattr = slice_index entry CATTR_AT;
-  kato = field_at 4 KATO_AT entry;
+  recfmt = field_at 2 40 entry;
+  qid = field_at 2 qid_at entry;
+  sqsize = field_at 2 sqsize_at entry;
+  cattr = slice_index entry 46;
+  kato = field_at 4 48 entry;
 }
 
 -- Property Get and Property Set (Base 2.0, sections 6.5 and 6.6)

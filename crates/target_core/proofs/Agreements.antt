@@ -17,9 +17,8 @@ use Rattle.target_decision.specs.Session.{opened_on}
 use Rattle.target_core.specs.Moves.{Moves, Stands, StandsIn, connection_after, connection_moved}
 use Rattle.target_core.specs.Target.{TargetState, meets, IsNewTarget, world_at}
 use Rattle.target_decision.specs.declared.session.Conversation.{Conversation}
-use Rattle.target_decision.specs.declared.world.TheConstants.{CONNECTIONS_MAX}
 use Rattle.target_decision.specs.Decision.{consumed_of}
-use Rattle.target_decision.specs.World.{Pages, World}
+use Rattle.target_decision.specs.World.{Pages, World, connections_max}
 use Rattle.target_history.specs.Event.{Event, edited, port_in, front_in, gives_up, opened, opens, steps, stepped, given_up}
 use Rattle.target_history.specs.Happening.{Happening, conversation_after, conversation_moved, sends}
 use Rattle.target_history.specs.History.{config_after, config_of, happened, last_front, pdus_of, sent, with_pdu, world_of}
@@ -140,7 +139,7 @@ pub new_agrees : (target : TargetState) (units : List ℕ) → IsNewTarget (disk
 new_agrees target units fresh = record {
   config = fresh.config;
   shown = new_show target.shown units fresh.shown;
-  conversation = λ k. rw (fresh.connections, place-replicate CONNECTIONS_MAX k) refl;
-  stream = λ k. rw (fresh.streams, place-replicate CONNECTIONS_MAX k) refl;
-  output = λ k. rw (fresh.connections, place-replicate CONNECTIONS_MAX k) (refl, refl);
+  conversation = λ k. rw (fresh.connections, place-replicate connections_max k) refl;
+  stream = λ k. rw (fresh.streams, place-replicate connections_max k) refl;
+  output = λ k. rw (fresh.connections, place-replicate connections_max k) (refl, refl);
 }

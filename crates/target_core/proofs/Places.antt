@@ -8,21 +8,21 @@ use Rattle.number_table.proofs.Tables.{least_free-Some, length-with_value, lengt
 use Rattle.nvt_config.specs.Configuration.{Configuration}
 use Rattle.std.proofs.lemmas.List.{length-map}
 use Rattle.target_core.specs.Connection.{ConnectionState}
+use Rattle.target_decision.specs.World.{connections_max}
 use Rattle.target_core.specs.Target.{IsTarget, TargetState}
 use Rattle.target_core.specs.Views.{ViewsShown}
-use Rattle.target_decision.specs.declared.world.TheConstants.{CONNECTIONS_MAX}
 
 -- the fact of the tables alone
 abbrev pub Alike : {A B : Type 0} → List (Option A) → List (Option B) → Type 0
 Alike streams connections = (k : ℕ) → is_none (place streams k) ≡ is_none (place connections k)
 
 pub new_is_target : (config : Configuration) (shown : ViewsShown) (streams : List (Option (List ℕ))) (connections : List (Option ConnectionState))
-    → streams ≡ replicate CONNECTIONS_MAX None → connections ≡ replicate CONNECTIONS_MAX None
+    → streams ≡ replicate connections_max None → connections ≡ replicate connections_max None
     → IsTarget (record { config = config; shown = shown; streams = streams; connections = connections })
 new_is_target config shown streams connections no_stream no_connection = record {
   places = rw no_connection refl;
-  alike = λ k. ap (λ (l : List (Option (List ℕ))). is_none (place l k)) no_stream ∙ ap is_none (place-replicate CONNECTIONS_MAX k)
-      ∙ sym (ap (λ (l : List (Option ConnectionState)). is_none (place l k)) no_connection ∙ ap is_none (place-replicate CONNECTIONS_MAX k));
+  alike = λ k. ap (λ (l : List (Option (List ℕ))). is_none (place l k)) no_stream ∙ ap is_none (place-replicate connections_max k)
+      ∙ sym (ap (λ (l : List (Option ConnectionState)). is_none (place l k)) no_connection ∙ ap is_none (place-replicate connections_max k));
   streams = rw no_stream refl;
 }
 

@@ -13,9 +13,8 @@ use Rattle.target_core.specs.declared.fault.OpenFault.TheVariants.{NoSuchPort, F
 use Rattle.target_core.specs.Connection.{ConnectionState}
 use Rattle.target_core.specs.Views.{ShowFirst, ViewsShown, pages_shown}
 use Rattle.target_decision.specs.declared.session.Conversation.{Conversation}
-use Rattle.target_decision.specs.declared.world.TheConstants.{CONNECTIONS_MAX}
 use Rattle.target_decision.specs.Session.{is_ended}
-use Rattle.target_decision.specs.World.{Pages, World}
+use Rattle.target_decision.specs.World.{Pages, World, connections_max}
 use Rattle.target_history.specs.Event.{Event}
 use Rattle.target_history.specs.Happening.{Happening}
 
@@ -31,14 +30,14 @@ pub record TargetState : Type 0 where
 pub record IsNewTarget (c : Configuration) (t : TargetState) : Type 0 where
   pub config : t.config ≡ c
   pub shown : ShowFirst c t.shown
-  pub streams : t.streams ≡ replicate CONNECTIONS_MAX None
-  pub connections : t.connections ≡ replicate CONNECTIONS_MAX None
+  pub streams : t.streams ≡ replicate connections_max None
+  pub connections : t.connections ≡ replicate connections_max None
 
 -- what holds of each target: it has a stream for each connection that is known, of those that there may be
 pub record IsTarget (t : TargetState) : Type 0 where
-  pub places : length t.connections ≡ CONNECTIONS_MAX
+  pub places : length t.connections ≡ connections_max
   pub alike : (k : ℕ) → is_none (place t.streams k) ≡ is_none (place t.connections k)
-  pub streams : length t.streams ≡ CONNECTIONS_MAX
+  pub streams : length t.streams ≡ connections_max
 
 -- ---- what a decision may look at
 

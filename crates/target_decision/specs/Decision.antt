@@ -9,14 +9,11 @@ use Rattle.nvt_fields.specs.Window.{window}
 use Rattle.pdu_codec.specs.declared.initialize.IcReq as ic_req
 use Rattle.pdu_codec.specs.C2hData.{c2h_data}
 use Rattle.pdu_codec.specs.CapsuleResp.{capsule_resp}
-use Rattle.pdu_codec.specs.declared.initialize.TheConstants.IcReq.{PFV_AT, HPDA_AT}
-use Rattle.pdu_codec.specs.Initialize.{ic_resp, ic_req_of}
+use Rattle.pdu_codec.specs.Initialize.{hpda_at, ic_req_of, ic_resp, pfv_at}
 use Rattle.pdu_codec.specs.Sqe.{cid_of, entry_in}
 use Rattle.pdu_codec.specs.TermReq.{c2h_term_req}
 use Rattle.pdu_cut.specs.Front.{Front, incomplete, whole, faulty}
 use Rattle.pdu_cut.specs.Pdu.{Pdu, header_part, data_part}
-use Rattle.target_decision.specs.declared.capsule.TheConstants.{IN_CAPSULE_MAX}
-use Rattle.target_decision.specs.declared.decision.TheConstants.{TTAG_AT}
 use Rattle.target_decision.specs.declared.decision.Decision.{Decision}
 use Rattle.target_decision.specs.declared.decision.Decision.TheVariants as decision
 use Rattle.target_decision.specs.declared.decision.Reply.{Reply}
@@ -24,7 +21,6 @@ use Rattle.target_decision.specs.declared.page.PagePart.{PagePart}
 use Rattle.target_decision.specs.declared.session.Conversation.{Conversation}
 use Rattle.target_decision.specs.declared.session.Session.{Session}
 use Rattle.target_decision.specs.declared.session.Session.TheVariants.{Opened, Initialized, Admin, Ended}
-use Rattle.target_decision.specs.declared.wire.TheConstants.{MAX_H2C_DATA}
 use Rattle.target_decision.specs.Capsule.{command, reply_of}
 use Rattle.target_decision.specs.Connect.{host_named}
 use Rattle.target_decision.specs.Session.{host_of}
@@ -38,8 +34,8 @@ terminate fes fei = decision.Terminate (record { fes = fes; fei = fei })
 -- an ICReq that comes first: until transfers are built, no alignment of data may be asked for
 abbrev pub initialize : ic_req.IcReq → Decision
 initialize request =
-    if not (request.pfv == 0) then terminate UnsupportedParameter PFV_AT else
-    if not (request.hpda == 0) then terminate InvalidHeaderField HPDA_AT else decision.Initialize
+    if not (request.pfv == 0) then terminate UnsupportedParameter pfv_at else
+    if not (request.hpda == 0) then terminate InvalidHeaderField hpda_at else decision.Initialize
 
 -- the first PDU of a connection
 abbrev pub first_by : PduType → Pdu → Decision
@@ -51,17 +47,17 @@ first_by _ pdu = terminate SequenceError 0
 abbrev pub entry_of : Pdu → List ℕ
 entry_of pdu = entry_in (header_part pdu)
 
--- a capsule, with at most this many bytes of data
+-- a capsule, with at most 8,192 bytes of data
 abbrev pub capsule : World → Session → Pdu → Decision
 capsule w session pdu =
-    if nat_lt IN_CAPSULE_MAX (length (data_part pdu)) then terminate LimitExceeded 0 else
+    if nat_lt 8192 (length (data_part pdu)) then terminate LimitExceeded 0 else
     decision.Reply (reply_of session (cid_of (entry_of pdu)) (command w session (entry_of pdu) (data_part pdu)))
 
 -- a PDU after the first; no command that is built asks for data, so no H2CData has a known TTAG
 abbrev pub next_by : PduType → World → Session → Pdu → Decision
 next_by H2cTermReq w session pdu = decision.Close
 next_by CapsuleCmd w session pdu = capsule w session pdu
-next_by H2cData w session pdu = terminate InvalidHeaderField TTAG_AT
+next_by H2cData w session pdu = terminate InvalidHeaderField 10
 next_by _ w session pdu = terminate SequenceError 0
 
 -- a whole PDU
@@ -109,7 +105,7 @@ response_of r = capsule_resp (record { result = r.result; sqhd = r.sqhd; cid = r
 -- The bytes that a decision sends: head is the header of the PDU that was decided on, or its first
 -- bytes, and payload the data that the reply returns.
 abbrev pub wire_of : Decision → List ℕ → List ℕ → List ℕ
-wire_of decision.Initialize head payload = ic_resp (record { pfv = 0; cpda = 0; dgst = 0; maxh2cdata = MAX_H2C_DATA })
+wire_of decision.Initialize head payload = ic_resp (record { pfv = 0; cpda = 0; dgst = 0; maxh2cdata = 16384 })
 wire_of (decision.Reply r) head payload = data_pdu r.cid r.«data» payload ++ response_of r
 wire_of (decision.Terminate t) head payload = c2h_term_req (fatal_code_of t.fes) t.fei head
 wire_of decision.Close head payload = []

@@ -1,11 +1,10 @@
 -- Get Log Page (Base 2.0, section 5.16).
 use Rattle.std.specs.Prelude.{ℕ, ◌+◌, ◌*◌, ◌%◌, Bool, true, false, not, ◌==◌, ◌||◌, nat_lt, List, length, Option, Some, None, Ok, if◌then◌else◌}
-use Rattle.nvt_fields.specs.declared.status.TheConstants.Status.{INVALID_FIELD, INVALID_LOG_PAGE, SGL_TYPE_INVALID, DATA_SGL_LENGTH_INVALID}
+use Rattle.nvt_fields.specs.Status.{invalid_field, invalid_log_page, sgl_type_invalid, data_sgl_length_invalid}
 use Rattle.pdu_codec.specs.declared.sgl.SglType.{SglType}
 use Rattle.pdu_codec.specs.declared.sgl.SglType.TheVariants.{CapsuleOffset, Transport, Other}
 use Rattle.pdu_codec.specs.Sqe.{get_log_page_of, sgl1_of}
 use Rattle.target_decision.specs.declared.decision.Change.TheVariants.{Stay}
-use Rattle.target_decision.specs.declared.log_page.TheConstants.{DISCOVERY, READ_MAX}
 use Rattle.target_decision.specs.declared.page.Page.{Page}
 use Rattle.target_decision.specs.declared.page.Page.TheVariants.{Discovery}
 use Rattle.target_decision.specs.Outcome.{Outcome, refuse, refused}
@@ -18,7 +17,7 @@ is_transport Other = false
 
 -- the page that a log identifier names
 abbrev pub page_of_lid : ℕ → Option Page
-page_of_lid lid = if lid == DISCOVERY then Some Discovery else None
+page_of_lid lid = if lid == 0x70 then Some Discovery else None
 
 -- what a read of this page comes to, where these are its bytes: it may begin up to the page's end
 abbrev pub read_page : Page → List ℕ → List ℕ → Outcome
@@ -26,9 +25,9 @@ read_page page bytes entry =
     let request = get_log_page_of entry in
     let len = (request.numd + 1) * 4 in
     let sgl = sgl1_of entry in
-    refuse (nat_lt READ_MAX len || (not (request.offset % 4 == 0) || nat_lt (length bytes) request.offset)) INVALID_FIELD (
-    refuse (not (is_transport sgl.sgl_type)) SGL_TYPE_INVALID (
-    refuse (not (sgl.len == len)) DATA_SGL_LENGTH_INVALID (
+    refuse (nat_lt 32768 len || (not (request.offset % 4 == 0) || nat_lt (length bytes) request.offset)) invalid_field (
+    refuse (not (is_transport sgl.sgl_type)) sgl_type_invalid (
+    refuse (not (sgl.len == len)) data_sgl_length_invalid (
     Ok (record {
       result = 0;
       «data» = Some (record { page = page; offset = request.offset; dwords = request.numd + 1 });
@@ -36,7 +35,7 @@ read_page page bytes entry =
     }))))
 
 abbrev pub read_known : Option Page → Pages → List ℕ → List ℕ → Outcome
-read_known None pages host entry = refused INVALID_LOG_PAGE
+read_known None pages host entry = refused invalid_log_page
 read_known (Some page) pages host entry = read_page page (page_named page pages host) entry
 
 -- what a read of a log page of this host comes to

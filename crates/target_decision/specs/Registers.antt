@@ -1,9 +1,8 @@
 -- The properties of a discovery controller (Base 2.0, section 3.1.3).
 use Rattle.std.specs.Prelude.{ℕ, ◌+◌, ◌*◌, ◌/◌, ◌%◌, ◌^◌, Bool, true, false, not, ◌==◌, ◌&&◌, Option, Some, None, Result, Ok, Err, if◌then◌else◌}
 use Rattle.nvt_fields.specs.declared.status.Status.{Status}
-use Rattle.nvt_fields.specs.declared.status.TheConstants.Status.{INVALID_FIELD}
+use Rattle.nvt_fields.specs.Status.{invalid_field}
 use Rattle.pdu_codec.specs.declared.command.Property.{Property}
-use Rattle.target_decision.specs.declared.registers.TheConstants.{CAP_AT, VS_AT, CC_AT, CSTS_AT, CRTO_AT, CAP, VS, CRTO}
 use Rattle.target_decision.specs.declared.registers.Registers.{Registers}
 use Rattle.target_decision.specs.declared.registers.ShutdownStatus.{ShutdownStatus}
 use Rattle.target_decision.specs.declared.registers.ShutdownStatus.TheVariants.{Normal, Complete}
@@ -23,18 +22,22 @@ is_ready r = r.ready && is_normal r.shutdown
 abbrev pub controller_status : Registers → ℕ
 controller_status r = (if r.ready then 1 else 0) + (if is_normal r.shutdown then 0 else 2 * 2 ^ 2)
 
+-- the offset of Controller Configuration
+abbrev pub cc_at : ℕ
+cc_at = 0x14
+
 -- what stands at an offset, and how ATTRIB 2:0 names its size: 0 for 4 bytes, 1 for 8
 abbrev pub property_at : Registers → ℕ → Option (ℕ × ℕ)
 property_at r ofst =
-    if ofst == CAP_AT then Some (CAP, 1) else
-    if ofst == VS_AT then Some (VS, 0) else
-    if ofst == CC_AT then Some (r.cc, 0) else
-    if ofst == CSTS_AT then Some (controller_status r, 0) else
-    if ofst == CRTO_AT then Some (CRTO, 0) else None
+    if ofst == 0x00 then Some (0x080000200201003F, 1) else
+    if ofst == 0x08 then Some (0x00020000, 0) else
+    if ofst == cc_at then Some (r.cc, 0) else
+    if ofst == 0x1C then Some (controller_status r, 0) else
+    if ofst == 0x68 then Some (0x00000002, 0) else None
 
 abbrev pub value_of_size : Option (ℕ × ℕ) → ℕ → Result ℕ Status
-value_of_size None size = Err INVALID_FIELD
-value_of_size (Some found) size = if found.1 == size then Ok found.0 else Err INVALID_FIELD
+value_of_size None size = Err invalid_field
+value_of_size (Some found) size = if found.1 == size then Ok found.0 else Err invalid_field
 
 -- Property Get
 abbrev pub property_get : Registers → Property → Result ℕ Status
@@ -73,4 +76,4 @@ configured r cc = record {
 -- Property Set: only Controller Configuration, by its 4 bytes; gives the value that it sets there
 abbrev pub property_set : Property → Result ℕ Status
 property_set property =
-    if (property.ofst == CC_AT) && (property.attrib % 8 == 0) then Ok (property.value % 2 ^ 32) else Err INVALID_FIELD
+    if (property.ofst == cc_at) && (property.attrib % 8 == 0) then Ok (property.value % 2 ^ 32) else Err invalid_field

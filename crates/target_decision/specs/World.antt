@@ -9,6 +9,13 @@ use Rattle.target_decision.specs.declared.session.Conversation.{Conversation}
 use Rattle.target_decision.specs.declared.world.Pages.{Pages as PagesLent}
 use Rattle.target_decision.specs.declared.world.World.{World as WorldLent}
 
+-- the most connections, and the most controllers, at a time
+abbrev pub connections_max : ℕ
+connections_max = 64
+
+abbrev pub controllers_max : ℕ
+controllers_max = 32
+
 -- the log pages of each host, one function for each page that there is
 pub record Pages : Type 0 where
   pub discovery : List ℕ → List ℕ
