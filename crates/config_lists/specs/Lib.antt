@@ -1,4 +1,6 @@
+pub mod GroupState
 pub mod Lists
+pub mod Namespace
 pub mod Port
 pub mod Subsystem
 pub mod Text

@@ -3,14 +3,20 @@
 //! there are, is `nvt_config`'s.
 #![tactic(auto)]
 
+pub mod allow;
+pub mod group_state;
 pub mod host;
 pub mod link;
+pub mod namespace;
 pub mod port;
 pub mod subsystem;
 pub mod text;
 
+pub use allow::Allow;
+pub use group_state::{AnaState, GroupState};
 pub use host::Host;
 pub use link::Link;
+pub use namespace::{BlockSize, Namespace, Setting};
 pub use port::{Family, Port};
 pub use subsystem::{Access, Subsystem};
 pub use text::Text;

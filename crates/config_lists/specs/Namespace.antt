@@ -1,0 +1,33 @@
+-- What a namespace may hold (Base 2.0, section 3.2.1).
+use Rattle.std.specs.Prelude.{ℕ, ◌==◌, Bool, ◌&&◌, nat_le, List, Option, Some, None, if◌then◌else◌}
+use Rattle.std.specs.Str.{bytes_eq}
+use Rattle.config_lists.specs.declared.namespace.BlockSize.{BlockSize}
+use Rattle.config_lists.specs.declared.namespace.BlockSize.TheVariants.{Bytes512, Bytes4096}
+use Rattle.config_lists.specs.declared.namespace.Namespace.{Namespace}
+use Rattle.config_lists.specs.declared.namespace.Setting.{Setting}
+use Rattle.config_lists.specs.declared.namespace.Setting.TheVariants.{Blocks, Group}
+
+-- a namespace's identifier
+abbrev pub is_nsid : ℕ → Bool
+is_nsid n = nat_le 1 n && nat_le n 1024
+
+-- the identifier of an ANA group
+abbrev pub is_group : ℕ → Bool
+is_group n = nat_le 1 n && nat_le n 32
+
+abbrev pub bytes_of : BlockSize → ℕ
+bytes_of Bytes512 = 512
+bytes_of Bytes4096 = 4096
+
+-- the block size of so many bytes
+abbrev pub block_size_of : ℕ → Option BlockSize
+block_size_of n = if n == 512 then Some Bytes512 else if n == 4096 then Some Bytes4096 else None
+
+-- whether it is the namespace of this subsystem and this identifier
+abbrev pub is_named : List ℕ → ℕ → Namespace → Bool
+is_named subsystem nsid n = bytes_eq n.subsystem subsystem && (n.nsid == nsid)
+
+-- the namespace after one of its values is set
+abbrev pub with_setting : Setting → Namespace → Namespace
+with_setting (Blocks blocks) n = record n { blocks = blocks }
+with_setting (Group group) n = record n { group = group }
