@@ -72,10 +72,10 @@ pub enum Setting {
 }
 
 impl Namespace {
-    fn has_name(&self, subsystem: &Nqn, nsid: u64) -> bool
+    fn has_name(&self, subsystem: &[u8], nsid: u64) -> bool
         ensures { result ≡ is_named subsystem.now nsid self.now }
     {
-        self.subsystem == *subsystem && u64::from(self.nsid) == nsid
+        self.subsystem.as_bytes() == subsystem && u64::from(self.nsid) == nsid
     }
 
     fn set(&mut self, value: Setting)
@@ -126,14 +126,14 @@ pub fn find_namespace<'a>(
 ) -> Option<&'a Namespace>
     ensures { option_copied result ≡ find (is_named subsystem.now nsid) namespaces.now }
 {
-    namespaces.iter().find(|n| n.subsystem.as_bytes() == subsystem && u64::from(n.nsid) == nsid)
+    namespaces.iter().find(|n| n.has_name(subsystem, nsid))
 }
 
 /// Whether the namespace of that subsystem and that identifier is there.
 pub fn has_namespace(namespaces: &[Namespace], subsystem: &[u8], nsid: u64) -> bool
     ensures { result ≡ list_any (is_named subsystem.now nsid) namespaces.now }
 {
-    namespaces.iter().any(|n| n.subsystem.as_bytes() == subsystem && u64::from(n.nsid) == nsid)
+    namespaces.iter().any(|n| n.has_name(subsystem, nsid))
 }
 
 /// Whether the subsystem of that name has a namespace.
@@ -173,7 +173,7 @@ pub fn set_namespace(namespaces: &mut [Namespace], subsystem: &Nqn, nsid: u64, v
         ≡ changed_where (is_named subsystem.now nsid) (with_setting value) namespaces.old }
 {
     for namespace in namespaces.iter_mut() {
-        if namespace.has_name(subsystem, nsid) {
+        if namespace.has_name(subsystem.as_bytes(), nsid) {
             namespace.set(value);
         }
     }
@@ -184,5 +184,5 @@ pub fn remove_namespace(namespaces: &mut Vec<Namespace>, subsystem: &Nqn, nsid: 
     ensures { namespaces.new.items
         ≡ without (is_named subsystem.now nsid) namespaces.old.items }
 {
-    namespaces.retain(|n| !n.has_name(subsystem, nsid));
+    namespaces.retain(|n| !n.has_name(subsystem.as_bytes(), nsid));
 }

@@ -1,0 +1,156 @@
+//! The edits of a configuration.
+
+use config_lists::group_state::AnaState;
+use config_lists::port::Family;
+use config_lists::subsystem::Access;
+use config_lists::text::Text;
+use nvt_fields::Nqn;
+use uuid::Uuid;
+
+/// One edit. Its numbers are as its line names them, so they may be out of range; one that names an
+/// item and is out of range names none. The refusals stand in the order in which they are answered.
+/// An edit that changes no value is accepted.
+#[derive(Debug, Drop)]
+pub enum Edit {
+    /// Adds a subsystem after those that are there. Refused: `BadValue` of `Nqn` for the discovery
+    /// subsystem's name, of `Serial` for one that is not 1 to 20 bytes from 21h to 7Eh; `Exists` for
+    /// the name of a subsystem that is there; `Full` where 32 subsystems are.
+    SubsystemAdd {
+        nqn: Nqn,
+        serial: Text,
+        access: Access,
+    },
+    /// Sets who may use a subsystem. Refused: `NoSuch` where no subsystem has the name.
+    SubsystemSet {
+        nqn: Nqn,
+        access: Access,
+    },
+    /// Removes a subsystem. Refused: `NoSuch` where no subsystem has the name; `InUse` of
+    /// `Namespace`, of `Link`, then of `Allow`, where one names it.
+    SubsystemDel {
+        nqn: Nqn,
+    },
+    /// Adds a namespace after those that are there. Refused: `BadValue` of `Nsid` for one outside 1
+    /// to 1,024, of `Blocks` for 0, or for more than the disk has, where that is there, of
+    /// `BlockSize` for another than 512 and 4,096, of `Uuid` for the nil one, of `Group` for one
+    /// outside 1 to 32; `NoSuch` of `Subsystem`, then of `Disk`, where there is none; `Exists` of
+    /// `Namespace` for one of that subsystem and identifier, then of `Uuid` for that of a namespace
+    /// of any subsystem; `DiskInUse` where a namespace is on the disk.
+    NamespaceAdd(NewNamespace),
+    /// Sets the size of a namespace, in blocks. Refused: `BadValue` of `Blocks` for 0, or for more
+    /// than its disk has, where the namespace is there; `NoSuch` of `Subsystem`, then of `Namespace`,
+    /// where there is none.
+    NamespaceSize {
+        subsystem: Nqn,
+        nsid: u64,
+        blocks: u64,
+    },
+    /// Puts a namespace into an ANA group. Refused: `BadValue` of `Group` for one outside 1 to 32;
+    /// `NoSuch` of `Subsystem`, then of `Namespace`, where there is none.
+    NamespaceGroup {
+        subsystem: Nqn,
+        nsid: u64,
+        group: u64,
+    },
+    /// Removes a namespace. Refused: `NoSuch` of `Subsystem`, then of `Namespace`, where there is
+    /// none.
+    NamespaceDel {
+        subsystem: Nqn,
+        nsid: u64,
+    },
+    /// Adds a port after those that are there. Refused: `BadValue` of `Port` for an `id` outside 1 to
+    /// 65,535, of `Address` for one that is not 1 to 256 bytes from 21h to 7Eh, of `Service` for one
+    /// outside 1 to 65,535; `Exists` for the `id` of a port that is there; `Full` where 16 ports are.
+    PortAdd(Endpoint),
+    /// Sets where a port listens; it keeps its place and its links. Refused: `BadValue` as for
+    /// `PortAdd`; `NoSuch` where no port has the `id`.
+    PortSet(Endpoint),
+    /// Removes a port. Refused: `NoSuch` where no port has the `id`; `InUse` of `Link` where a link
+    /// names it.
+    PortDel {
+        id: u64,
+    },
+    /// Serves a subsystem on a port, after the links that are there. Refused: `NoSuch` of `Port`, then
+    /// of `Subsystem`, where there is none; `Exists` for a link that is there.
+    LinkAdd {
+        port: u64,
+        subsystem: Nqn,
+    },
+    /// Ends a link, and takes the ANA states away that were set on it. Refused: `NoSuch` of `Port`, of
+    /// `Subsystem`, then of `Link`, where there is none.
+    LinkDel {
+        port: u64,
+        subsystem: Nqn,
+    },
+    /// Adds a host; one that was there before comes back in its place, and another stands after those
+    /// that are there. Refused: `Exists` for a live host of that name; `Full` for a new name where 256
+    /// names are, live or not.
+    HostAdd {
+        nqn: Nqn,
+    },
+    /// Makes a host no longer live; its name keeps its place. Refused: `NoSuch` where no live host has
+    /// the name; `InUse` of `Allow` where a subsystem allows it.
+    HostDel {
+        nqn: Nqn,
+    },
+    /// Lets a host use a subsystem that is closed, after the allows that are there. Refused: `NoSuch`
+    /// of `Subsystem`, then of `Host` where no live one has the name; `Exists` for an allow that is
+    /// there; `Full` where 1,024 allows are.
+    AllowAdd {
+        subsystem: Nqn,
+        host: Nqn,
+    },
+    /// Ends an allow. Refused: `NoSuch` of `Subsystem`, of `Host` where no live one has the name, then
+    /// of `Allow`, where there is none.
+    AllowDel {
+        subsystem: Nqn,
+        host: Nqn,
+    },
+    /// Sets the state of an ANA group of a subsystem on a port that serves it. Refused: `BadValue` of
+    /// `Group` for one outside 1 to 32; `NoSuch` of `Port`, of `Subsystem`, then of `Link`, where
+    /// there is none.
+    AnaSet {
+        port: u64,
+        subsystem: Nqn,
+        group: u64,
+        state: AnaState,
+    },
+    /// Adds a referral after those that are there. Refused: as `PortAdd`, with `Referral` in `Exists`
+    /// and `Full`, where 16 referrals are.
+    ReferralAdd(Endpoint),
+    /// Sets where a referral leads; it keeps its place. Refused: as `PortSet`, with `Referral` in
+    /// `NoSuch`.
+    ReferralSet(Endpoint),
+    /// Removes a referral. Refused: `NoSuch` where no referral has the `id`.
+    ReferralDel {
+        id: u64,
+    },
+}
+
+/// A namespace that is to be added.
+#[derive(Debug, Drop)]
+pub struct NewNamespace {
+    /// The name of its subsystem.
+    pub subsystem: Nqn,
+    pub nsid: u64,
+    /// The number of its disk, counted from 0.
+    pub disk: u64,
+    /// Its size in blocks.
+    pub blocks: u64,
+    /// The bytes of a block.
+    pub block_size: u64,
+    pub uuid: Uuid,
+    /// Its ANA group.
+    pub group: u64,
+}
+
+/// Where a port listens, or a referral leads.
+#[derive(Debug, Drop)]
+pub struct Endpoint {
+    /// The number of the port, or of the referral.
+    pub id: u64,
+    pub family: Family,
+    pub address: Text,
+    /// The TCP port number.
+    pub service: u64,
+}
