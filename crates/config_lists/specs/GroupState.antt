@@ -1,9 +1,17 @@
 -- The ANA states that were set (Base 2.0, section 8.1).
-use Rattle.std.specs.Prelude.{ℕ, ◌==◌, Bool, ◌&&◌, List, Option, Some, None, find}
+use Rattle.std.specs.Prelude.{ℕ, ◌==◌, Bool, true, false, ◌&&◌, List, Option, Some, None, find}
 use Rattle.std.specs.Str.{bytes_eq}
 use Rattle.config_lists.specs.declared.group_state.AnaState.{AnaState}
-use Rattle.config_lists.specs.declared.group_state.AnaState.TheVariants.{Optimized}
+use Rattle.config_lists.specs.declared.group_state.AnaState.TheVariants.{Optimized, NonOptimized, Inaccessible, PersistentLoss, Change}
 use Rattle.config_lists.specs.declared.group_state.GroupState.{GroupState}
+
+-- whether it is the state where none was set
+abbrev pub is_optimized : AnaState → Bool
+is_optimized Optimized = true
+is_optimized NonOptimized = false
+is_optimized Inaccessible = false
+is_optimized PersistentLoss = false
+is_optimized Change = false
 
 -- whether it is the state on this port of a group of this subsystem
 abbrev pub is_state_on : ℕ → List ℕ → GroupState → Bool

@@ -2,7 +2,7 @@
 ghost use Rattle.std.specs.Prelude.{◌≡◌, find};
 ghost use Rattle.std.specs.List.{list_any};
 ghost use Rattle.std.specs.Option.{option_copied};
-ghost use Rattle.config_lists.specs.GroupState.{is_state_for, is_state_on, state_for, with_state};
+ghost use Rattle.config_lists.specs.GroupState.{is_optimized, is_state_for, is_state_on, state_for, with_state};
 ghost use Rattle.config_lists.specs.Lists.{changed_where, without};
 
 use nvt_fields::Nqn;
@@ -16,6 +16,21 @@ pub enum AnaState {
     Inaccessible,
     PersistentLoss,
     Change,
+}
+
+impl AnaState {
+    /// Whether it is the state where none was set.
+    pub fn is_optimized(self) -> bool
+        ensures { result ≡ is_optimized self }
+    {
+        match self {
+            AnaState::Optimized => true,
+            AnaState::NonOptimized
+            | AnaState::Inaccessible
+            | AnaState::PersistentLoss
+            | AnaState::Change => false,
+        }
+    }
 }
 
 /// The state that was set on a port for an ANA group of a subsystem. No two of a configuration are

@@ -1,0 +1,4 @@
+pub mod Configuration
+pub mod Valid
+pub mod Accept
+pub mod Permission
