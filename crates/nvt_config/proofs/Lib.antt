@@ -1,6 +1,1 @@
 pub mod Effects
-pub mod Hosts
-pub mod Links
-pub mod Ports
-pub mod Subsystems
-pub mod Valid

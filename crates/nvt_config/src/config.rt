@@ -5,21 +5,25 @@ ghost use Rattle.std.specs.Bool.{OnFalse, OnTrue};
 ghost use Rattle.std.specs.List.{list_all};
 ghost use Rattle.std.specs.Option.{option_copied};
 ghost use Rattle.std.specs.Str.{bytes_eq};
-ghost use Rattle.nvt_config.specs.Accept.{AcceptedStaysValid, accept, verdict};
-ghost use Rattle.nvt_config.specs.Configuration.{IsValid, are_disks, disks_alone};
+ghost use Rattle.config_rules.specs.Accept.{accept, verdict};
+ghost use Rattle.config_rules.specs.Configuration.{are_disks, disks_alone};
+ghost use Rattle.config_rules.specs.Valid.{IsValid};
 ghost use Rattle.nvt_config.specs.Plan.{IsPlanOf, IsReady, made};
 
 mod changes;
-mod checks;
 mod plans;
 
-use crate::edit::Edit;
-use crate::fault::{EditFault, NewFault};
+use crate::fault::NewFault;
 use crate::plan::{Change, Plan};
+use config_edits::{Edit, EditFault};
+use config_lists::allow::Allow;
+use config_lists::group_state::GroupState;
 use config_lists::host::Host;
 use config_lists::link::Link;
+use config_lists::namespace::{Namespace, Setting};
 use config_lists::port::Port;
 use config_lists::subsystem::Subsystem;
+use config_rules::Lists;
 use std::alloc::{AllocError, Global};
 use std::marker::Model;
 
@@ -28,37 +32,51 @@ const DISKS_MAX: usize = 256;
 const DISK_UNITS_MAX: u64 = 1 << 40;
 
 /// The disks' sizes in units of 512 bytes, and the lists, each in the order in which its items were
-/// added. There are at most 256 disks of at most 2^40 units, 32 subsystems, 16 ports and 256 hosts,
-/// those that are not live counted. No two items of a list have the same name, and a link's port and
-/// subsystem are there.
+/// added. There are at most 256 disks of at most 2^40 units, 32 subsystems, 16 ports, 256 hosts, those
+/// that are not live counted, 1,024 allows and 16 referrals. No two items of a list have the same
+/// name, and what an item names is there. Each namespace fits on a disk of its own.
 #[derive(Debug, Drop)]
 pub struct Config {
     units: Vec<u64>,
     subsystems: Vec<Subsystem>,
+    namespaces: Vec<Namespace>,
     ports: Vec<Port>,
     links: Vec<Link>,
     hosts: Vec<Host>,
+    allows: Vec<Allow>,
+    states: Vec<GroupState>,
+    // The ports of discovery controllers elsewhere.
+    referrals: Vec<Port>,
 }
 
 impl Model for Config {
-    ghost use Rattle.nvt_config.specs.Configuration.{Configuration, IsValid};
+    ghost use Rattle.config_rules.specs.Configuration.{Configuration};
+    ghost use Rattle.config_rules.specs.Valid.{IsValid};
 
     ghost Value = { Configuration };
 
     ghost view = { λ c. record {
       units = c.units.items;
       subsystems = c.subsystems.items;
+      namespaces = c.namespaces.items;
       ports = c.ports.items;
       links = c.links.items;
       hosts = c.hosts.items;
+      allows = c.allows.items;
+      states = c.states.items;
+      referrals = c.referrals.items;
     } };
 
     ghost invariant = { λ c. IsValid (record {
       units = c.units.items;
       subsystems = c.subsystems.items;
+      namespaces = c.namespaces.items;
       ports = c.ports.items;
       links = c.links.items;
       hosts = c.hosts.items;
+      allows = c.allows.items;
+      states = c.states.items;
+      referrals = c.referrals.items;
     }) };
 }
 
@@ -77,9 +95,13 @@ impl Config {
             Ok(units) => Ok(Config {
                 units,
                 subsystems: Vec::new(alloc),
+                namespaces: Vec::new(alloc),
                 ports: Vec::new(alloc),
                 links: Vec::new(alloc),
                 hosts: Vec::new(alloc),
+                allows: Vec::new(alloc),
+                states: Vec::new(alloc),
+                referrals: Vec::new(alloc),
             }),
             Err(AllocError) => Err(NewFault::Memory),
         }
@@ -99,6 +121,14 @@ impl Config {
         ensures valid { IsValid self.now }
     {
         self.subsystems.as_slice()
+    }
+
+    /// The namespaces, in the order in which they were added.
+    pub fn namespaces(&self) -> &[Namespace]
+        ensures lent { result.now ≡ self.now.namespaces }
+        ensures valid { IsValid self.now }
+    {
+        self.namespaces.as_slice()
     }
 
     /// The ports, in the order in which they were added.
@@ -125,6 +155,30 @@ impl Config {
         self.hosts.as_slice()
     }
 
+    /// The allows, in the order in which they were added.
+    pub fn allows(&self) -> &[Allow]
+        ensures lent { result.now ≡ self.now.allows }
+        ensures valid { IsValid self.now }
+    {
+        self.allows.as_slice()
+    }
+
+    /// The ANA states that were set, in the order in which they were first set.
+    pub fn states(&self) -> &[GroupState]
+        ensures lent { result.now ≡ self.now.states }
+        ensures valid { IsValid self.now }
+    {
+        self.states.as_slice()
+    }
+
+    /// The referrals, in the order in which they were added: the ports of discovery controllers elsewhere.
+    pub fn referrals(&self) -> &[Port]
+        ensures lent { result.now ≡ self.now.referrals }
+        ensures valid { IsValid self.now }
+    {
+        self.referrals.as_slice()
+    }
+
     /// The subsystem of that name, if there is one.
     pub fn subsystem(&self, nqn: &[u8]) -> Option<&Subsystem>
         ensures { option_copied result
@@ -142,36 +196,28 @@ impl Config {
         self.ports.iter().find(|port| port.id == id)
     }
 
+    // The lists, lent.
+    fn lists(&self) -> Lists<'_>
+        ensures { result ≡ self.now }
+    {
+        Lists {
+            units: &self.units,
+            subsystems: &self.subsystems,
+            namespaces: &self.namespaces,
+            ports: &self.ports,
+            links: &self.links,
+            hosts: &self.hosts,
+            allows: &self.allows,
+            states: &self.states,
+            referrals: &self.referrals,
+        }
+    }
+
     /// Why `apply` refuses the edit, want of memory aside. Takes no memory.
     pub fn check(&self, edit: &Edit) -> Result<(), EditFault>
         ensures { result ≡ verdict (accept self.now edit.now) }
     {
-        match edit {
-            Edit::SubsystemAdd {
-                nqn,
-                serial,
-                access: _,
-            } => self.check_subsystem_add(nqn, serial),
-            Edit::SubsystemSet { nqn, access: _ } => self.check_subsystem_set(nqn),
-            Edit::SubsystemDel { nqn } => self.check_subsystem_del(nqn),
-            Edit::PortAdd {
-                id,
-                family: _,
-                address,
-                service,
-            } => self.check_port_add(*id, address, *service),
-            Edit::PortSet {
-                id,
-                family: _,
-                address,
-                service,
-            } => self.check_port_set(*id, address, *service),
-            Edit::PortDel { id } => self.check_port_del(*id),
-            Edit::LinkAdd { port, subsystem } => self.check_link_add(*port, subsystem),
-            Edit::LinkDel { port, subsystem } => self.check_link_del(*port, subsystem),
-            Edit::HostAdd { nqn } => self.check_host_add(nqn),
-            Edit::HostDel { nqn } => self.check_host_del(nqn),
-        }
+        self.lists().check(edit)
     }
 
     /// Takes all the memory that an accepted edit wants: `commit` then makes it.
@@ -189,18 +235,30 @@ impl Config {
             } => self.plan_subsystem(nqn, serial, *access),
             Edit::SubsystemSet { nqn, access } => Ok(Plan::new(Change::SetAccess(nqn, *access))),
             Edit::SubsystemDel { nqn } => Ok(Plan::new(Change::RemoveSubsystem(nqn))),
-            Edit::PortAdd {
-                id,
-                family,
-                address,
-                service,
-            } => self.plan_port(*id, *family, address, *service),
-            Edit::PortSet {
-                id,
-                family,
-                address,
-                service,
-            } => self.plan_port_set(*id, *family, address, *service),
+            Edit::NamespaceAdd(namespace) => self.plan_namespace(namespace),
+            Edit::NamespaceSize {
+                subsystem,
+                nsid,
+                blocks,
+            } => Ok(Plan::new(Change::SetNamespace(
+                subsystem,
+                *nsid,
+                Setting::Blocks(*blocks),
+            ))),
+            Edit::NamespaceGroup {
+                subsystem,
+                nsid,
+                group,
+            } => Ok(Plan::new(Change::SetNamespace(
+                subsystem,
+                *nsid,
+                Setting::Group(*group as u32),
+            ))),
+            Edit::NamespaceDel { subsystem, nsid } => Ok(Plan::new(Change::RemoveNamespace(
+                subsystem, *nsid,
+            ))),
+            Edit::PortAdd(endpoint) => self.plan_port(endpoint),
+            Edit::PortSet(endpoint) => self.plan_port_set(endpoint),
             Edit::PortDel { id } => Ok(Plan::new(Change::RemovePort(*id))),
             Edit::LinkAdd { port, subsystem } => self.plan_link(*port, subsystem),
             Edit::LinkDel { port, subsystem } => Ok(Plan::new(Change::RemoveLink(
@@ -208,6 +266,19 @@ impl Config {
             ))),
             Edit::HostAdd { nqn } => self.plan_host(nqn),
             Edit::HostDel { nqn } => Ok(Plan::new(Change::SetLive(nqn, false))),
+            Edit::AllowAdd { subsystem, host } => self.plan_allow(subsystem, host),
+            Edit::AllowDel { subsystem, host } => Ok(Plan::new(Change::RemoveAllow(
+                subsystem, host,
+            ))),
+            Edit::AnaSet {
+                port,
+                subsystem,
+                group,
+                state,
+            } => self.plan_state(*port, subsystem, *group, *state),
+            Edit::ReferralAdd(endpoint) => self.plan_referral(endpoint),
+            Edit::ReferralSet(endpoint) => self.plan_referral_set(endpoint),
+            Edit::ReferralDel { id } => Ok(Plan::new(Change::RemoveReferral(*id))),
         }
     }
 
@@ -220,13 +291,26 @@ impl Config {
             Change::AddSubsystem(addition) => self.add_subsystem(addition),
             Change::SetAccess(nqn, access) => self.set_access(nqn, access),
             Change::RemoveSubsystem(nqn) => self.remove_subsystem(nqn),
+            Change::AddNamespace(addition) => self.add_namespace(addition),
+            Change::SetNamespace(nqn, nsid, value) => self.set_namespace(nqn, nsid, value),
+            Change::RemoveNamespace(nqn, nsid) => self.remove_namespace(nqn, nsid),
             Change::AddPort(addition) => self.add_port(addition),
             Change::ReplacePort(port) => self.replace_port(port),
             Change::RemovePort(id) => self.remove_port(id),
             Change::AddLink(addition) => self.add_link(addition),
-            Change::RemoveLink(port, subsystem) => self.remove_link(port, subsystem),
+            Change::RemoveLink(port, nqn) => self.remove_link(port, nqn),
             Change::AddHost(addition) => self.add_host(addition),
             Change::SetLive(nqn, live) => self.set_live(nqn, live),
+            Change::AddAllow(addition) => self.add_allow(addition),
+            Change::RemoveAllow(nqn, host) => self.remove_allow(nqn, host),
+            Change::AddState(addition) => self.add_state(addition),
+            Change::ReplaceState(port, nqn, group, state) => {
+                self.replace_state(port, nqn, group, state)
+            }
+            Change::RemoveState(port, nqn, group) => self.remove_state(port, nqn, group),
+            Change::AddReferral(addition) => self.add_referral(addition),
+            Change::ReplaceReferral(referral) => self.replace_referral(referral),
+            Change::RemoveReferral(id) => self.remove_referral(id),
         }
     }
 
@@ -250,19 +334,16 @@ impl Config {
         Ok(Config {
             units: self.units.clone()?,
             subsystems: self.subsystems.clone()?,
+            namespaces: self.namespaces.clone()?,
             ports: self.ports.clone()?,
             links: self.links.clone()?,
             hosts: self.hosts.clone()?,
+            allows: self.allows.clone()?,
+            states: self.states.clone()?,
+            referrals: self.referrals.clone()?,
         })
     }
 }
-
-/// Whatever edit a configuration accepts, it stays within its limits, its values stay sound, no two
-/// items of a list have the same name and links lead somewhere. This is a fact of the rule for edits;
-/// a call does nothing.
-pub fn accepted_stays_valid()
-    ensures { AcceptedStaysValid }
-{}
 
 fn are_disks(units: &[u64]) -> bool
     ensures { result ≡ are_disks units.now }

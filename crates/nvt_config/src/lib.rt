@@ -4,13 +4,13 @@
 #![tactic(auto)]
 
 pub mod config;
-pub mod edit;
 pub mod fault;
 pub mod permission;
 pub mod plan;
 
 pub use config::Config;
-pub use config_lists::{Access, Family, Host, Link, Port, Subsystem, Text};
-pub use edit::Edit;
-pub use fault::{EditFault, Item, NewFault, Value};
+pub use config_edits::{Edit, EditFault, Endpoint, Item, NewNamespace, Value};
+pub use config_lists::{Access, Allow, AnaState, BlockSize, Family, GroupState, Host, Link};
+pub use config_lists::{Namespace, Port, Subsystem, Text};
+pub use fault::NewFault;
 pub use plan::Plan;

@@ -1,8 +1,11 @@
 //! What an edit is going to change, with all the memory for it.
 ghost use Rattle.std.specs.Prelude.{◌≡◌, ◌<◌, ◌∷◌, ◌++◌, [], IfOk, vec_capacity, vec_len};
 
+use config_lists::allow::Allow;
+use config_lists::group_state::{AnaState, GroupState};
 use config_lists::host::Host;
 use config_lists::link::Link;
+use config_lists::namespace::{Namespace, Setting};
 use config_lists::port::Port;
 use config_lists::subsystem::{Access, Subsystem};
 use nvt_fields::Nqn;
@@ -28,6 +31,9 @@ pub(crate) enum Change<'e> {
     AddSubsystem(Addition<Subsystem>),
     SetAccess(&'e Nqn, Access),
     RemoveSubsystem(&'e Nqn),
+    AddNamespace(Addition<Namespace>),
+    SetNamespace(&'e Nqn, u64, Setting),
+    RemoveNamespace(&'e Nqn, u64),
     AddPort(Addition<Port>),
     ReplacePort(Port),
     RemovePort(u64),
@@ -35,6 +41,14 @@ pub(crate) enum Change<'e> {
     RemoveLink(u64, &'e Nqn),
     AddHost(Addition<Host>),
     SetLive(&'e Nqn, bool),
+    AddAllow(Addition<Allow>),
+    RemoveAllow(&'e Nqn, &'e Nqn),
+    AddState(Addition<GroupState>),
+    ReplaceState(u64, &'e Nqn, u64, AnaState),
+    RemoveState(u64, &'e Nqn, u64),
+    AddReferral(Addition<Port>),
+    ReplaceReferral(Port),
+    RemoveReferral(u64),
 }
 
 /// An item that is to be added to a list, and room for the list with it.

@@ -1,16 +1,23 @@
 //! What each kind of edit is going to change, where it is accepted. All memory is taken here.
-ghost use Rattle.std.specs.Prelude.{◌≡◌, IfOk, IsOk, IsTrue};
-ghost use Rattle.nvt_config.specs.Accept.{accept};
-ghost use Rattle.nvt_config.specs.declared.edit.Edit.TheVariants.{HostAdd, LinkAdd, PortAdd};
-ghost use Rattle.nvt_config.specs.declared.edit.Edit.TheVariants.{PortSet, SubsystemAdd};
-ghost use Rattle.nvt_config.specs.Plan.{IsPlanOf};
+ghost use Rattle.std.specs.Prelude.{◌≡◌, ◌≤◌, IfOk, IsOk, IsTrue};
+ghost use Rattle.config_edits.specs.declared.edit.Edit.TheVariants.{AllowAdd, AnaSet, HostAdd};
+ghost use Rattle.config_edits.specs.declared.edit.Edit.TheVariants.{LinkAdd, NamespaceAdd};
+ghost use Rattle.config_edits.specs.declared.edit.Edit.TheVariants.{PortAdd, PortSet};
+ghost use Rattle.config_edits.specs.declared.edit.Edit.TheVariants.{ReferralAdd, ReferralSet};
+ghost use Rattle.config_edits.specs.declared.edit.Edit.TheVariants.{SubsystemAdd};
 ghost use Rattle.config_lists.specs.Port.{is_port_number};
+ghost use Rattle.config_rules.specs.Accept.{accept, namespace_of, port_of};
+ghost use Rattle.nvt_config.specs.Plan.{IsPlanOf};
 
 use crate::config::Config;
 use crate::plan::{Addition, Change, Plan};
+use config_edits::{Endpoint, NewNamespace};
+use config_lists::allow::Allow;
+use config_lists::group_state::{AnaState, GroupState, has_state};
 use config_lists::host::{Host, has_host};
 use config_lists::link::Link;
-use config_lists::port::{Family, Port};
+use config_lists::namespace::{BlockSize, Namespace};
+use config_lists::port::Port;
 use config_lists::subsystem::{Access, Subsystem};
 use config_lists::text::Text;
 use nvt_fields::Nqn;
@@ -35,33 +42,34 @@ impl Config {
         Ok(Plan::new(Change::AddSubsystem(addition)))
     }
 
-    pub(super) fn plan_port<'e>(
+    pub(super) fn plan_namespace<'e>(
         &self,
-        id: u64,
-        family: Family,
-        address: &Text,
-        service: u64,
+        namespace: &NewNamespace,
     ) -> Result<Plan<'e>, AllocError>
-        requires { IsOk (accept self.now (PortAdd id family address.now service)) }
-        ensures { IfOk result (IsPlanOf self.now (PortAdd id family address.now service)) }
+        requires { IsOk (accept self.now (NamespaceAdd namespace.now)) }
+        ensures { IfOk result (IsPlanOf self.now (NamespaceAdd namespace.now)) }
     {
-        let port = port_of(id, family, address, service)?;
+        let there = self.namespaces.len();
+        let namespace = namespace_of(namespace)?;
+        let addition = Addition::new(self.alloc(), namespace, there)?;
+        Ok(Plan::new(Change::AddNamespace(addition)))
+    }
+
+    pub(super) fn plan_port<'e>(&self, endpoint: &Endpoint) -> Result<Plan<'e>, AllocError>
+        requires { IsOk (accept self.now (PortAdd endpoint.now)) }
+        ensures { IfOk result (IsPlanOf self.now (PortAdd endpoint.now)) }
+    {
+        let port = port_of(endpoint)?;
         let addition = Addition::new(self.alloc(), port, self.ports.len())?;
         Ok(Plan::new(Change::AddPort(addition)))
     }
 
-    pub(super) fn plan_port_set<'e>(
-        &self,
-        id: u64,
-        family: Family,
-        address: &Text,
-        service: u64,
-    ) -> Result<Plan<'e>, AllocError>
-        requires { IsOk (accept self.now (PortSet id family address.now service)) }
-        ensures { IfOk result (IsPlanOf self.now (PortSet id family address.now service)) }
+    pub(super) fn plan_port_set<'e>(&self, endpoint: &Endpoint) -> Result<Plan<'e>, AllocError>
+        requires { IsOk (accept self.now (PortSet endpoint.now)) }
+        ensures { IfOk result (IsPlanOf self.now (PortSet endpoint.now)) }
     {
         let _ = &self.ports;
-        let port = port_of(id, family, address, service)?;
+        let port = port_of(endpoint)?;
         Ok(Plan::new(Change::ReplacePort(port)))
     }
 
@@ -94,25 +102,100 @@ impl Config {
         Ok(Plan::new(Change::AddHost(addition)))
     }
 
+    pub(super) fn plan_allow<'e>(
+        &self,
+        subsystem: &Nqn,
+        host: &Nqn,
+    ) -> Result<Plan<'e>, AllocError>
+        requires { IsOk (accept self.now (AllowAdd subsystem.now host.now)) }
+        ensures { IfOk result (IsPlanOf self.now (AllowAdd subsystem.now host.now)) }
+    {
+        let allow = Allow {
+            subsystem: subsystem.try_clone()?,
+            host: host.try_clone()?,
+        };
+        let addition = Addition::new(self.alloc(), allow, self.allows.len())?;
+        Ok(Plan::new(Change::AddAllow(addition)))
+    }
+
+    // Where no state is set, it is optimized; so that one is never kept.
+    pub(super) fn plan_state<'e>(
+        &self,
+        port: u64,
+        subsystem: &'e Nqn,
+        group: u64,
+        state: AnaState,
+    ) -> Result<Plan<'e>, AllocError>
+        requires { IsOk (accept self.now (AnaSet port subsystem.now group state)) }
+        ensures { IfOk result (IsPlanOf self.now (AnaSet port subsystem.now group state)) }
+    {
+        let there = self.states.len();
+        if state.is_optimized() {
+            return Ok(Plan::new(Change::RemoveState(port, subsystem, group)));
+        }
+        if has_state(&self.states, port, subsystem.as_bytes(), group) {
+            return Ok(Plan::new(Change::ReplaceState(port, subsystem, group, state)));
+        }
+        let set = GroupState {
+            port: port as u16,
+            subsystem: subsystem.try_clone()?,
+            group: group as u32,
+            state,
+        };
+        let addition = Addition::new(self.alloc(), set, there)?;
+        Ok(Plan::new(Change::AddState(addition)))
+    }
+
+    pub(super) fn plan_referral<'e>(&self, endpoint: &Endpoint) -> Result<Plan<'e>, AllocError>
+        requires { IsOk (accept self.now (ReferralAdd endpoint.now)) }
+        ensures { IfOk result (IsPlanOf self.now (ReferralAdd endpoint.now)) }
+    {
+        let referral = port_of(endpoint)?;
+        let addition = Addition::new(self.alloc(), referral, self.referrals.len())?;
+        Ok(Plan::new(Change::AddReferral(addition)))
+    }
+
+    pub(super) fn plan_referral_set<'e>(&self, endpoint: &Endpoint) -> Result<Plan<'e>, AllocError>
+        requires { IsOk (accept self.now (ReferralSet endpoint.now)) }
+        ensures { IfOk result (IsPlanOf self.now (ReferralSet endpoint.now)) }
+    {
+        let _ = &self.referrals;
+        let referral = port_of(endpoint)?;
+        Ok(Plan::new(Change::ReplaceReferral(referral)))
+    }
+
     fn alloc(&self) -> Global {
         *self.units.allocator()
     }
 }
 
-fn port_of(id: u64, family: Family, address: &Text, service: u64) -> Result<Port, AllocError>
-    requires number { IsTrue (is_port_number id) }
-    requires listens { IsTrue (is_port_number service) }
-    ensures { IfOk result (λ port. port ≡ record {
-      id = id;
-      family = family;
-      address = address.now;
-      service = service;
-    }) }
+fn port_of(endpoint: &Endpoint) -> Result<Port, AllocError>
+    requires number { IsTrue (is_port_number endpoint.now.id) }
+    requires listens { IsTrue (is_port_number endpoint.now.service) }
+    ensures { IfOk result (λ port. port ≡ port_of endpoint.now) }
 {
     Ok(Port {
-        id: id as u16,
-        family,
-        address: address.clone()?,
-        service: service as u16,
+        id: endpoint.id as u16,
+        family: endpoint.family,
+        address: endpoint.address.clone()?,
+        service: endpoint.service as u16,
+    })
+}
+
+// An accepted edit names one of the two block sizes.
+fn namespace_of(namespace: &NewNamespace) -> Result<Namespace, AllocError>
+    requires nsid { namespace.now.nsid ≤ 1024 }
+    requires disk { namespace.now.disk ≤ 256 }
+    requires group { namespace.now.group ≤ 32 }
+    ensures { IfOk result (λ made. made ≡ namespace_of namespace.now) }
+{
+    Ok(Namespace {
+        subsystem: namespace.subsystem.try_clone()?,
+        nsid: namespace.nsid as u32,
+        disk: namespace.disk as u16,
+        blocks: namespace.blocks,
+        block_size: BlockSize::of(namespace.block_size).unwrap_or(BlockSize::Bytes4096),
+        uuid: namespace.uuid,
+        group: namespace.group as u32,
     })
 }

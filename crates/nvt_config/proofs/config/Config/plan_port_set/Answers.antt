@@ -1,9 +1,9 @@
 use Rattle.std.proofs.Common.{refl}
-use Rattle.nvt_config.specs.declared.edit.Edit.TheVariants.{PortSet}
+use Rattle.config_edits.specs.declared.edit.Edit.TheVariants.{PortSet}
 use Rattle.nvt_config.specs.declared.plan.Change.TheVariants.{ReplacePort}
 use Rattle.nvt_config.proofs.Effects.{is_plan}
 use Rattle.nvt_config.proofs.config.Config.plan_port_set.Goals as goal
 
 pub returns : goal.returns
 returns c =
-    is_plan _ _ (PortSet c.args.id c.args.family c.args.address.now c.args.service) c.new.result (ReplacePort c.in_ok-port.port) c.self.view_is c.requires c.new.ensures (rw c.in_ok-port.ensures refl) tt c.self.invariant
+    is_plan _ _ (PortSet c.args.endpoint.now) c.new.result (ReplacePort c.in_ok-port.port) c.self.view_is c.requires c.new.ensures (rw c.in_ok-port.ensures refl) tt c.self.invariant

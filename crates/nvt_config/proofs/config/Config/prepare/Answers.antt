@@ -21,3 +21,23 @@ returns-in-LinkDel c =
 pub returns-in-HostDel : goal.returns-in-HostDel
 returns-in-HostDel c =
     rw c.in-HostDel.is (is_plan _ _ _ c.new-in-HostDel.result _ c.self.view_is (rw c.in-HostDel.is at c.requires) c.new-in-HostDel.ensures refl tt c.self.invariant)
+
+pub returns-in-NamespaceSize : goal.returns-in-NamespaceSize
+returns-in-NamespaceSize c =
+    rw c.in-NamespaceSize.is (is_plan _ _ _ c.new-in-NamespaceSize.result _ c.self.view_is (rw c.in-NamespaceSize.is at c.requires) c.new-in-NamespaceSize.ensures refl tt c.self.invariant)
+
+pub returns-in-NamespaceGroup : goal.returns-in-NamespaceGroup
+returns-in-NamespaceGroup c =
+    rw c.in-NamespaceGroup.is (is_plan _ _ _ c.new-in-NamespaceGroup.result _ c.self.view_is (rw c.in-NamespaceGroup.is at c.requires) c.new-in-NamespaceGroup.ensures refl tt c.self.invariant)
+
+pub returns-in-NamespaceDel : goal.returns-in-NamespaceDel
+returns-in-NamespaceDel c =
+    rw c.in-NamespaceDel.is (is_plan _ _ _ c.new-in-NamespaceDel.result _ c.self.view_is (rw c.in-NamespaceDel.is at c.requires) c.new-in-NamespaceDel.ensures refl tt c.self.invariant)
+
+pub returns-in-AllowDel : goal.returns-in-AllowDel
+returns-in-AllowDel c =
+    rw c.in-AllowDel.is (is_plan _ _ _ c.new-in-AllowDel.result _ c.self.view_is (rw c.in-AllowDel.is at c.requires) c.new-in-AllowDel.ensures refl tt c.self.invariant)
+
+pub returns-in-ReferralDel : goal.returns-in-ReferralDel
+returns-in-ReferralDel c =
+    rw c.in-ReferralDel.is (is_plan _ _ _ c.new-in-ReferralDel.result _ c.self.view_is (rw c.in-ReferralDel.is at c.requires) c.new-in-ReferralDel.ensures refl tt c.self.invariant)
