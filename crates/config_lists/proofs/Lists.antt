@@ -2,7 +2,7 @@
 use Rattle.std.proofs.Common.{◌≡◌, ◌≢◌, ℕ, ◌+◌, ◌<◌, ◌≤◌, Bool, true, false, not, cond, Some, None, List, [], ◌∷◌, ◌++◌, length, get_or, take, drop, map, All, AllPairs, nat_lt, position, refl, ap, sym, ◌∙◌, subst, arith, inl, inr}
 use Rattle.std.proofs.Math.ListN.{set}
 use Rattle.std.proofs.Math.Seq.{take-append_seam}
-use Rattle.std.proofs.lemmas.Bool.{both_ways, cond-true, cond-false, cond_both, cases_Bool, cases_lt, cases_order, lt-ltb, not_from_false}
+use Rattle.std.proofs.lemmas.Bool.{both_ways, cond-true, cond-false, cond_both, cases_Bool, cases_lt, cases_order, lt-ltb, not_from_false, or_cases, or_left, or_right}
 use Rattle.std.proofs.lemmas.Grind.{get_or-set_at}
 use Rattle.std.proofs.lemmas.List.{ext_get_or, get_or-map, get_or-set_other, length-map, length-set}
 use Rattle.std.proofs.lemmas.List.Edits.{map_over_more}
@@ -66,6 +66,16 @@ pub list_any-changed_where : {X : Type 0} (p test : X → Bool) (change : X → 
 list_any-changed_where p test change keeps [] = refl
 list_any-changed_where p test change keeps (x ∷ xs) =
     rw (key_after p test change keeps x, list_any-changed_where p test change keeps xs) refl
+
+-- a test that passes an item as it is, and after the change where that is made, finds it again
+pub list_any-changed_kept : {X : Type 0} (p test : X → Bool) (change : X → X) → ((x : X) → test x ≡ true → p x ≡ true → p (change x) ≡ true) → (xs : List X) → list_any p xs ≡ true → list_any p (changed_where test change xs) ≡ true
+list_any-changed_kept p test change keeps [] found = found
+list_any-changed_kept p test change keeps (x ∷ xs) found =
+    let after : Bool = list_any p (changed_where test change xs) in
+    elim (or_cases (p x) (list_any p xs) found) [
+      | inl first ↦ or_left (p (entry_after test change x)) after (cond_both (test x) (change x) x (λ y. p y ≡ true) (λ passes. keeps x passes first) (λ _. first))
+      | inr later ↦ or_right (p (entry_after test change x)) after (list_any-changed_kept p test change keeps xs later)
+    ]
 
 -- a test that finds no item that goes finds what it found
 pub list_any-without : {X : Type 0} (p test : X → Bool) → ((x : X) → p x ≡ true → test x ≡ false) → (xs : List X) → list_any p (without test xs) ≡ list_any p xs

@@ -1,5 +1,5 @@
 -- A chain of checks, of which the first were passed.
-use Rattle.std.proofs.Common.{◌≡◌, Bool, true, false, Result, Ok, Err, refl}
+use Rattle.std.proofs.Common.{◌≡◌, Bool, true, false, Result, Ok, refl}
 use Rattle.config_edits.specs.declared.fault.EditFault.{EditFault}
 use Rattle.config_rules.specs.Configuration.{Configuration}
 use Rattle.config_rules.specs.Accept.{refuse, verdict}

@@ -1,1 +1,9 @@
+pub mod Allows
 pub mod Checks
+pub mod Hosts
+pub mod Links
+pub mod Namespaces
+pub mod Ports
+pub mod States
+pub mod Subsystems
+pub mod Valid

@@ -1,5 +1,5 @@
 -- Which edits a configuration accepts, and what it is after them.
-use Rattle.std.specs.Prelude.{ℕ, ◌*◌, ◌==◌, Bool, true, false, not, ◌&&◌, ◌||◌, nat_le, nat_lt, List, length, slice_get, find, Option, Some, None, is_none, Result, Ok, Err, IfOk, unwrap_or, if◌then◌else◌}
+use Rattle.std.specs.Prelude.{ℕ, ◌*◌, ◌==◌, Bool, false, not, ◌&&◌, ◌||◌, nat_le, nat_lt, length, slice_get, find, Option, Some, None, is_none, Result, Ok, Err, IfOk, unwrap_or, if◌then◌else◌}
 use Rattle.uuid.specs.Parts.{is_nil_bytes}
 use Rattle.config_lists.specs.declared.namespace.BlockSize.{BlockSize}
 use Rattle.config_lists.specs.declared.namespace.BlockSize.TheVariants.{Bytes4096}

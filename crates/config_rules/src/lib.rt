@@ -4,6 +4,7 @@
 #![tactic(auto)]
 
 pub mod check;
+pub mod laws;
 pub mod lists;
 
 pub use lists::Lists;

@@ -1,4 +1,4 @@
-use Rattle.std.proofs.Common.{rules, ◌≡◌, nat_le, not, is_none, length, slice_get, ap, sym, ◌∙◌}
+use Rattle.std.proofs.Common.{rules, ◌≡◌, nat_le, not, is_none, length, ap, sym, ◌∙◌}
 use Rattle.uuid.specs.Parts.{is_nil_bytes}
 use Rattle.config_lists.specs.Namespace.{block_size_of, is_group, is_nsid}
 use Rattle.config_edits.specs.declared.fault.EditFault.TheVariants.{BadValue, DiskInUse, Exists, NoSuch}
