@@ -1,5 +1,6 @@
 pub mod Allows
 pub mod Checks
+pub mod Count
 pub mod Hosts
 pub mod Links
 pub mod Namespaces

@@ -94,3 +94,7 @@ pub record IsValid (c : Configuration) : Type 0 where
   pub allows : AreAllows c.subsystems c.hosts c.allows
   pub states : AreStates c.links c.states
   pub referrals : ArePorts c.referrals
+
+-- each namespace has a disk of its own, so they are as few as disks may be
+abbrev pub NamespacesAreFew : Type 0
+NamespacesAreFew = (c : Configuration) → IsValid c → length c.namespaces ≤ 256
