@@ -24,7 +24,7 @@ impl Lists<'_> {
         ensures { result ≡ verdict (accept self.now (Edit.NamespaceAdd namespace.now)) }
     {
         let subsystem = &namespace.subsystem;
-        let (nsid, disk, group) = (namespace.nsid, namespace.disk, namespace.group);
+        let (nsid, disk) = (namespace.nsid, namespace.disk);
         let (blocks, block_size) = (namespace.blocks, namespace.block_size);
         refuse(!is_nsid(nsid), BadValue(Value::Nsid))?;
         refuse(
@@ -36,7 +36,7 @@ impl Lists<'_> {
             BadValue(Value::BlockSize),
         )?;
         refuse(namespace.uuid.is_nil(), BadValue(Value::Uuid))?;
-        refuse(!is_group(group), BadValue(Value::Group))?;
+        refuse(!is_group(namespace.group), BadValue(Value::Group))?;
         refuse(
             !has_subsystem(self.subsystems, subsystem),
             NoSuch(Item::Subsystem),
