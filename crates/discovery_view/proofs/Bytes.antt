@@ -7,7 +7,7 @@ use Rattle.std.specs.Int.{w16, to_le_bytes}
 use Rattle.config_lists.specs.declared.port.Port.{Port}
 use Rattle.config_lists.specs.Port.{is_port}
 use Rattle.nvt_fields.specs.Field.{padded}
-use Rattle.discovery_view.specs.Record.{Parts, family_code, record_of}
+use Rattle.discovery_view.specs.Record.{Parts, family_code, record_of, subtype_code}
 
 -- nine lists in a row, the first four joined before
 regroup : (a b c d e f g h i : List ℕ) → (a ++ b ++ c ++ d) ++ (e ++ (f ++ (g ++ (h ++ i)))) ≡ a ++ b ++ c ++ d ++ e ++ f ++ g ++ h ++ i
@@ -16,12 +16,12 @@ regroup a b c d e f g h i = simp append_assoc
 -- the first 32 bytes
 abbrev pub head_of : Parts → List ℕ
 head_of p =
-    3 ∷ family_code p.family ∷ 2 ∷ 0 ∷ to_le_bytes w16 p.port ++ to_le_bytes w16 0xFFFF ++ to_le_bytes w16 32 ++ replicate 22 0
+    3 ∷ family_code p.family ∷ subtype_code p.subtype ∷ 0 ∷ to_le_bytes w16 p.port ++ to_le_bytes w16 0xFFFF ++ to_le_bytes w16 32 ++ replicate 22 0
 
 pub record_pieces : (p : Parts) → head_of p ++ (padded 32 0x20 (decimal p.service) ++ (replicate 192 0 ++ (padded 256 0 p.nqn ++ (padded 256 0x20 p.address ++ replicate 256 0)))) ≡ record_of p
 unfolding record_of
 record_pieces p =
-    regroup (3 ∷ family_code p.family ∷ 2 ∷ 0 ∷ to_le_bytes w16 p.port) (to_le_bytes w16 0xFFFF) (to_le_bytes w16 32) (replicate 22 0) (padded 32 0x20 (decimal p.service)) (replicate 192 0) (padded 256 0 p.nqn) (padded 256 0x20 p.address) (replicate 256 0)
+    regroup (3 ∷ family_code p.family ∷ subtype_code p.subtype ∷ 0 ∷ to_le_bytes w16 p.port) (to_le_bytes w16 0xFFFF) (to_le_bytes w16 32) (replicate 22 0) (padded 32 0x20 (decimal p.service)) (replicate 192 0) (padded 256 0 p.nqn) (padded 256 0x20 p.address) (replicate 256 0)
 
 length-padded : (len padding : ℕ) (text : List ℕ) → length text ≤ len → length (padded len padding text) ≡ len
 length-padded len padding text fits =

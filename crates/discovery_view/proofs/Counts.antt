@@ -3,7 +3,7 @@ use Rattle.std.proofs.Common.{◌≡◌, ℕ, ◌+◌, ◌<◌, ◌%◌, ◌^◌
 use Rattle.std.proofs.Math.Nat.{mod-add-mod, mod-eq_of_lt}
 use Rattle.std.proofs.lemmas.Bool.{cases_Bool}
 use Rattle.std.proofs.lemmas.List.{reverse-append}
-use Rattle.nvt_config.specs.Configuration.{Configuration}
+use Rattle.config_rules.specs.Configuration.{Configuration}
 use Rattle.discovery_view.specs.Record.{same_records}
 use Rattle.discovery_view.specs.Records.{records_of}
 use Rattle.discovery_view.specs.View.{Shown, ShowsFirst, ShowsNext, changes_records, changes_until, count_after, count_in, records_in}

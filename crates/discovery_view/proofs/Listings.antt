@@ -7,12 +7,14 @@ use Rattle.std.proofs.lemmas.List.Kept.{AllPairs-cons, AllPairs-filter}
 use Rattle.std.specs.List.{flat_map}
 use Rattle.config_lists.specs.declared.port.Port.{Port}
 use Rattle.config_lists.specs.declared.subsystem.Subsystem.{Subsystem}
-use Rattle.nvt_config.specs.Configuration.{Configuration, IsValid}
-use Rattle.nvt_config.specs.Permission.{may_use}
-use Rattle.discovery_view.specs.Listing.{IsBefore, IsListing, IsShown}
+use Rattle.config_rules.specs.Configuration.{Configuration}
+use Rattle.config_rules.specs.Valid.{ArePorts, IsValid}
+use Rattle.config_rules.specs.Permission.{may_use}
+use Rattle.discovery_view.specs.declared.record.Subtype.TheVariants.{Referral, NvmSubsystem}
+use Rattle.discovery_view.specs.Listing.{IsBefore, IsListing, IsReferral, IsServed, IsShown}
 use Rattle.discovery_view.specs.Order.{in_order, name_below, put_in_order}
 use Rattle.discovery_view.specs.Record.{Parts}
-use Rattle.discovery_view.specs.Records.{parts_of, ports_in_order, records_of, records_on, subsystems_in_order}
+use Rattle.discovery_view.specs.Records.{parts_of, ports_in_order, records_of, records_on, referral_of, referrals_in_order, subsystems_in_order}
 use Rattle.discovery_view.proofs.Orders.{All-in_order, All-put}
 
 -- what a list with one more element in front contains
@@ -184,11 +186,12 @@ id_apart a b differ =
       | inr apart ↦ elim apart [ inl less ↦ inl (lt-ltb a b less) | inr more ↦ inr (lt-ltb b a more) ]
     ]
 
-ports_rising : (c : Configuration) → IsValid c → AllPairs (λ p q. nat_lt p.id q.id ≡ true) (ports_in_order c)
-ports_rising c valid =
+-- ports, or referrals, by their numbers
+numbers_rising : (ports : List Port) → ArePorts ports → AllPairs (λ p q. nat_lt p.id q.id ≡ true) (in_order (λ p q. nat_lt p.id q.id) ports)
+numbers_rising ports valid =
     sorted_in_order (λ p q. nat_lt p.id q.id)
-    (λ x y z one other. lt-ltb x.id z.id (omega (arith, ltb-true x.id y.id one, ltb-true y.id z.id other))) c.ports
-    (λ i j d less below. id_apart _ _ (valid.ports.distinct i j d less below))
+    (λ x y z one other. lt-ltb x.id z.id (omega (arith, ltb-true x.id y.id one, ltb-true y.id z.id other))) ports
+    (λ i j d less below. id_apart _ _ (valid.distinct i j d less below))
 
 names_rising : (c : Configuration) → IsValid c → AllPairs (λ s t. name_below s.nqn t.nqn ≡ true) (subsystems_in_order c)
 names_rising c valid =
@@ -202,39 +205,88 @@ port_rising c host valid port =
     let test : Subsystem → Bool = λ s. may_use c host s.nqn port.id in
     let kept : List Subsystem = filter test (subsystems_in_order c) in
     let rising : AllPairs (λ s t. name_below s.nqn t.nqn ≡ true) kept = AllPairs-filter (λ s t. name_below s.nqn t.nqn ≡ true) test (subsystems_in_order c) (names_rising c valid) in
-    AllPairs-map IsBefore (parts_of port) kept (λ i j d less below. inr (refl, rising i j d less below))
+    AllPairs-map IsBefore (parts_of port) kept (λ i j d less below. inr (refl, inr (refl, rising i j d less below)))
 
 of_port : (c : Configuration) (host : List ℕ) (port : Port) → All (λ p. p.port ≡ port.id) (records_on c host port)
 of_port c host port =
     All-map (λ p. p.port ≡ port.id) (parts_of port) (filter (λ s. may_use c host s.nqn port.id) (subsystems_in_order c)) (λ k d below. refl)
 
+of_subsystems : (c : Configuration) (host : List ℕ) (port : Port) → All (λ p. p.subtype ≡ NvmSubsystem) (records_on c host port)
+of_subsystems c host port =
+    All-map (λ p. p.subtype ≡ NvmSubsystem) (parts_of port) (filter (λ s. may_use c host s.nqn port.id) (subsystems_in_order c)) (λ k d below. refl)
+
 ports_apart : (c : Configuration) (host : List ℕ) (x y : Port) → nat_lt x.id y.id ≡ true → All (λ p. All (IsBefore p) (records_on c host y)) (records_on c host x)
 ports_apart c host x y less = λ k d below j e inside.
-    inl (omega (arith, ltb-true x.id y.id less, of_port c host x k d below, of_port c host y j e inside))
+    inr (of_subsystems c host x k d below ∙ sym (of_subsystems c host y j e inside),
+    inl (omega (arith, ltb-true x.id y.id less, of_port c host x k d below, of_port c host y j e inside)))
 
-port_shown : (c : Configuration) (host : List ℕ) (port : Port) → Contains c.ports port → All (IsShown c host) (records_on c host port)
-port_shown c host port there =
+-- the records of the subsystems on ports
+served : Configuration → List ℕ → List Parts
+served c host = flat_map (records_on c host) (ports_in_order c)
+
+served_rising : (c : Configuration) (host : List ℕ) → IsValid c → AllPairs IsBefore (served c host)
+served_rising c host valid =
+    AllPairs-joined (λ p q. nat_lt p.id q.id ≡ true) IsBefore (records_on c host) (port_rising c host valid) (ports_apart c host) (ports_in_order c) (numbers_rising c.ports valid.ports)
+
+port_served : (c : Configuration) (host : List ℕ) (port : Port) → Contains c.ports port → All (IsServed c host) (records_on c host port)
+port_served c host port there =
     let test : Subsystem → Bool = λ s. may_use c host s.nqn port.id in
     let subsystems : List Subsystem = subsystems_in_order c in
-    All-map (IsShown c host) (parts_of port) (filter test subsystems)
-    (All-kept (λ s. IsShown c host (parts_of port s)) test subsystems
-    (All-weaker (Contains c.subsystems) (λ s. test s ≡ true → IsShown c host (parts_of port s)) (λ s inside passes. (port, s, there, inside, passes, refl)) subsystems (out_of_order (λ s t. name_below s.nqn t.nqn) c.subsystems)))
+    All-map (IsServed c host) (parts_of port) (filter test subsystems)
+    (All-kept (λ s. IsServed c host (parts_of port s)) test subsystems
+    (All-weaker (Contains c.subsystems) (λ s. test s ≡ true → IsServed c host (parts_of port s)) (λ s inside passes. (port, s, there, inside, passes, refl)) subsystems (out_of_order (λ s t. name_below s.nqn t.nqn) c.subsystems)))
 
-all_shown : (c : Configuration) (host : List ℕ) → All (IsShown c host) (records_of c host)
-all_shown c host =
-    All-joined (IsShown c host) (records_on c host) (ports_in_order c)
-    (All-weaker (Contains c.ports) (λ port. All (IsShown c host) (records_on c host port)) (λ port there. port_shown c host port there) (ports_in_order c) (out_of_order (λ p q. nat_lt p.id q.id) c.ports))
+all_served : (c : Configuration) (host : List ℕ) → All (IsServed c host) (served c host)
+all_served c host =
+    All-joined (IsServed c host) (records_on c host) (ports_in_order c)
+    (All-weaker (Contains c.ports) (λ port. All (IsServed c host) (records_on c host port)) (λ port there. port_served c host port there) (ports_in_order c) (out_of_order (λ p q. nat_lt p.id q.id) c.ports))
 
-shown_in : (c : Configuration) (host : List ℕ) (p : Parts) → IsShown c host p → Contains (records_of c host) p
-shown_in c host p (port, s, there, inside, passes, is) =
+served_in : (c : Configuration) (host : List ℕ) (p : Parts) → IsServed c host p → Contains (served c host) p
+served_in c host p (port, s, there, inside, passes, is) =
     let test : Subsystem → Bool = λ t. may_use c host t.nqn port.id in
     let subsystems : List Subsystem = subsystems_in_order c in
-    subst (λ (w : Parts). Contains (records_of c host) w) (sym is)
+    subst (λ (w : Parts). Contains (served c host) w) (sym is)
     (in_joined (records_on c host) (ports_in_order c) port (parts_of port s) (into_order (λ x y. nat_lt x.id y.id) c.ports port there)
     (in_map (parts_of port) (filter test subsystems) s (in_filter test subsystems s (into_order (λ x y. name_below x.nqn y.nqn) c.subsystems s inside) passes)))
 
+-- the records of the referrals
+referred : Configuration → List Parts
+referred c = map referral_of (referrals_in_order c)
+
+referred_rising : (c : Configuration) → IsValid c → AllPairs IsBefore (referred c)
+referred_rising c valid =
+    let rising = numbers_rising c.referrals valid.referrals in
+    AllPairs-map IsBefore referral_of (referrals_in_order c) (λ i j d less below. inr (refl, inl (ltb-true _ _ (rising i j d less below))))
+
+all_referred : (c : Configuration) → All (IsReferral c) (referred c)
+all_referred c =
+    All-map (IsReferral c) referral_of (referrals_in_order c)
+    (All-weaker (Contains c.referrals) (λ r. IsReferral c (referral_of r)) (λ r there. (r, there, refl)) (referrals_in_order c) (out_of_order (λ p q. nat_lt p.id q.id) c.referrals))
+
+referred_in : (c : Configuration) (p : Parts) → IsReferral c p → Contains (referred c) p
+referred_in c p (referral, there, is) =
+    subst (λ (w : Parts). Contains (referred c) w) (sym is)
+    (in_map referral_of (referrals_in_order c) referral (into_order (λ x y. nat_lt x.id y.id) c.referrals referral there))
+
+-- subsystems before referrals
+kinds_apart : (c : Configuration) (host : List ℕ) → All (λ p. All (IsBefore p) (referred c)) (served c host)
+kinds_apart c host =
+    let subsystems : All (λ p. p.subtype ≡ NvmSubsystem) (served c host) = All-joined (λ p. p.subtype ≡ NvmSubsystem) (records_on c host) (ports_in_order c) (λ k d below. of_subsystems c host _) in
+    let referrals : All (λ p. p.subtype ≡ Referral) (referred c) = All-map (λ p. p.subtype ≡ Referral) referral_of (referrals_in_order c) (λ k d below. refl) in
+    λ k d below j e inside. inl (subsystems k d below, referrals j e inside)
+
+all_shown : (c : Configuration) (host : List ℕ) → All (IsShown c host) (records_of c host)
+all_shown c host =
+    All-append (IsShown c host) (served c host) (referred c)
+    (All-weaker (IsServed c host) (IsShown c host) (λ p is. inl is) (served c host) (all_served c host))
+    (All-weaker (IsReferral c) (IsShown c host) (λ p is. inr is) (referred c) (all_referred c))
+
+shown_in : (c : Configuration) (host : List ℕ) (p : Parts) → IsShown c host p → Contains (records_of c host) p
+shown_in c host p (inl is) = Contains-append_left (served c host) (referred c) p (served_in c host p is)
+shown_in c host p (inr is) = Contains-append_right (served c host) (referred c) p (referred_in c p is)
+
 pub records_listed : (c : Configuration) (host : List ℕ) → IsValid c → IsListing c host (records_of c host)
 records_listed c host valid = record {
-  rising = AllPairs-joined (λ p q. nat_lt p.id q.id ≡ true) IsBefore (records_on c host) (port_rising c host valid) (ports_apart c host) (ports_in_order c) (ports_rising c valid);
+  rising = AllPairs-append IsBefore (served c host) (referred c) (served_rising c host valid) (referred_rising c valid) (kinds_apart c host);
   shown = λ p. (λ found. All-contains (IsShown c host) (records_of c host) p (all_shown c host) found, λ shown. shown_in c host p shown);
 }

@@ -6,8 +6,8 @@ use Rattle.std.specs.List.{flat_map}
 use Rattle.std.specs.Option.{option_copied}
 use Rattle.config_lists.specs.declared.port.Port.{Port}
 use Rattle.config_lists.specs.declared.subsystem.Subsystem.{Subsystem}
-use Rattle.nvt_config.specs.Configuration.{Configuration}
-use Rattle.nvt_config.specs.Permission.{may_use}
+use Rattle.config_rules.specs.Configuration.{Configuration}
+use Rattle.config_rules.specs.Permission.{may_use}
 use Rattle.discovery_view.specs.Record.{Parts}
 use Rattle.discovery_view.specs.Records.{parts_of, records_among}
 use Rattle.discovery_view.specs.Walk.{entries_of, records_left}

@@ -8,6 +8,7 @@ mod order;
 mod page;
 pub mod plain;
 mod record;
+mod served;
 pub mod view;
 mod walk;
 

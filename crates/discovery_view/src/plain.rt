@@ -5,6 +5,10 @@ use nvt_config::{Access, Config, Edit, EditFault, Family, Link, NewFault, Port};
 use std::alloc::{AllocError, Global};
 use thiserror::Error;
 
+// SUBTYPE of a record.
+const REFERRAL: u8 = 1;
+const NVM_SUBSYSTEM: u8 = 2;
+
 /// Why there is no count.
 #[derive(Clone, Copy, Debug, PartialEq, Eq, Error)]
 pub enum PlainFault {
@@ -70,27 +74,52 @@ pub fn config_after(alloc: Global, units: &[u64], edits: &[Edit]) -> Result<Conf
     Ok(config)
 }
 
-/// The bytes of the records that a configuration shows to a host: one for each link of an open
-/// subsystem, of which the least that is left comes next.
-pub fn records(alloc: Global, config: &Config, _host: &[u8]) -> Result<Vec<u8>, PlainFault> {
+/// The bytes of the records that a configuration shows to a host: one for each link of a subsystem
+/// that is open or allows the host, of which the least that is left comes next, and then one for each
+/// referral, likewise.
+pub fn records(alloc: Global, config: &Config, host: &[u8]) -> Result<Vec<u8>, PlainFault> {
     let mut bytes = Vec::new(alloc);
+    push_links(alloc, &mut bytes, config, host)?;
+    push_referrals(alloc, &mut bytes, config)?;
+    Ok(bytes)
+}
+
+fn push_links(
+    alloc: Global,
+    bytes: &mut Vec<u8>,
+    config: &Config,
+    host: &[u8],
+) -> Result<(), AllocError> {
     let mut last = None;
     for _ in config.links() {
-        if let Some(link) = least_above(config, last) {
+        if let Some(link) = least_above(config, host, last) {
             if let Some(port) = config.port(link.port) {
-                push_record(alloc, &mut bytes, port, link.subsystem.as_bytes())?;
+                push_record(alloc, bytes, NVM_SUBSYSTEM, port, link.subsystem.as_bytes())?;
             }
             last = Some(link);
         }
     }
-    Ok(bytes)
+    Ok(())
+}
+
+fn push_referrals(
+    alloc: Global,
+    bytes: &mut Vec<u8>,
+    config: &Config,
+) -> Result<(), AllocError> {
+    for id in 1..=u16::MAX {
+        if let Some(referral) = config.referrals().iter().find(|referral| referral.id == id) {
+            push_record(alloc, bytes, REFERRAL, referral, b"nqn.2014-08.org.nvmexpress.discovery")?;
+        }
+    }
+    Ok(())
 }
 
 // The least of the links that have a record and are above the last one.
-fn least_above<'a>(config: &'a Config, last: Option<&Link>) -> Option<&'a Link> {
+fn least_above<'a>(config: &'a Config, host: &[u8], last: Option<&Link>) -> Option<&'a Link> {
     let mut least: Option<&Link> = None;
     for link in config.links() {
-        let is_next = is_shown(config, link)
+        let is_next = is_shown(config, host, link)
             && last.is_none_or(|last| is_below(last, link))
             && least.is_none_or(|least| is_below(link, least));
         if is_next {
@@ -100,11 +129,20 @@ fn least_above<'a>(config: &'a Config, last: Option<&Link>) -> Option<&'a Link> 
     least
 }
 
-fn is_shown(config: &Config, link: &Link) -> bool {
+fn is_shown(config: &Config, host: &[u8], link: &Link) -> bool {
     match config.subsystem(link.subsystem.as_bytes()) {
-        Some(subsystem) => subsystem.access == Access::Open,
+        Some(subsystem) => subsystem.access == Access::Open || is_allowed(config, host, link),
         None => false,
     }
+}
+
+fn is_allowed(config: &Config, host: &[u8], link: &Link) -> bool {
+    for allow in config.allows() {
+        if allow.subsystem == link.subsystem && allow.host.as_bytes() == host {
+            return true;
+        }
+    }
+    false
 }
 
 // By the port's number, and then by the subsystem's name.
@@ -119,6 +157,7 @@ fn is_below(link: &Link, other: &Link) -> bool {
 fn push_record(
     alloc: Global,
     bytes: &mut Vec<u8>,
+    subtype: u8,
     port: &Port,
     subsystem: &[u8],
 ) -> Result<(), AllocError> {
@@ -127,7 +166,7 @@ fn push_record(
         Family::Ipv6 => 2,
     };
     let id = port.id.to_le_bytes();
-    let head = [3, family, 2, 0, id[0], id[1], 0xFF, 0xFF, 32, 0];
+    let head = [3, family, subtype, 0, id[0], id[1], 0xFF, 0xFF, 32, 0];
     push_padded(bytes, &head, 32, 0)?;
     let service = format!(in alloc; "{}", port.service)?;
     push_padded(bytes, service.as_bytes(), 32, b' ')?;

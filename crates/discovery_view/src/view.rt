@@ -1,6 +1,6 @@
 //! A discovery view: it follows the edits of a configuration and lends each host its page.
 ghost use Rattle.std.specs.Prelude.{◌≡◌, ◌≤◌, ◌<◌, IsOk, IfOk, OnOk, Ok, length, nat_lt};
-ghost use Rattle.nvt_config.specs.Accept.{accept};
+ghost use Rattle.config_rules.specs.Accept.{accept};
 ghost use Rattle.nvt_fields.specs.Window.{window};
 ghost use Rattle.discovery_view.specs.Listing.{RecordsAreListed};
 ghost use Rattle.discovery_view.specs.View.{ShowsFirst, ShowsNext, count_in, page_in};
@@ -41,7 +41,7 @@ pub struct Plan {
 }
 
 impl Model for Plan {
-    ghost use Rattle.nvt_config.specs.Configuration.{Configuration};
+    ghost use Rattle.config_rules.specs.Configuration.{Configuration};
 
     ghost Value = { Configuration };
 

@@ -6,9 +6,9 @@ use Rattle.hex.specs.declared.error.FromHexError.{FromHexError}
 use Rattle.hex.proofs.HexLemmas.{IsOk-decode_sized}
 use Rattle.std.proofs.lemmas.List.{drop-drop, take_all, take_more}
 use Rattle.std.proofs.lemmas.List.Elements.{All-push}
-use Rattle.nvt_config.specs.declared.edit.Edit.{Edit}
-use Rattle.nvt_config.specs.Accept.{accept}
-use Rattle.nvt_config.specs.Configuration.{Configuration, are_disks, disks_alone}
+use Rattle.config_edits.specs.declared.edit.Edit.{Edit}
+use Rattle.config_rules.specs.Accept.{accept}
+use Rattle.config_rules.specs.Configuration.{Configuration, are_disks, disks_alone}
 use Rattle.config_text.specs.EditLine.{IsLineOf}
 use Rattle.config_text.specs.Lines.{lines_of}
 use Rattle.nvt_replay.specs.Replay.{AcceptsAll, Configures, EndsScript, Explains, IsFirstMalformed, MakesEdit, RefusesEdit, RefusesEdits, RefusesLine, RefusesLines, Refuses, TakesLine}

@@ -1,8 +1,8 @@
 -- What the end of a replay says of its files.
 use Rattle.std.specs.Prelude.{◌≡◌, ℕ, ◌-◌, ◌≤◌, true, false, List, [], ◌∷◌, length, take, slice_index_or, All, Some, Result, Ok, Err}
-use Rattle.nvt_config.specs.declared.edit.Edit.{Edit}
-use Rattle.nvt_config.specs.Accept.{accept}
-use Rattle.nvt_config.specs.Configuration.{Configuration, are_disks, disks_alone}
+use Rattle.config_edits.specs.declared.edit.Edit.{Edit}
+use Rattle.config_rules.specs.Accept.{accept}
+use Rattle.config_rules.specs.Configuration.{Configuration, are_disks, disks_alone}
 use Rattle.config_text.specs.EditLine.{IsLineOf, line_fault}
 use Rattle.config_text.specs.Lines.{lines_of}
 use Rattle.nvt_replay.specs.StreamLine.{IsStreamLine}

@@ -4,7 +4,7 @@ ghost use Rattle.std.specs.Prelude.{◌≡◌, ◌*◌, IfErr, IfOk, OnOk, All, 
 ghost use Rattle.std.specs.Bool.{OnFalse};
 ghost use Rattle.std.specs.List.{AllPass};
 ghost use Rattle.hex.specs.Hex.{decode_of, is_hex_digit};
-ghost use Rattle.nvt_config.specs.Configuration.{are_disks, disks_alone};
+ghost use Rattle.config_rules.specs.Configuration.{are_disks, disks_alone};
 ghost use Rattle.config_text.specs.Lines.{lines_of};
 ghost use Rattle.nvt_replay.specs.Replay.{AcceptsAll, Configures, EndsScript, Explains};
 ghost use Rattle.nvt_replay.specs.Replay.{IsBeforeScript, IsOfRun, MakesEdit};

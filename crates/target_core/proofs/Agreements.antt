@@ -4,7 +4,7 @@ use Rattle.std.proofs.Math.Path.{fun_ext}
 use Rattle.std.proofs.lemmas.Bool.{eqb-true}
 use Rattle.std.specs.Prelude.{if◌then◌else◌, ◌==◌}
 use Rattle.std.specs.Option.{option_map}
-use Rattle.nvt_config.specs.Configuration.{disks_alone}
+use Rattle.config_rules.specs.Configuration.{disks_alone}
 use Rattle.number_table.specs.Table.{place}
 use Rattle.number_table.proofs.Tables.{place-replicate}
 use Rattle.pdu_cut.specs.declared.side.Side.TheVariants.{Target}

@@ -5,7 +5,7 @@ use Rattle.std.specs.Option.{option_map}
 use Rattle.std.proofs.lemmas.Bool.{eqb-true}
 use Rattle.number_table.specs.Table.{place, with_value, without}
 use Rattle.number_table.proofs.Tables.{least_free-Some, length-with_value, length-without, place_within, place-map, place-replicate, place-with_value, place-without}
-use Rattle.nvt_config.specs.Configuration.{Configuration}
+use Rattle.config_rules.specs.Configuration.{Configuration}
 use Rattle.std.proofs.lemmas.List.{length-map}
 use Rattle.target_core.specs.Connection.{ConnectionState}
 use Rattle.target_decision.specs.World.{connections_max}

@@ -2,8 +2,8 @@
 use Rattle.std.proofs.Common.{◌≡◌, ℕ, List, [], ◌∷◌, Result, Ok, refl, sym, ap, ◌∙◌}
 use Rattle.std.proofs.Math.Path.{fun_ext}
 use Rattle.discovery_view.proofs.Counts.{count_goes_on}
-use Rattle.nvt_config.specs.Configuration.{Configuration, disks_alone}
-use Rattle.nvt_config.specs.declared.fault.EditFault.{EditFault}
+use Rattle.config_rules.specs.Configuration.{Configuration, disks_alone}
+use Rattle.config_edits.specs.declared.fault.EditFault.{EditFault}
 use Rattle.target_core.specs.declared.views.Plans.{Plans}
 use Rattle.target_core.specs.Views.{ArePlansOf, ShowAfter, ShowFirst, ShowHistory, ShowNext, ShowPlanned, ViewsShown, pages_shown}
 use Rattle.target_decision.specs.World.{Pages}

@@ -2,8 +2,8 @@
 -- and that were taken from it.
 use Rattle.std.specs.Prelude.{◌≡◌, ℕ, Bool, ◌==◌, ◌||◌, ◌&&◌, List, [], ◌∷◌, ◌++◌, Option, Some, None, Result, MatchOption, MatchResult, if◌then◌else◌, take}
 use Rattle.number_table.specs.Table.{place}
-use Rattle.nvt_config.specs.declared.edit.Edit.{Edit}
-use Rattle.nvt_config.specs.declared.fault.EditFault.{EditFault}
+use Rattle.config_edits.specs.declared.edit.Edit.{Edit}
+use Rattle.config_edits.specs.declared.fault.EditFault.{EditFault}
 use Rattle.pdu_cut.specs.declared.side.Side.TheVariants.{Target}
 use Rattle.pdu_cut.specs.Front.{Front, incomplete, whole, faulty, front}
 use Rattle.pdu_cut.specs.Pdu.{Pdu}

@@ -2,7 +2,7 @@
 use Rattle.std.specs.Prelude.{◌≡◌, ℕ, ◌-◌, ◌==◌, Bool, true, false, ◌||◌, List, [], Option, Some, None, is_none, find, position, replicate, Result, Ok, IsErr, ◌++◌, min, length, take, drop, if◌then◌else◌}
 use Rattle.std.specs.Option.{option_map}
 use Rattle.number_table.specs.Table.{place, with_value, without}
-use Rattle.nvt_config.specs.Configuration.{Configuration}
+use Rattle.config_rules.specs.Configuration.{Configuration}
 use Rattle.config_lists.specs.declared.port.Port.{Port}
 use Rattle.pdu_cut.specs.declared.side.Side.TheVariants.{Target}
 use Rattle.pdu_cut.specs.Side.{capacity_of}

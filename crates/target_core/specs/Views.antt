@@ -2,8 +2,8 @@
 use Rattle.std.specs.Prelude.{◌≡◌, ◌≤◌, ℕ, ◌%◌, ◌^◌, List, Result, Ok}
 use Rattle.discovery_view.specs.Records.{records_of}
 use Rattle.discovery_view.specs.View.{Shown, ShowsFirst, ShowsNext, count_in, page_in, records_in}
-use Rattle.nvt_config.specs.Configuration.{Configuration}
-use Rattle.nvt_config.specs.declared.fault.EditFault.{EditFault}
+use Rattle.config_rules.specs.Configuration.{Configuration}
+use Rattle.config_edits.specs.declared.fault.EditFault.{EditFault}
 use Rattle.target_core.specs.declared.views.Plans.{Plans}
 use Rattle.target_core.specs.declared.views.Views.{Views}
 use Rattle.target_decision.specs.World.{Pages}

@@ -3,8 +3,8 @@ ghost use Rattle.std.specs.Prelude.{◌≡◌, ◌≤◌, IfOk, IfErr, IsOkUnles
 ghost use Rattle.std.specs.Bool.{OnFalse, OnTrue};
 ghost use Rattle.std.specs.Option.{option_copied};
 ghost use Rattle.number_table.specs.Table.{place};
-ghost use Rattle.nvt_config.specs.Accept.{accept};
-ghost use Rattle.nvt_config.specs.Configuration.{are_disks, disks_alone};
+ghost use Rattle.config_rules.specs.Accept.{accept};
+ghost use Rattle.config_rules.specs.Configuration.{are_disks, disks_alone};
 ghost use Rattle.target_core.specs.Agreement.{Agrees, EditAgrees, EndAgrees, EndedAgrees, OpenAgrees, ReceiveAgrees, StepAgrees, TakenAgrees, nothing};
 ghost use Rattle.pdu_cut.specs.Cut.{front_shown};
 ghost use Rattle.target_core.specs.Connection.{acted};

@@ -1,6 +1,6 @@
 //! The views that log pages are written from. They follow the edits.
 ghost use Rattle.std.specs.Prelude.{◌≡◌, IfOk, IsOk, OnOk};
-ghost use Rattle.nvt_config.specs.Accept.{accept};
+ghost use Rattle.config_rules.specs.Accept.{accept};
 ghost use Rattle.target_core.specs.Views.{ArePlansOf, AreReady, ShowFirst, ShowPlanned, pages_shown, shown_by};
 ghost use Rattle.target_decision.specs.World.{pages_in};
 

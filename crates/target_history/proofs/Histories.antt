@@ -1,7 +1,7 @@
 -- Laws of histories.
 use Rattle.std.proofs.Common.{◌≡◌, ◌≤◌, ℕ, ◌+◌, ◌%◌, ◌^◌, Bool, true, false, ◌&&◌, List, [], ◌∷◌, Option, Some, None, refl, append-nil, arith}
 use Rattle.std.specs.Prelude.{if◌then◌else◌, not, ◌==◌}
-use Rattle.nvt_config.specs.Configuration.{Configuration}
+use Rattle.config_rules.specs.Configuration.{Configuration}
 use Rattle.nvt_fields.specs.declared.pdu_type.PduType.{PduType}
 use Rattle.nvt_fields.specs.declared.pdu_type.PduType.TheVariants.{IcReq, IcResp, H2cTermReq, C2hTermReq, CapsuleCmd, CapsuleResp, H2cData, C2hData, R2t}
 use Rattle.nvt_fields.specs.declared.termination.FatalErrorStatus.TheVariants.{InvalidHeaderField, UnsupportedParameter}

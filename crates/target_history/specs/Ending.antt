@@ -1,7 +1,7 @@
 -- What an event ends beside the connection that it is a step of: each cause that lies elsewhere.
 use Rattle.std.specs.Prelude.{Bool, false, ◌==◌}
-use Rattle.nvt_config.specs.declared.edit.Edit.{Edit}
-use Rattle.nvt_config.specs.declared.edit.Edit.TheVariants.{PortDel}
+use Rattle.config_edits.specs.declared.edit.Edit.{Edit}
+use Rattle.config_edits.specs.declared.edit.Edit.TheVariants.{PortDel}
 use Rattle.target_decision.specs.declared.session.Conversation.{Conversation}
 use Rattle.target_history.specs.declared.ending.Ending.{Ending}
 use Rattle.target_history.specs.declared.ending.Ending.TheVariants.{Nothing, Port}

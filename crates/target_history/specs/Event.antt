@@ -1,6 +1,6 @@
 -- What happens to a target.
 use Rattle.std.specs.Prelude.{ℕ, Bool, false, ◌==◌}
-use Rattle.nvt_config.specs.declared.edit.Edit.{Edit}
+use Rattle.config_edits.specs.declared.edit.Edit.{Edit}
 use Rattle.pdu_cut.specs.Front.{Front, incomplete}
 
 -- An edit was accepted; a connection was opened on a port and got a number; a step of a connection found

@@ -4,9 +4,9 @@ use Rattle.std.specs.Prelude.{ℕ, ◌+◌, ◌%◌, ◌^◌, Bool, true, false,
 use Rattle.discovery_view.specs.Page.{discovery_page}
 use Rattle.discovery_view.specs.Records.{records_of}
 use Rattle.discovery_view.specs.View.{changes_records}
-use Rattle.nvt_config.specs.Accept.{accept}
-use Rattle.nvt_config.specs.Configuration.{Configuration, disks_alone}
-use Rattle.nvt_config.specs.declared.fault.EditFault.{EditFault}
+use Rattle.config_rules.specs.Accept.{accept}
+use Rattle.config_rules.specs.Configuration.{Configuration, disks_alone}
+use Rattle.config_edits.specs.declared.fault.EditFault.{EditFault}
 use Rattle.pdu_cut.specs.Front.{Front, incomplete, whole, faulty}
 use Rattle.pdu_cut.specs.Pdu.{Pdu}
 use Rattle.target_decision.specs.declared.decision.Admission.{Admission}

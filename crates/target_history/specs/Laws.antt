@@ -1,6 +1,6 @@
 -- Laws of histories.
 use Rattle.std.specs.Prelude.{◌≡◌, ◌≤◌, ℕ, ◌+◌, ◌%◌, Bool, true, false, ◌||◌, ◌&&◌, List, [], ◌∷◌, Option, Some, None, if◌then◌else◌}
-use Rattle.nvt_config.specs.declared.edit.Edit.TheVariants.{PortDel}
+use Rattle.config_edits.specs.declared.edit.Edit.TheVariants.{PortDel}
 use Rattle.pdu_cut.specs.Front.{Front, incomplete, whole, faulty}
 use Rattle.target_decision.specs.declared.decision.Decision.TheVariants as decision
 use Rattle.target_decision.specs.declared.decision.Reply.{Reply}

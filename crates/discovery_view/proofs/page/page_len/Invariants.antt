@@ -9,4 +9,4 @@ invariant-loop-entry l =
     (goal.iterator-loop-entry).can_next l.entry-iterator
     × (goal.iterator-loop-entry).is_finite l.entry-iterator
     × (l.len + length (flat_map record_of l.entry-iterator) ≡ 1024 + length (flat_map record_of l.listing))
-    × (l.len + 1024 * length l.entry-iterator ≤ 1024 + 1024 * 1024)
+    × (l.len + 1024 * length l.entry-iterator ≤ 1024 + 1024 * 1056)

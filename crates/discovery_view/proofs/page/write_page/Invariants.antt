@@ -10,7 +10,7 @@ abbrev pub invariant-loop-entry : goal.invariant-loop-entry
 invariant-loop-entry l =
     (goal.iterator-loop-entry).can_next l.entry-iterator
     × (goal.iterator-loop-entry).is_finite l.entry-iterator
-    × (l.at + 1024 * length l.entry-iterator ≤ 1024 + 1024 * 1024)
+    × (l.at + 1024 * length l.entry-iterator ≤ 1024 + 1024 * 1056)
     × (done : List Parts)
     × (l.listing ≡ done ++ l.entry-iterator)
     × (length (header_of l.generation (length l.listing) ++ flat_map record_of done) ≡ l.at)

@@ -1,6 +1,6 @@
 use Rattle.std.proofs.Common.{refl}
 use Rattle.std.proofs.lemmas.Bool.{OnFalse_from}
-use Rattle.nvt_config.specs.Configuration.{are_disks}
+use Rattle.config_rules.specs.Configuration.{are_disks}
 use Rattle.nvt_replay.proofs.playback.configured.Goals as goal
 
 pub returns-in-Err-Disks-clause-refused : goal.returns-in-Err-Disks-clause-refused

@@ -1,5 +1,5 @@
 use Rattle.std.proofs.Common.{◌≡◌, ℕ, replicate, rules}
-use Rattle.discovery_view.specs.Records.{parts_of}
+use Rattle.discovery_view.specs.Records.{parts_on}
 use Rattle.discovery_view.proofs.Bytes.{record_pieces}
 use Rattle.discovery_view.proofs.entry.Entry.write.Goals as goal
 
@@ -17,11 +17,11 @@ returns c =
       c.format.ensures.text,
       c.split_at_mut-service.ensures.front_len,
       zeros,
-      c.write_to.ensures,
+      c.write_zeroed.ensures,
       c.write_spaced-2.ensures,
       c.as_bytes-2.ensures,
       c.split_at_mut-address.ensures.front_len,
       end,
       ← c.self.view_is,
     )
-    (record_pieces (parts_of c.self.inside.port.now c.self.inside.subsystem.now))
+    (record_pieces (parts_on c.self.inside.subtype c.self.inside.port.now c.self.inside.nqn.now))

@@ -1,5 +1,5 @@
 use Rattle.std.proofs.Common.{◌≡◌, ◌+◌, ◌%◌, ◌^◌, length, reverse}
-use Rattle.nvt_config.specs.Configuration.{Configuration}
+use Rattle.config_rules.specs.Configuration.{Configuration}
 use Rattle.discovery_view.specs.Records.{records_of}
 use Rattle.discovery_view.specs.View.{changes_until}
 use Rattle.discovery_view.proofs.view.DiscoveryView.count.Given as goal

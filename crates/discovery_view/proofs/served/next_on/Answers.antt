@@ -1,8 +1,8 @@
 use Rattle.std.proofs.Common.{◌≡◌, ◌+◌, ◌∙◌, true, drop}
-use Rattle.nvt_config.specs.Permission.{may_use}
+use Rattle.config_rules.specs.Permission.{may_use}
 use Rattle.discovery_view.specs.Walk.{entries_of}
 use Rattle.discovery_view.proofs.Walks.{among_shown, entry_ahead}
-use Rattle.discovery_view.proofs.walk.next_on.Goals as goal
+use Rattle.discovery_view.proofs.served.next_on.Goals as goal
 
 pub returns-then-may_use-clause-entry : goal.returns-then-may_use-clause-entry
 returns-then-may_use-clause-entry c =

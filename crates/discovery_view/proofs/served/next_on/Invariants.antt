@@ -1,7 +1,7 @@
 use Rattle.std.proofs.Common.{◌≡◌, drop}
 use Rattle.discovery_view.specs.Records.{records_among}
 use Rattle.discovery_view.specs.Walk.{entries_of}
-use Rattle.discovery_view.proofs.walk.next_on.Given as goal
+use Rattle.discovery_view.proofs.served.next_on.Given as goal
 
 -- none of the slots so far has an entry
 abbrev pub invariant-loop-done : goal.invariant-loop-done

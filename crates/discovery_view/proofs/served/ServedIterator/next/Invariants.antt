@@ -1,7 +1,7 @@
 use Rattle.std.proofs.Common.{◌≡◌, ◌≤◌, ◌-◌, All, IsTrue, drop, length}
 use Rattle.config_lists.specs.Port.{is_port}
 use Rattle.discovery_view.specs.Walk.{entries_of, records_left}
-use Rattle.discovery_view.proofs.walk.WalkIterator.next.Given as goal
+use Rattle.discovery_view.proofs.served.ServedIterator.next.Given as goal
 
 -- the same entries are left
 abbrev pub invariant-loop-slot : goal.invariant-loop-slot

@@ -4,8 +4,8 @@ use Rattle.config_lists.specs.Port.{is_port}
 use Rattle.discovery_view.specs.Records.{records_among}
 use Rattle.discovery_view.specs.Walk.{entries_of}
 use Rattle.discovery_view.proofs.Walks.{entry_ahead, entry_holds, none_ahead, port_done, rest_of}
-use Rattle.discovery_view.proofs.walk.WalkIterator.next.Goals as goal
-use Rattle.discovery_view.proofs.walk.WalkIterator.next.Goals.{in-Some-slot+in_default-next_on, in_default-slot}
+use Rattle.discovery_view.proofs.served.ServedIterator.next.Goals as goal
+use Rattle.discovery_view.proofs.served.ServedIterator.next.Goals.{in-Some-slot+in_default-next_on, in_default-slot}
 
 pub next_on-requires : goal.next_on-requires
 next_on-requires c =
