@@ -9,6 +9,8 @@ use thiserror::Error;
 const REFERRAL: u8 = 1;
 const NVM_SUBSYSTEM: u8 = 2;
 
+const DISCOVERY_NQN: &[u8] = b"nqn.2014-08.org.nvmexpress.discovery";
+
 /// Why there is no count.
 #[derive(Clone, Copy, Debug, PartialEq, Eq, Error)]
 pub enum PlainFault {
@@ -107,12 +109,24 @@ fn push_referrals(
     bytes: &mut Vec<u8>,
     config: &Config,
 ) -> Result<(), AllocError> {
-    for id in 1..=u16::MAX {
-        if let Some(referral) = config.referrals().iter().find(|referral| referral.id == id) {
-            push_record(alloc, bytes, REFERRAL, referral, b"nqn.2014-08.org.nvmexpress.discovery")?;
+    let mut last = 0;
+    for _ in config.referrals() {
+        if let Some(referral) = least_referral_above(config, last) {
+            push_record(alloc, bytes, REFERRAL, referral, DISCOVERY_NQN)?;
+            last = referral.id;
         }
     }
     Ok(())
+}
+
+fn least_referral_above(config: &Config, last: u16) -> Option<&Port> {
+    let mut least: Option<&Port> = None;
+    for referral in config.referrals() {
+        if referral.id > last && least.is_none_or(|least| referral.id < least.id) {
+            least = Some(referral);
+        }
+    }
+    least
 }
 
 // The least of the links that have a record and are above the last one.
