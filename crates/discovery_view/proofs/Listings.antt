@@ -221,7 +221,7 @@ ports_apart c host x y less = λ k d below j e inside.
     inl (omega (arith, ltb-true x.id y.id less, of_port c host x k d below, of_port c host y j e inside)))
 
 -- the records of the subsystems on ports
-served : Configuration → List ℕ → List Parts
+abbrev pub served : Configuration → List ℕ → List Parts
 served c host = flat_map (records_on c host) (ports_in_order c)
 
 served_rising : (c : Configuration) (host : List ℕ) → IsValid c → AllPairs IsBefore (served c host)
@@ -250,7 +250,7 @@ served_in c host p (port, s, there, inside, passes, is) =
     (in_map (parts_of port) (filter test subsystems) s (in_filter test subsystems s (into_order (λ x y. name_below x.nqn y.nqn) c.subsystems s inside) passes)))
 
 -- the records of the referrals
-referred : Configuration → List Parts
+abbrev pub referred : Configuration → List Parts
 referred c = map referral_of (referrals_in_order c)
 
 referred_rising : (c : Configuration) → IsValid c → AllPairs IsBefore (referred c)

@@ -67,6 +67,14 @@ entry_holds P (None ∷ slots) (suc i) slot x all below read is =
 entry_holds P (Some y ∷ slots) (suc i) slot x all below read is =
     entry_holds P slots i slot x (λ k d within. all (suc k) d (omega arith)) (omega arith) read is
 
+-- .. and of those behind any slot
+pub entries_behind : {T : Type 0} (P : T → Type 0) (slots : List (Option (Bor T))) (i : ℕ) → All P (entries_of slots) → All P (entries_of (drop i slots))
+entries_behind P slots zero all = all
+entries_behind P [] (suc i) all = all
+entries_behind P (None ∷ slots) (suc i) all = entries_behind P slots i all
+entries_behind P (Some x ∷ slots) (suc i) all =
+    entries_behind P slots i (λ k d within. all (suc k) d (omega arith))
+
 -- a slice to the end of a list
 pub rest_of : {X : Type 0} (i : ℕ) (xs : List X) → take (length xs - i) (drop i xs) ≡ drop i xs
 rest_of i xs = take_all (length xs - i) (drop i xs) (omega (arith, length-drop i xs))

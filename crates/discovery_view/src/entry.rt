@@ -66,7 +66,7 @@ impl<'a> Entry<'a> {
         ensures value { result ≡ length (record_of self.now) }
         ensures fixed { result ≡ 1024 }
     {
-        let _ = self.port;
+        let (_port, _name_len) = (self.port, self.nqn.len());
         RECORD_LEN as u64
     }
 

@@ -18,6 +18,7 @@ returns c =
       c.split_at_mut-service.ensures.front_len,
       zeros,
       c.write_zeroed.ensures,
+      c.split_at_mut-name.ensures.front_len,
       c.write_spaced-2.ensures,
       c.as_bytes-2.ensures,
       c.split_at_mut-address.ensures.front_len,

@@ -12,5 +12,5 @@ returns-clause-bound c =
     let subsystems = entries_of listing.subsystems.items in
     let referrals = entries_of listing.referrals.items in
     let served = records_left listing.config.now listing.host.now ports subsystems subsystems in
-    let whole : length c.new-2.result ≡ length (served ++ map referral_of referrals) = rw (c.new.ensures, c.as_slice.ensures.value, c.as_slice-2.ensures.value, c.as_slice-3.ensures.value) at (ap length c.new-2.ensures) in
+    let whole : length c.new.result ≡ length (served ++ map referral_of referrals) = rw (c.new-served.ensures, c.as_slice.ensures.value, c.as_slice-2.ensures.value, c.as_slice-3.ensures.value) at (ap length c.new.ensures) in
     omega (arith, whole, length-append served (map referral_of referrals), length-map referrals referral_of, ap length (all_left listing.config.now listing.host.now ports subsystems), left_bound listing.config.now listing.host.now ports subsystems c.self.invariant.2, c.self.invariant.1, c.self.invariant.4)

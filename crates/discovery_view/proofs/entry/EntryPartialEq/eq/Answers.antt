@@ -1,6 +1,0 @@
-use Rattle.std.proofs.Common.{arith}
-use Rattle.std.proofs.lemmas.Grind.{common_steps}
-use Rattle.discovery_view.proofs.entry.EntryPartialEq.eq.Goals as goal
-
-pub returns-then-eq-2 : goal.returns-then-eq-2
-returns-then-eq-2 c = grind (arith, common_steps)
