@@ -217,8 +217,10 @@ of_subsystems c host port =
 
 ports_apart : (c : Configuration) (host : List ℕ) (x y : Port) → nat_lt x.id y.id ≡ true → All (λ p. All (IsBefore p) (records_on c host y)) (records_on c host x)
 ports_apart c host x y less = λ k d below j e inside.
-    inr (of_subsystems c host x k d below ∙ sym (of_subsystems c host y j e inside),
-    inl (omega (arith, ltb-true x.id y.id less, of_port c host x k d below, of_port c host y j e inside)))
+    inr (
+      of_subsystems c host x k d below ∙ sym (of_subsystems c host y j e inside),
+      inl (omega (arith, ltb-true x.id y.id less, of_port c host x k d below, of_port c host y j e inside)),
+    )
 
 -- the records of the subsystems on ports
 abbrev pub served : Configuration → List ℕ → List Parts

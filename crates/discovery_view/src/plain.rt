@@ -7,6 +7,7 @@ use thiserror::Error;
 
 // SUBTYPE of a record.
 const REFERRAL: u8 = 1;
+
 const NVM_SUBSYSTEM: u8 = 2;
 
 const DISCOVERY_NQN: &[u8] = b"nqn.2014-08.org.nvmexpress.discovery";
@@ -104,11 +105,7 @@ fn push_links(
     Ok(())
 }
 
-fn push_referrals(
-    alloc: Global,
-    bytes: &mut Vec<u8>,
-    config: &Config,
-) -> Result<(), AllocError> {
+fn push_referrals(alloc: Global, bytes: &mut Vec<u8>, config: &Config) -> Result<(), AllocError> {
     let mut last = 0;
     for _ in config.referrals() {
         if let Some(referral) = least_referral_above(config, last) {
