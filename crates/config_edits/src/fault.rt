@@ -50,7 +50,7 @@ impl From<AllocError> for EditFault {
     ghost from_gives = { λ _ fault. fault ≡ Memory };
 
     fn from(_: AllocError) -> EditFault {
-        EditFault::Memory
+        Self::Memory
     }
 }
 

@@ -192,9 +192,10 @@ passed false fault next ok = (refl, ok)
 pub state_numbers : (c v : Configuration) (port : ℕ) (nqn : List ℕ) (group : ℕ) (state : AnaState) → c ≡ v → IsOk (accept v (AnaSet port nqn group state)) → IsValid c → (port ≤ 65535) × (group ≤ 32)
 state_numbers c v port nqn group state same ok valid =
     let at_group = passed (not (is_group group)) _ _ ok in
-    let in_range : is_group group ≡ true = not-false (is_group group) at_group.0 in
-    (port_number c port valid (ap (λ w. has_port w.ports port) same ∙ there (has_port v.ports port) _ _ at_group.1),
-     leb-true group 32 (and_parts (nat_le 1 group) (nat_le group 32) in_range).1)
+    let in_range : is_group group ≡ true = not-false (is_group group) at_group.0 in (
+      port_number c port valid (ap (λ w. has_port w.ports port) same ∙ there (has_port v.ports port) _ _ at_group.1),
+      leb-true group 32 (and_parts (nat_le 1 group) (nat_le group 32) in_range).1,
+    )
 
 -- a group that is set is one that may be
 pub group_number : (v : Configuration) (nqn : List ℕ) (nsid group : ℕ) → IsOk (accept v (NamespaceGroup nqn nsid group)) → group ≤ 32

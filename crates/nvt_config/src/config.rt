@@ -240,11 +240,7 @@ impl Config {
                 subsystem,
                 nsid,
                 blocks,
-            } => Ok(Plan::new(Change::SetNamespace(
-                subsystem,
-                *nsid,
-                Setting::Blocks(*blocks),
-            ))),
+            } => Ok(Plan::new(Change::SetNamespace(subsystem, *nsid, Setting::Blocks(*blocks)))),
             Edit::NamespaceGroup {
                 subsystem,
                 nsid,

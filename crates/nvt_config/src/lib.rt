@@ -10,7 +10,9 @@ pub mod plan;
 
 pub use config::Config;
 pub use config_edits::{Edit, EditFault, Endpoint, Item, NewNamespace, Value};
-pub use config_lists::{Access, Allow, AnaState, BlockSize, Family, GroupState, Host, Link};
-pub use config_lists::{Namespace, Port, Subsystem, Text};
+pub use config_lists::{
+    Access, Allow, AnaState, BlockSize, Family, GroupState, Host, Link, Namespace, Port, Subsystem,
+    Text,
+};
 pub use fault::NewFault;
 pub use plan::Plan;

@@ -102,11 +102,7 @@ impl Config {
         Ok(Plan::new(Change::AddHost(addition)))
     }
 
-    pub(super) fn plan_allow<'e>(
-        &self,
-        subsystem: &Nqn,
-        host: &Nqn,
-    ) -> Result<Plan<'e>, AllocError>
+    pub(super) fn plan_allow<'e>(&self, subsystem: &Nqn, host: &Nqn) -> Result<Plan<'e>, AllocError>
         requires { IsOk (accept self.now (AllowAdd subsystem.now host.now)) }
         ensures { IfOk result (IsPlanOf self.now (AllowAdd subsystem.now host.now)) }
     {
