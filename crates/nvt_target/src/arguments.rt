@@ -1,5 +1,6 @@
 //! The arguments of the program.
 
+use crate::help::HELP;
 use clap::error::ErrorKind;
 use clap::{Arg, Command, Error, value_parser};
 use nvt_replay::ReplayFault;
@@ -10,12 +11,6 @@ use std::{env, io};
 const DISKS_MAX: i64 = 256;
 
 const UNITS_MAX: i64 = 1_048_576;
-
-const EXAMPLE: &str = "Example:
-  printf 'port add 1 ipv4 127.0.0.1 4420\\n' > EDITS
-  printf 'open 1\\nend 0\\n' > STREAM
-  nvt_target replay EDITS STREAM --disks 1 --units 2048
-prints `0 open`.";
 
 /// What the arguments ask for.
 #[derive(Debug, Drop)]
@@ -101,7 +96,7 @@ fn replay_usage(alloc: Global, replay: &clap::ArgMatches<'_>) -> Result<Usage, R
 fn command<'a>(alloc: Global) -> Result<Command<'a>, AllocError> {
     let replay = Command::new(alloc, "replay")
         .about("Applies the lines of EDITS, runs those of STREAM, and prints what the target sends")
-        .after_help(EXAMPLE)
+        .after_help(HELP)
         .arg(
             Arg::new(alloc, "EDITS")
                 .required(true)
@@ -110,7 +105,7 @@ fn command<'a>(alloc: Global) -> Result<Command<'a>, AllocError> {
         .arg(
             Arg::new(alloc, "STREAM")
                 .required(true)
-                .help("A file of lines `open PORT`, `rx K HEX` and `end K`"),
+                .help("A script of connections, one line each"),
         )?
         .arg(
             Arg::new(alloc, "disks")
@@ -128,7 +123,7 @@ fn command<'a>(alloc: Global) -> Result<Command<'a>, AllocError> {
         )?;
     Command::new(alloc, "nvt_target")
         .about("A target of NVMe over TCP")
-        .after_help(EXAMPLE)
+        .after_help(HELP)
         .subcommand_required(true)
         .subcommand(replay)
 }

@@ -5,6 +5,7 @@
 #![tactic(auto)]
 
 mod arguments;
+mod help;
 mod program;
 
 use arguments::Usage;

@@ -1,0 +1,60 @@
+//! What the help tells beside the arguments: the lines of the two files, and what is printed.
+
+/// The lines of edits, their replies in words, the lines of a script, and an example.
+pub const HELP: &str = "EDITS has one edit a line, words with one space between:
+  subsys add NQN SERIAL ACCESS     ACCESS: open (to each host) or closed
+  subsys set NQN ACCESS
+  subsys del NQN
+  ns add NQN NSID DISK BLOCKS BLOCKSIZE UUID GROUP
+                                   a namespace on a disk of its own; BLOCKSIZE: 512 or 4096
+  ns size NQN NSID BLOCKS
+  ns group NQN NSID GROUP          GROUP: its ANA group, 1 to 32
+  ns del NQN NSID
+  port add ID FAMILY ADDR SERVICE  FAMILY: ipv4 or ipv6; SERVICE: the TCP port
+  port set ID FAMILY ADDR SERVICE
+  port del ID
+  link add ID NQN                  the subsystem is served on the port
+  link del ID NQN
+  host add NQN
+  host del NQN
+  allow add SUBNQN HOSTNQN         the host may use the closed subsystem
+  allow del SUBNQN HOSTNQN
+  ana set ID NQN GROUP STATE       STATE: optimized, non-optimized, inaccessible,
+                                   persistent-loss or change
+  ref add ID FAMILY ADDR SERVICE   a referral to another discovery controller
+  ref set ID FAMILY ADDR SERVICE
+  ref del ID
+
+An edit is accepted (`ok`), or refused and changes nothing:
+  refused BadValue WHICH   a value is out of its range
+  refused NoSuch WHICH     what it names is not there
+  refused Exists WHICH     what it adds is there already
+  refused DiskInUse        a namespace is on the disk already
+  refused InUse WHICH      something that is there names what it removes
+  refused Full WHICH       as many are there as there may be
+A line that is no edit has its first faulty word named, by the number of bytes before it:
+  line 0 TooLong           the line has more than 1,024 bytes
+  line COLUMN Empty        there is no byte in the word
+  line COLUMN UnknownWord  no edit begins so
+  line COLUMN Missing      the line ends before the edit does
+  line COLUMN BadNumber    no decimal number below 2^64 without leading zeros
+  line COLUMN BadNqn       no `nqn.` and 1 to 219 bytes from 21h to 7Eh after it
+  line COLUMN BadUuid      no 36 characters of a UUID, hyphenated and in lower case
+  line COLUMN BadWord      none of the words that may stand here
+  line COLUMN Extra        the line goes on after the edit's end
+
+STREAM has these lines:
+  open PORT   a host connects to the port; prints `K open`, with the connection's number,
+              or `open refused KIND`: NoSuchPort (no port has the number) or Full (64
+              connections are open)
+  rx K HEX    bytes come on connection K; prints `K pdu HEX` for each PDU that is sent, and
+              `K closed` where the target ends the connection
+  end K       the host ends connection K
+  edit LINE   an edit while the target runs; prints `edit ok`, or why there is none
+A line on a connection that is not open prints `K none`.
+
+Example:
+  printf 'port add 1 ipv4 127.0.0.1 4420\\n' > EDITS
+  printf 'open 1\\nend 0\\n' > STREAM
+  nvt_target replay EDITS STREAM --disks 1 --units 2048
+prints `0 open`.";
