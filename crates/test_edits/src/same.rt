@@ -1,4 +1,4 @@
-use nvt_config::{Config, Host, Link, Port, Subsystem};
+use nvt_config::{Allow, Config, GroupState, Host, Link, Namespace, Port, Subsystem};
 
 /// Whether two configurations have the same disks and the same lists, each in the same order.
 pub fn is_same(config: &Config, other: &Config) -> bool {
@@ -7,6 +7,10 @@ pub fn is_same(config: &Config, other: &Config) -> bool {
         && are_ports_same(config.ports(), other.ports())
         && are_links_same(config.links(), other.links())
         && are_hosts_same(config.hosts(), other.hosts())
+        && are_namespaces_same(config.namespaces(), other.namespaces())
+        && are_allows_same(config.allows(), other.allows())
+        && are_states_same(config.states(), other.states())
+        && are_ports_same(config.referrals(), other.referrals())
 }
 
 fn are_subsystems_same(subsystems: &[Subsystem], others: &[Subsystem]) -> bool {
@@ -49,4 +53,39 @@ fn are_hosts_same(hosts: &[Host], others: &[Host]) -> bool {
         }
     }
     hosts.len() == others.len()
+}
+
+fn are_namespaces_same(namespaces: &[Namespace], others: &[Namespace]) -> bool {
+    for (namespace, other) in namespaces.iter().zip(others) {
+        let is_same = namespace.subsystem == other.subsystem
+            && (namespace.nsid, namespace.disk) == (other.nsid, other.disk)
+            && (namespace.blocks, namespace.group) == (other.blocks, other.group)
+            && namespace.block_size == other.block_size
+            && namespace.uuid == other.uuid;
+        if !is_same {
+            return false;
+        }
+    }
+    namespaces.len() == others.len()
+}
+
+fn are_allows_same(allows: &[Allow], others: &[Allow]) -> bool {
+    for (allow, other) in allows.iter().zip(others) {
+        if allow.subsystem != other.subsystem || allow.host != other.host {
+            return false;
+        }
+    }
+    allows.len() == others.len()
+}
+
+fn are_states_same(states: &[GroupState], others: &[GroupState]) -> bool {
+    for (state, other) in states.iter().zip(others) {
+        let is_same = (state.port, state.group) == (other.port, other.group)
+            && state.subsystem == other.subsystem
+            && state.state == other.state;
+        if !is_same {
+            return false;
+        }
+    }
+    states.len() == others.len()
 }
