@@ -1,1 +1,4 @@
+pub mod Marks
+pub mod PduLemmas
 pub mod ReplayLemmas
+pub mod Steps

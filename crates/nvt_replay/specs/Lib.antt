@@ -1,3 +1,4 @@
 pub mod StreamLine
 pub mod Printed
+pub mod Played
 pub mod Replay

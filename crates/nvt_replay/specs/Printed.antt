@@ -1,12 +1,18 @@
 -- The lines that a replay prints.
-use Rattle.std.specs.Prelude.{ℕ, ◌&&◌, nat_le, nat_lt, List, ◌++◌, length, codes, if◌then◌else◌}
+use Rattle.std.specs.Prelude.{◌≡◌, ℕ, zero, suc, ◌&&◌, nat_le, nat_lt, List, [], ◌∷◌, ◌++◌, All, length, take, drop, codes, flat_map, if◌then◌else◌}
 use Rattle.std.specs.Fmt.{decimal}
 use Rattle.hex.specs.Hex.{encode_lower}
 use Rattle.nvt_fields.specs.Field.{field_at}
+use Rattle.target_core.specs.declared.fault.OpenFault.{OpenFault}
+use Rattle.target_core.specs.Fault.{word_of_open_fault}
 
 -- `K WORD`
 abbrev pub event_line : ℕ → List ℕ → List ℕ
 event_line k word = decimal k ++ (codes " " ++ (word ++ codes "\n"))
+
+-- `open refused KIND`
+abbrev pub refused_line : OpenFault → List ℕ
+refused_line fault = codes "open refused " ++ (word_of_open_fault fault ++ codes "\n")
 
 -- `K pdu HEX`
 abbrev pub pdu_line : ℕ → List ℕ → List ℕ
@@ -18,3 +24,23 @@ pdu_length output =
     if nat_lt (length output) 8 then length output
     else if nat_le 8 (field_at 4 4 output) && nat_le (field_at 4 4 output) (length output)
     then field_at 4 4 output else length output
+
+-- the first PDUs of an output, as many as these at most
+abbrev pub first_pdus : ℕ → List ℕ → List (List ℕ)
+first_pdus zero output = []
+first_pdus (suc n) [] = []
+first_pdus (suc n) (b ∷ bytes) =
+    take (pdu_length (b ∷ bytes)) (b ∷ bytes) ∷ first_pdus n (drop (pdu_length (b ∷ bytes)) (b ∷ bytes))
+
+-- the PDUs that an output is cut into; each has a byte, so there are no more than bytes
+unfoldable pub pdus_of : List ℕ → List (List ℕ)
+pdus_of output = first_pdus (length output) output
+
+-- these PDUs are the output, cut: joined they are all of it, in its order, and each is as long as it says
+pub record AreAllOf (output : List ℕ) (pdus : List (List ℕ)) : Type 0 where
+  pub joined : flat_map (λ pdu. pdu) pdus ≡ output
+  pub sized : All (λ pdu. length pdu ≡ pdu_length pdu) pdus
+
+-- a line for each PDU of an output of connection k, in order
+abbrev pub output_lines : ℕ → List ℕ → List ℕ
+output_lines k output = flat_map (pdu_line k) (pdus_of output)

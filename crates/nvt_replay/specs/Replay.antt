@@ -5,6 +5,8 @@ use Rattle.config_rules.specs.Accept.{accept}
 use Rattle.config_rules.specs.Configuration.{Configuration, are_disks, disks_alone}
 use Rattle.config_text.specs.EditLine.{IsLineOf, line_fault}
 use Rattle.config_text.specs.Lines.{lines_of}
+use Rattle.target_core.specs.Target.{TargetState}
+use Rattle.nvt_replay.specs.Played.{HasNone, PlaysAll}
 use Rattle.nvt_replay.specs.StreamLine.{IsStreamLine}
 use Rattle.nvt_replay.specs.declared.playback.Reply.{Reply}
 use Rattle.nvt_replay.specs.declared.playback.Reply.TheVariants as reply
@@ -42,6 +44,16 @@ pub record IsFirstMalformed (lines : List (List ℕ)) (n : ℕ) : Type 0 where
 abbrev pub AcceptsAll : List ℕ → List ℕ → Type 0
 AcceptsAll edits units =
     (are_disks units ≡ true) × (c : Configuration) × Configures (lines_of edits) (disks_alone units) c
+
+-- a target after the edits, which has no connection yet
+pub record IsConfigured (edits units : List ℕ) (t : TargetState) : Type 0 where
+  pub config : Configures (lines_of edits) (disks_alone units) t.config
+  pub none : HasNone t
+
+-- the edits, and then the lines of the script over the target that they made, print this text
+abbrev pub Replays : List ℕ → List ℕ → List ℕ → List ℕ → Type 0
+Replays edits stream units text =
+    (first : TargetState) × (last : TargetState) × IsConfigured edits units first × PlaysAll (lines_of stream) first text last
 
 -- what each fault says of the edits, the script and the disks
 abbrev pub Explains : ReplayFault → List ℕ → List ℕ → List ℕ → Type 0

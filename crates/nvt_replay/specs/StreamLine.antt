@@ -36,8 +36,8 @@ IsStreamLine line =
     ⊎ ((k : ℕ) × (hex : List ℕ) × Receives line k hex)
     ⊎ ((k : ℕ) × Ends line k)
 
--- what an `rx` line brings is hex digits
-abbrev pub HasDigits : StreamLine → Type 0
-HasDigits (Open port) = Unit {0}
-HasDigits (Receive k hex) = AllPass is_hex_digit hex.now
-HasDigits (End k) = Unit {0}
+-- what an `rx` line brings is pairs of hex digits
+abbrev pub HasHex : StreamLine → Type 0
+HasHex (Open port) = Unit {0}
+HasHex (Receive k hex) = IsHex hex.now
+HasHex (End k) = Unit {0}

@@ -2,6 +2,7 @@
 //! prints depends on its two texts and the sizes of the disks alone.
 #![tactic(auto)]
 
+mod connections;
 pub mod playback;
 mod print;
 mod stream_line;

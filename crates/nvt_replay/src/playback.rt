@@ -1,28 +1,31 @@
 //! A script of connections, run over a target that a file of edits configured.
 
-ghost use Rattle.std.specs.Prelude.{◌≡◌, ◌*◌, IfErr, IfOk, OnOk, All, true, length};
+ghost use Rattle.std.specs.Prelude.{◌≡◌, ◌*◌, ◌==◌, ℕ, IfErr, IfOk, OnOk, All, true, length};
 ghost use Rattle.std.specs.Bool.{OnFalse};
+ghost use Rattle.std.specs.Io.KnownBytes.{Appends};
 ghost use Rattle.std.specs.List.{AllPass};
 ghost use Rattle.hex.specs.Hex.{decode_of, is_hex_digit};
 ghost use Rattle.config_rules.specs.Configuration.{are_disks, disks_alone};
 ghost use Rattle.config_text.specs.Lines.{lines_of};
-ghost use Rattle.nvt_replay.specs.Replay.{AcceptsAll, Configures, EndsScript, Explains};
+ghost use Rattle.number_table.specs.Table.{place};
+ghost use Rattle.target_core.specs.Target.{TargetState};
+ghost use Rattle.nvt_replay.specs.Replay.{AcceptsAll, Configures, EndsScript, Explains, Replays};
 ghost use Rattle.nvt_replay.specs.Replay.{IsBeforeScript, IsOfRun, MakesEdit};
 ghost use Rattle.nvt_replay.specs.Replay.{RefusesEdits, RefusesLines, TakesLine};
-ghost use Rattle.nvt_replay.specs.StreamLine.{HasDigits, IsStreamLine};
+ghost use Rattle.nvt_replay.specs.Played.{ArePrinted, HandsOut, HasNone, Plays, PlaysAll};
+ghost use Rattle.nvt_replay.specs.Played.{PlaysEnd, PlaysOpen, PlaysReceive, Prints, Settles};
+ghost use Rattle.nvt_replay.specs.Played.{connection_lines};
+ghost use Rattle.nvt_replay.specs.StreamLine.{HasHex, IsHex, IsStreamLine};
 
+use crate::connections::{CONNECTIONS, Connections};
 use crate::print::Printer;
 use crate::stream_line::{StreamLine, read_stream_line};
 use config_text::{LineFault, Lines, ReadEditFault, read_edit};
 use nvt_config::{Edit, EditFault, NewFault};
 use std::alloc::{AllocError, Global};
 use std::io::Write;
-use target_core::{OpenFault, StepFault, Stepped, Target};
+use target_core::{OpenFault, Target};
 use thiserror::Error;
-
-const CONNECTIONS: usize = target_core::CONNECTIONS_MAX;
-
-const PIECE: usize = 32_768;
 
 /// Why a replay ends before its end.
 #[derive(Clone, Copy, Debug, PartialEq, Eq, Error)]
@@ -76,6 +79,8 @@ pub fn replay<W: Write>(
         (AcceptsAll edits.now units.now × All IsStreamLine (lines_of stream.now)) }
     ensures disks { OnFalse (are_disks units.now) (result ≡ Err ReplayFault.Disks) }
     ensures fault { IfErr result (λ fault. Explains fault edits.now stream.now units.now) }
+    ensures played { OnOk result (Prints (W.contents out.old) (W.contents out.new)
+        (Replays edits.now stream.now units.now)) }
     ensures unwritten { IfErr result (λ fault. IsBeforeScript fault →
         W.contents out.new ≡ W.contents out.old) }
 {
@@ -90,16 +95,18 @@ fn run<W: Write>(
     stream: &[u8],
     out: &mut W,
 ) -> Result<(), ReplayFault>
+    requires { HasNone target }
     ensures ok { OnOk result (All IsStreamLine (lines_of stream.now)) }
+    ensures played { OnOk result (Prints (W.contents out.old) (W.contents out.new) (λ text.
+        (last : TargetState) × PlaysAll (lines_of stream.now) target text last)) }
     ensures fault { IfErr result (λ fault. EndsScript fault (lines_of stream.now)) }
 {
     let mut playback = Playback {
-        target,
-        known: [false; CONNECTIONS],
-        piece: Vec::new(alloc),
-        printer: Printer::new(alloc, out),
+        connections: Connections::over(target),
+        bytes: Vec::new(alloc),
+        printer: Printer::new(alloc),
     };
-    playback.run(stream)
+    playback.run(stream, out)
 }
 
 // A target of these disks after the edits.
@@ -108,6 +115,7 @@ fn configured(alloc: Global, edits: &[u8], units: &[u64]) -> Result<Target, Repl
     ensures refused { OnFalse (are_disks units.now) (result ≡ Err ReplayFault.Disks) }
     ensures ok { IfOk result (λ target.
         Configures (lines_of edits.now) (disks_alone units.now) target.config) }
+    ensures none { IfOk result HasNone }
     ensures fault { IfErr result (λ fault. RefusesEdits fault edits.now units.now) }
 {
     let mut target = match Target::new(alloc, units) {
@@ -122,6 +130,7 @@ fn configured(alloc: Global, edits: &[u8], units: &[u64]) -> Result<Target, Repl
 // Applies the edits, up to the first line that is refused.
 fn take_edits(alloc: Global, target: &mut Target, edits: &[u8]) -> Result<(), ReplayFault>
     ensures ok { OnOk result (Configures (lines_of edits.now) target.old.config target.new.config) }
+    ensures none { HasNone target.old → HasNone target.new }
     ensures fault { IfErr result (λ fault.
         RefusesLines fault (lines_of edits.now) target.old.config) }
 {
@@ -140,7 +149,8 @@ fn take_edit(
     number: usize,
     line: &[u8],
 ) -> Result<(), ReplayFault>
-    ensures { TakesLine target.old.config line.now number result target.new.config }
+    ensures takes { TakesLine target.old.config line.now number result target.new.config }
+    ensures none { HasNone target.old → HasNone target.new }
 {
     match read_edit(alloc, line) {
         Ok(edit) => make_edit(target, number, &edit),
@@ -154,7 +164,8 @@ fn take_edit(
 
 // Makes the edit that the line of this number says.
 fn make_edit(target: &mut Target, number: usize, edit: &Edit) -> Result<(), ReplayFault>
-    ensures { MakesEdit target.old.config edit.now number result target.new.config }
+    ensures makes { MakesEdit target.old.config edit.now number result target.new.config }
+    ensures none { HasNone target.old → HasNone target.new }
 {
     match target.edit(edit) {
         Ok(()) => Ok(()),
@@ -168,153 +179,148 @@ fn make_edit(target: &mut Target, number: usize, edit: &Edit) -> Result<(), Repl
 
 // A target whose script runs.
 #[derive(Drop)]
-struct Playback<'a, W: Write> {
-    target: Target,
-    // Which connections are known: opened and not given up.
-    known: [bool; CONNECTIONS],
-    // The bytes that a connection is about to receive.
-    piece: Vec<u8>,
-    printer: Printer<'a, W>,
+struct Playback {
+    connections: Connections,
+    // The bytes that a line of the script hands out.
+    bytes: Vec<u8>,
+    printer: Printer,
 }
 
-impl<'a, W: Write> Playback<'a, W> {
+impl Playback {
     // Runs the script, up to the first line that has none of its forms.
-    fn run(&mut self, stream: &[u8]) -> Result<(), ReplayFault>
+    fn run<W: Write>(&mut self, stream: &[u8], out: &mut W) -> Result<(), ReplayFault>
         ensures ok { OnOk result (All IsStreamLine (lines_of stream.now)) }
+        ensures played { OnOk result (Prints (W.contents out.old) (W.contents out.new) (λ text.
+            PlaysAll (lines_of stream.now) self.old.connections text self.new.connections)) }
         ensures fault { IfErr result (λ fault. EndsScript fault (lines_of stream.now)) }
     {
         let mut number = 0;
         for line in Lines::of(stream) {
             number += 1;
             match read_stream_line(line) {
-                Some(line) => self.play(line)?,
+                Some(line) => self.play(line, out)?,
                 None => return Err(ReplayFault::StreamLine { line: number }),
             }
         }
         Ok(())
     }
 
-    fn play(&mut self, line: StreamLine<'_>) -> Result<(), ReplayFault>
-        requires { HasDigits line }
-        ensures { IfErr result IsOfRun }
+    fn play<W: Write>(&mut self, line: StreamLine<'_>, out: &mut W) -> Result<(), ReplayFault>
+        requires { HasHex line }
+        ensures fault { IfErr result IsOfRun }
+        ensures played { OnOk result (Prints (W.contents out.old) (W.contents out.new)
+            (λ text. Plays line self.old.connections text self.new.connections)) }
     {
         match line {
-            StreamLine::Open { port } => self.open(port),
-            StreamLine::Receive { connection, hex } => match self.known_number(connection) {
-                Some(k) => self.receive(k, hex),
-                None => self.printer.event(connection, "none"),
-            },
-            StreamLine::End { connection } => match self.known_number(connection) {
-                Some(k) => {
-                    self.give_up(k);
-                    Ok(())
-                }
-                None => self.printer.event(connection, "none"),
-            },
+            StreamLine::Open { port } => self.open(port, out),
+            StreamLine::Receive { connection, hex } => self.receive(connection, hex, out),
+            StreamLine::End { connection } => self.end(connection, out),
         }
     }
 
-    fn open(&mut self, port: u16) -> Result<(), ReplayFault>
-        ensures { IfErr result IsOfRun }
+    fn open<W: Write>(&mut self, port: u16, out: &mut W) -> Result<(), ReplayFault>
+        ensures fault { IfErr result IsOfRun }
+        ensures played { OnOk result (Prints (W.contents out.old) (W.contents out.new)
+            (λ text. PlaysOpen port self.old.connections text self.new.connections)) }
     {
-        match self.target.open(port) {
-            Ok(k) => {
-                if let Some(known) = self.known.get_mut(k) {
-                    *known = true;
-                }
-                self.printer.event(k as u64, "open")
-            }
+        match self.connections.open(port) {
+            Ok(k) => self.printer.event(out, k as u64, "open"),
             Err(OpenFault::Memory) => Err(ReplayFault::Memory),
-            Err(fault) => self.printer.refused_open(fault),
+            Err(fault) => self.printer.refused_open(out, fault),
         }
+    }
+
+    fn receive<W: Write>(
+        &mut self,
+        connection: u64,
+        hex: &[u8],
+        out: &mut W,
+    ) -> Result<(), ReplayFault>
+        requires { IsHex hex.now }
+        ensures fault { IfErr result IsOfRun }
+        ensures played { OnOk result (Prints (W.contents out.old) (W.contents out.new) (λ text.
+            PlaysReceive connection hex.now self.old.connections text self.new.connections)) }
+    {
+        let k = connection as usize;
+        if !self.connections.is_open(k) {
+            return self.printer.event(out, connection, "none");
+        }
+        self.bytes.resize(hex.len() / 2, 0)?;
+        decode_hex(hex, self.bytes.as_mut_slice());
+        self.hand_out(k, out)
+    }
+
+    fn end<W: Write>(&mut self, connection: u64, out: &mut W) -> Result<(), ReplayFault>
+        ensures fault { IfErr result IsOfRun }
+        ensures played { OnOk result (Prints (W.contents out.old) (W.contents out.new)
+            (λ text. PlaysEnd connection self.old.connections text self.new.connections)) }
+    {
+        let k = connection as usize;
+        if !self.connections.is_open(k) {
+            return self.printer.event(out, connection, "none");
+        }
+        self.connections.end(k);
+        Ok(())
     }
 
     // Hands the bytes out, as many at a time as the connection has room for, and lets all
     // connections step in between. What is left once the connection has ended is dropped.
-    fn receive(&mut self, k: usize, hex: &[u8]) -> Result<(), ReplayFault>
-        requires { AllPass is_hex_digit hex.now }
-        ensures { IfErr result IsOfRun }
+    fn hand_out<W: Write>(&mut self, k: usize, out: &mut W) -> Result<(), ReplayFault>
+        ensures fault { IfErr result IsOfRun }
+        ensures played { OnOk result (Prints (W.contents out.old) (W.contents out.new) (λ text.
+            (n : ℕ) × HandsOut n k self.old.bytes.items self.old.connections text
+                self.new.connections)) }
     {
-        let mut rest = hex;
-        while rest.len() >= 2 {
-            let len = self.target.room(k).min(PIECE).min(rest.len() / 2);
+        let mut rest = self.bytes.as_slice();
+        loop {
+            let len = self.connections.receive(k, rest);
             if len == 0 {
-                break;
+                return Ok(());
             }
-            let (front, after) = rest.split_at(2 * len);
-            self.piece.resize(len, 0)?;
-            decode_hex(front, self.piece.as_mut_slice());
-            if self.target.receive(k, &self.piece).is_err() {
-                break;
-            }
-            rest = after;
-            self.settle()?;
+            rest = &rest[len..];
+            settle(&mut self.connections, &mut self.printer, out)?;
         }
-        Ok(())
     }
+}
 
-    fn give_up(&mut self, k: usize) {
-        self.target.end(k);
-        if let Some(known) = self.known.get_mut(k) {
-            *known = false;
+// Lets all connections step until they are idle, and prints what they owe and which have ended.
+fn settle<W: Write>(
+    connections: &mut Connections,
+    printer: &mut Printer,
+    out: &mut W,
+) -> Result<(), ReplayFault>
+    ensures fault { IfErr result IsOfRun }
+    ensures settled { OnOk result (Prints (W.contents out.old) (W.contents out.new)
+        (λ text. Settles connections.old text connections.new)) }
+{
+    connections.step()?;
+    for k in 0..CONNECTIONS {
+        if connections.is_open(k) {
+            print(connections, k, printer, out)?;
         }
     }
+    Ok(())
+}
 
-    // The connection of that number, if it is known.
-    fn known_number(&self, connection: u64) -> Option<usize> {
-        let k = usize::try_from(connection).ok()?;
-        if self.known.get(k).copied().unwrap_or(false) {
-            Some(k)
-        } else {
-            None
-        }
+// Prints the lines of a connection.
+fn print<W: Write>(
+    connections: &mut Connections,
+    k: usize,
+    printer: &mut Printer,
+    out: &mut W,
+) -> Result<(), ReplayFault>
+    ensures fault { IfErr result IsOfRun }
+    ensures printed { OnOk result (Appends (W.contents out.old) (W.contents out.new)
+        (connection_lines k (place connections.old.connections k))) }
+    ensures left { OnOk result (ArePrinted (λ j. j == k) connections.old connections.new) }
+{
+    printer.pdus(out, k as u64, connections.output(k))?;
+    connections.take_output(k);
+    if connections.is_ended(k) {
+        printer.event(out, k as u64, "closed")?;
+        connections.end(k);
     }
-
-    // Lets all connections step until they are idle, and prints what they owe and which have ended.
-    fn settle(&mut self) -> Result<(), ReplayFault>
-        ensures { IfErr result IsOfRun }
-    {
-        for k in 0..CONNECTIONS {
-            if self.known[k] {
-                self.step(k)?;
-            }
-        }
-        for k in 0..CONNECTIONS {
-            if self.known[k] {
-                self.print(k)?;
-            }
-        }
-        Ok(())
-    }
-
-    // Takes all whole PDUs that the connection has received. Each has a byte, and at most 32,768
-    // bytes are held.
-    fn step(&mut self, k: usize) -> Result<(), ReplayFault>
-        ensures { IfErr result IsOfRun }
-    {
-        for _ in 0..=PIECE {
-            match self.target.step(k) {
-                Ok(Stepped::One) => {}
-                Ok(Stepped::Idle | Stepped::Ended) | Err(StepFault::NoConn) => return Ok(()),
-                Err(StepFault::Memory) => return Err(ReplayFault::Memory),
-            }
-        }
-        Ok(())
-    }
-
-    fn print(&mut self, k: usize) -> Result<(), ReplayFault>
-        ensures { IfErr result IsOfRun }
-    {
-        let output = self.target.output(k);
-        let len = output.len();
-        self.printer.pdus(k as u64, output)?;
-        self.target.taken(k, len);
-        if self.target.ended(k) {
-            self.printer.event(k as u64, "closed")?;
-            self.give_up(k);
-        }
-        Ok(())
-    }
+    Ok(())
 }
 
 // Writes the bytes that pairs of hex digits say into room for as many.

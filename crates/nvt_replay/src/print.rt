@@ -1,11 +1,13 @@
 //! What `replay` prints: a line for each PDU that is sent, and for each connection that is opened,
 //! ended by the target or not known.
 
-ghost use Rattle.std.specs.Prelude.{◌≡◌, ◌<◌, ◌≤◌, ◌∷◌, ◌++◌, [], length};
+ghost use Rattle.std.specs.Prelude.{◌≡◌, ◌≢◌, ◌<◌, ◌≤◌, ◌∷◌, ◌++◌, [], length};
 ghost use Rattle.std.specs.Prelude.{IfErr, IfSome, OnOk, is_ok};
 ghost use Rattle.std.specs.Io.KnownBytes.{Appends};
+ghost use Rattle.std.specs.IoError.{error_kind};
 ghost use Rattle.hex.specs.Hex.{encode_lower};
-ghost use Rattle.nvt_replay.specs.Printed.{event_line, pdu_length, pdu_line};
+ghost use Rattle.nvt_replay.specs.Printed.{AreAllOf, event_line, output_lines, pdu_length};
+ghost use Rattle.nvt_replay.specs.Printed.{pdu_line, pdus_of, refused_line};
 ghost use Rattle.nvt_replay.specs.Replay.{IsOfRun};
 
 use crate::playback::ReplayFault;
@@ -13,83 +15,114 @@ use nvt_fields::u32_at;
 use std::alloc::{AllocError, Global};
 use std::fmt::Display;
 use std::io::{self, ErrorKind, Write};
+use target_core::OpenFault;
 
 const COMMON_HEADER: usize = 8;
 
 const PLEN: usize = 4;
 
-/// Prints to a writer, each line by one call.
+/// Prints lines, each by one call of a writer.
 #[derive(Drop)]
-pub struct Printer<'a, W: Write> {
-    out: &'a mut W,
+pub struct Printer {
     // The line that is made.
     line: Vec<u8>,
 }
 
-impl<'a, W: Write> Printer<'a, W> {
-    pub fn new(alloc: Global, out: &'a mut W) -> Printer<'a, W> {
+impl Printer {
+    pub fn new(alloc: Global) -> Printer {
         Printer {
-            out,
             line: Vec::new(alloc),
         }
     }
 
     /// Prints `K WORD`.
-    pub fn event(&mut self, connection: u64, word: &str) -> Result<(), ReplayFault>
+    pub fn event<W: Write>(
+        &mut self,
+        out: &mut W,
+        connection: u64,
+        word: &str,
+    ) -> Result<(), ReplayFault>
         ensures fault { IfErr result IsOfRun }
-        ensures printed { OnOk result (Appends (W.contents self.old.out.now)
-            (W.contents self.new.out.now) (event_line connection word.now)) }
+        ensures printed { OnOk result (Appends (W.contents out.old) (W.contents out.new)
+            (event_line connection word.now)) }
     {
-        self.text(format_args!("{connection} {word}\n"))
+        self.text(out, format_args!("{connection} {word}\n"))
     }
 
-    /// Prints `open REPLY`.
-    pub fn refused_open(&mut self, reply: impl Display + Drop) -> Result<(), ReplayFault>
-        ensures { IfErr result IsOfRun }
+    /// Prints `open refused KIND`.
+    pub fn refused_open<W: Write>(
+        &mut self,
+        out: &mut W,
+        fault: OpenFault,
+    ) -> Result<(), ReplayFault>
+        ensures fault { IfErr result IsOfRun }
+        ensures printed { OnOk result (Appends (W.contents out.old) (W.contents out.new)
+            (refused_line fault)) }
     {
-        self.text(format_args!("open refused {reply}\n"))
+        self.text(out, format_args!("open refused {fault}\n"))
     }
 
     /// Prints `K pdu HEX` for each PDU of some output of connection K.
-    pub fn pdus(&mut self, connection: u64, output: &[u8]) -> Result<(), ReplayFault>
-        ensures { IfErr result IsOfRun }
+    pub fn pdus<W: Write>(
+        &mut self,
+        out: &mut W,
+        connection: u64,
+        output: &[u8],
+    ) -> Result<(), ReplayFault>
+        ensures fault { IfErr result IsOfRun }
+        ensures printed { OnOk result (Appends (W.contents out.old) (W.contents out.new)
+            (output_lines connection output.now)) }
+        ensures cut { AreAllOf output.now (pdus_of output.now) }
     {
         let mut rest = output;
         while !rest.is_empty() {
             let (pdu, after) = rest.split_at(pdu_len(rest));
-            self.pdu(connection, pdu)?;
+            self.pdu(out, connection, pdu)?;
             rest = after;
         }
         Ok(())
     }
 
-    fn pdu(&mut self, connection: u64, pdu: &[u8]) -> Result<(), ReplayFault>
+    fn pdu<W: Write>(
+        &mut self,
+        out: &mut W,
+        connection: u64,
+        pdu: &[u8],
+    ) -> Result<(), ReplayFault>
         ensures fault { IfErr result IsOfRun }
-        ensures printed { OnOk result (Appends (W.contents self.old.out.now)
-            (W.contents self.new.out.now) (pdu_line connection pdu.now)) }
+        ensures printed { OnOk result (Appends (W.contents out.old) (W.contents out.new)
+            (pdu_line connection pdu.now)) }
     {
         self.line.clear();
         written(write!(self.line, "{connection} pdu "))?;
         push_hex(&mut self.line, pdu)?;
         push_line_end(&mut self.line)?;
-        written(self.out.write_all(&self.line))
+        written(out.write_all(&self.line))
     }
 
-    fn text<D: Display + Drop>(&mut self, text: D) -> Result<(), ReplayFault>
+    fn text<W: Write, D: Display + Drop>(
+        &mut self,
+        out: &mut W,
+        text: D,
+    ) -> Result<(), ReplayFault>
         ensures fault { IfErr result IsOfRun }
         ensures printed { OnOk result (IfSome (D.output text)
-            (Appends (W.contents self.old.out.now) (W.contents self.new.out.now))) }
+            (Appends (W.contents out.old) (W.contents out.new))) }
     {
         self.line.clear();
         written(write!(self.line, "{text}"))?;
-        written(self.out.write_all(&self.line))
+        written(out.write_all(&self.line))
     }
 }
 
-/// What a write answers, as the fault of a replay.
+/// What a write answers, as the fault of a replay: want of memory, or any other.
 pub fn written(outcome: io::Result<()>) -> Result<(), ReplayFault>
     ensures fault { IfErr result IsOfRun }
     ensures variant { is_ok result ≡ is_ok outcome }
+    ensures memory { IfErr outcome (λ error. error_kind error ≡ ErrorKind.OutOfMemory →
+        result ≡ Err ReplayFault.Memory) }
+    ensures io { IfErr outcome (λ error. error_kind error ≢ ErrorKind.OutOfMemory →
+        result ≡ Err ReplayFault.Io) }
 {
     match outcome {
         Ok(()) => Ok(()),

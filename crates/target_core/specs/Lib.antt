@@ -1,5 +1,6 @@
 pub mod Agreement
 pub mod Connection
+pub mod Fault
 pub mod Moves
 pub mod Target
 pub mod Views

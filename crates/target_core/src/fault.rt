@@ -1,4 +1,9 @@
 //! What the calls of a target answer.
+ghost use Rattle.std.specs.Prelude.{Some};
+ghost use Rattle.target_core.specs.Fault.{word_of_open_fault};
+
+use std::error;
+use std::fmt;
 use thiserror::Error;
 
 /// What a step did.
@@ -18,16 +23,27 @@ pub enum Stepped {
 pub struct NoConn;
 
 /// Why a connection is not opened, in the order of the answers.
-#[derive(Clone, Copy, Debug, PartialEq, Eq, Error)]
+#[derive(Clone, Copy, Debug, PartialEq, Eq)]
 pub enum OpenFault {
-    #[error("NoSuchPort")]
     NoSuchPort,
     /// As many connections are known as there may be.
-    #[error("Full")]
     Full,
-    #[error("Memory")]
     Memory,
 }
+
+impl fmt::Display for OpenFault {
+    ghost output = { λ fault. Some (word_of_open_fault fault) };
+
+    fn fmt<W: fmt::Write>(&self, f: &mut fmt::Formatter<W>) -> fmt::Result {
+        f.write_str(match self {
+            OpenFault::NoSuchPort => "NoSuchPort",
+            OpenFault::Full => "Full",
+            OpenFault::Memory => "Memory",
+        })
+    }
+}
+
+impl error::Error for OpenFault {}
 
 /// Why a step is not made, in the order of the answers. Nothing is consumed.
 #[derive(Clone, Copy, Debug, PartialEq, Eq, Error)]

@@ -1,5 +1,5 @@
 //! The target: a configuration and the connections that hosts made.
-ghost use Rattle.std.specs.Prelude.{◌≡◌, ◌≤◌, IfOk, IfErr, IsOkUnless, OnErr, OnOk, MatchOption, Some, None, [], drop, length, replicate};
+ghost use Rattle.std.specs.Prelude.{◌≡◌, ◌<◌, ◌≤◌, IfOk, IfErr, IsOkUnless, OnErr, OnOk, MatchOption, Some, None, [], drop, length, replicate};
 ghost use Rattle.std.specs.Bool.{OnFalse, OnTrue};
 ghost use Rattle.std.specs.Option.{option_copied};
 ghost use Rattle.number_table.specs.Table.{place};
@@ -11,7 +11,7 @@ ghost use Rattle.target_core.specs.Connection.{acted};
 ghost use Rattle.target_core.specs.Moves.{ActedAt, CanConsume, Moves, StepsAt, stepped_by};
 ghost use Rattle.target_decision.specs.Decision.{decide, head_of, host_in, is_end};
 ghost use Rattle.target_decision.specs.Session.{NamesHost};
-ghost use Rattle.target_decision.specs.World.{pages_in};
+ghost use Rattle.target_decision.specs.World.{connections_max, pages_in};
 ghost use Rattle.target_core.specs.Target.{free_number, is_ended_at, is_incomplete, open_fault, output_at, room_at, without_connection, world_of, IsNewTarget, ReceivesAt, TakenAt};
 ghost use Rattle.target_history.specs.Event.{edited, given_up, opened};
 
@@ -104,6 +104,7 @@ impl Target {
             (IsOkUnless result OpenFault.Memory) (λ fault. result ≡ Err fault) }
         ensures opened { IfOk result (λ k.
             (free_number self.old ≡ Some k) × Moves (opened port k) self.old self.new) }
+        ensures number { IfOk result (λ k. k < connections_max) }
         ensures err { OnErr result (self.new ≡ self.old) }
         ensures agrees { OpenAgrees port self.old result self.new }
     {
@@ -223,6 +224,7 @@ impl Target {
             (IsOkUnless result OpenFault.Memory) (λ fault. result ≡ Err fault) }
         ensures opened { IfOk result (λ k.
             (free_number self.old ≡ Some k) × Moves (opened port k) self.old self.new) }
+        ensures number { IfOk result (λ k. k < connections_max) }
         ensures err { OnErr result (self.new ≡ self.old) }
     {
         if self.config.port(port).is_none() {

@@ -1,0 +1,95 @@
+-- Which connections are open, through the calls of a target.
+use Rattle.std.proofs.Common.{◌≡◌, ◌⊎◌, ℕ, zero, suc, ◌<◌, ◌≤◌, Bool, true, false, List, length, replicate, set, get_or, drop, Option, Some, None, is_some, refl, sym, ap, ◌∙◌, inl, inr, arith, length-set}
+use Rattle.std.specs.Prelude.{◌==◌, if◌then◌else◌}
+use Rattle.std.specs.Option.{option_map}
+use Rattle.std.proofs.lemmas.Bool.{cases_eq, cases_lt, eqb-true}
+use Rattle.std.proofs.lemmas.Bool.Decides.{nat_tests}
+use Rattle.std.proofs.lemmas.List.{get_or_past, get_or-replicate, get_or-set_other, get_or-set_same, length-replicate}
+use Rattle.number_table.specs.Table.{place}
+use Rattle.number_table.proofs.Tables.{place-with_value_held, place-without}
+use Rattle.pdu_cut.specs.Front.{Front}
+use Rattle.target_core.specs.Connection.{ConnectionState, fresh_on}
+use Rattle.target_core.specs.Moves.{Moves, connection_moved}
+use Rattle.target_core.specs.Target.{TakenAt, TargetState, meets, without_connection}
+use Rattle.target_history.specs.Event.{opened, stepped}
+use Rattle.target_history.specs.Happening.{Happening}
+use Rattle.nvt_replay.specs.Played.{HasNone}
+
+-- these are the marks of the connections that are known
+abbrev pub AreMarks : List Bool → TargetState → Type 0
+AreMarks marks t = (k : ℕ) → get_or marks k false ≡ is_some (place t.connections k)
+
+unmarked : (n k : ℕ) → get_or (replicate n false) k false ≡ false
+unmarked n k = by (cases_lt k n) where
+  by : (k < n) ⊎ (n ≤ k) → get_or (replicate n false) k false ≡ false
+  by (inl within) = get_or-replicate n k false false within
+  by (inr past) = get_or_past (replicate n false) k false (omega (arith, length-replicate {A = Bool} n false))
+
+pub none_marked : (n : ℕ) (t : TargetState) → HasNone t → AreMarks (replicate n false) t
+none_marked n t none = λ k. unmarked n k ∙ sym (ap is_some (none k))
+
+-- what the marks are after one is written
+marked : (marks : List Bool) (k : ℕ) (b : Bool) (j : ℕ) → get_or (set marks k b) k false ≡ b
+    → get_or (set marks k b) j false ≡ (if j == k then b else get_or marks j false)
+marked marks k b j here =
+    elim (cases_eq j k) [
+      | inl same ↦
+          let equal : (j == k) ≡ true = grind (arith, nat_tests) in
+          rw equal (ap (λ i. get_or (set marks k b) i false) same ∙ here)
+      | inr differs ↦
+          let unequal : (j == k) ≡ false = grind (arith, nat_tests) in
+          rw unequal (get_or-set_other marks k j b false differs)
+    ]
+
+stays_known : (x : Happening) (k : ℕ) (o : Option ConnectionState) → is_some (option_map (connection_moved x k) o) ≡ is_some o
+stays_known x k None = refl
+stays_known x k (Some c) = refl
+
+opened_at : (x : Happening) (port j : ℕ) (o : Option ConnectionState) (mark same : Bool) → mark ≡ is_some o
+    → (if same then true else mark) ≡ is_some (if same then Some (fresh_on port) else option_map (connection_moved x j) o)
+opened_at x port j o mark true is = refl
+opened_at x port j o mark false is = is ∙ sym (stays_known x j o)
+
+pub opened_marked : (old new : TargetState) (port k : ℕ) (marks : List Bool) → k < length marks → AreMarks marks old
+    → Moves (opened port k) old new → AreMarks (set marks k true) new
+opened_marked old new port k marks within are moves = λ j.
+    marked marks k true j (get_or-set_same marks k true false within)
+    ∙ opened_at (meets old (opened port k)) port j (place old.connections j) (get_or marks j false) (j == k) (are j)
+    ∙ sym (ap is_some (moves.connection j))
+
+pub stepped_marked : (old new : TargetState) (k : ℕ) (found : Front) (marks : List Bool) → AreMarks marks old
+    → Moves (stepped k found) old new → AreMarks marks new
+stepped_marked old new k found marks are moves = λ j.
+    are j ∙ sym (stays_known (meets old (stepped k found)) j (place old.connections j)) ∙ sym (ap is_some (moves.connection j))
+
+written_at : (same : Bool) (c d : ConnectionState) (o : Option ConnectionState) → (same ≡ true → o ≡ Some c)
+    → is_some o ≡ is_some (if same then Some d else o)
+written_at true c d o known = ap is_some (known refl)
+written_at false c d o known = refl
+
+taken_at : (old new : TargetState) (k len : ℕ) (o : Option ConnectionState) (marks : List Bool) → place old.connections k ≡ o
+    → TakenAt k o old len new → AreMarks marks old → AreMarks marks new
+taken_at old new k len None marks known takes are = rw takes are
+taken_at old new k len (Some c) marks known takes are = rw takes (λ j.
+    let after : ConnectionState = record { conversation = c.conversation; output = drop len c.output } in
+    are j
+    ∙ written_at (j == k) c after (place old.connections j) (λ is. ap (place old.connections) (eqb-true j k is) ∙ known)
+    ∙ sym (ap is_some (place-with_value_held old.connections k after j c known)))
+
+pub taken_marked : (old new : TargetState) (k len : ℕ) (marks : List Bool) → TakenAt k (place old.connections k) old len new
+    → AreMarks marks old → AreMarks marks new
+taken_marked old new k len marks takes are = taken_at old new k len (place old.connections k) marks refl takes are
+
+ended_at : (same mark : Bool) (o : Option ConnectionState) → mark ≡ is_some o → (if same then false else mark) ≡ is_some (if same then None else o)
+ended_at true mark o is = refl
+ended_at false mark o is = is
+
+pub ended_marked : (t : TargetState) (k : ℕ) (marks : List Bool) → AreMarks marks t → AreMarks (set marks k false) (without_connection t k)
+ended_marked t k marks are = λ j.
+    marked marks k false j (emptied (cases_lt k (length marks)))
+    ∙ ended_at (j == k) (get_or marks j false) (place t.connections j) (are j)
+    ∙ sym (ap is_some (place-without t.connections k j))
+  where
+    emptied : (k < length marks) ⊎ (length marks ≤ k) → get_or (set marks k false) k false ≡ false
+    emptied (inl within) = get_or-set_same marks k false false within
+    emptied (inr past) = get_or_past (set marks k false) k false (omega (arith, length-set marks k false))

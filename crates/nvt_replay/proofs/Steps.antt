@@ -1,0 +1,182 @@
+-- How a connection steps until it is idle.
+use Rattle.std.proofs.Common.{◌≡◌, ℕ, suc, ◌+◌, ◌<◌, ◌≤◌, Bool, true, false, List, length, drop, Option, Some, None, is_some, Result, Ok, Err, refl, sym, ap, ◌∙◌, arith, length-drop, add-one, true≢false, subst}
+use Rattle.std.specs.Prelude.{◌==◌, ◌||◌, if◌then◌else◌}
+use Rattle.std.specs.Option.{option_map}
+use Rattle.std.proofs.lemmas.Bool.Decides.{nat_tests}
+use Rattle.number_table.specs.Table.{place}
+use Rattle.pdu_cut.specs.declared.side.Side.TheVariants.{Target}
+use Rattle.pdu_cut.specs.Front.{Front, incomplete, whole, faulty, front}
+use Rattle.pdu_cut.proofs.Fronts.{front_whole}
+use Rattle.pdu_cut.proofs.Headers.{eight_within}
+use Rattle.target_core.specs.declared.fault.StepFault.{StepFault}
+use Rattle.target_core.specs.declared.fault.StepFault.TheVariants.{NoConn, Memory}
+use Rattle.target_core.specs.declared.fault.Stepped.{Stepped}
+use Rattle.target_core.specs.declared.fault.Stepped.TheVariants.{Idle, One, Ended}
+use Rattle.target_core.specs.Agreement.{front_of}
+use Rattle.target_core.specs.Connection.{ConnectionState}
+use Rattle.target_core.specs.Moves.{Moves, StepsAt, connection_moved, stream_moved}
+use Rattle.target_core.specs.Target.{TargetState, is_ended_at, is_idle, is_incomplete, meets}
+use Rattle.target_decision.specs.declared.decision.Decision.{Decision}
+use Rattle.target_decision.specs.declared.session.Session.{Session}
+use Rattle.target_decision.specs.declared.session.Session.TheVariants as session
+use Rattle.target_decision.specs.Decision.{consumed_of, host_in, terminate}
+use Rattle.target_decision.specs.Session.{is_ended, session_after}
+use Rattle.target_history.specs.Ending.{ending_in, ends_by}
+use Rattle.target_history.specs.Event.{stepped}
+use Rattle.target_history.specs.Happening.{decided, session_decided}
+use Rattle.nvt_replay.specs.Played.{StepBelow, Steps, StepsUntilIdle, is_idle_at}
+
+-- what a connection may still consume: nothing once it is ended
+abbrev left_in : Option (List ℕ) → Option ConnectionState → ℕ
+left_in None o = 0
+left_in (Some held) None = 0
+left_in (Some held) (Some c) = if is_ended c.conversation.session then 0 else suc (length held)
+
+abbrev pub left_at : TargetState → ℕ → ℕ
+left_at t k = left_in (place t.streams k) (place t.connections k)
+
+-- ---- a step that is none
+
+idle_at : (k : ℕ) (s : Option (List ℕ)) (o : Option ConnectionState) (old new : TargetState) → StepsAt k s o old (Ok Idle) new
+    → (is_idle_at s o ≡ true) × (new ≡ old)
+idle_at k None o old new h = cc
+idle_at k (Some held) None old new h = cc
+idle_at k (Some held) (Some c) old new h = h
+
+unknown_at : (k : ℕ) (s : Option (List ℕ)) (o : Option ConnectionState) (old new : TargetState) → StepsAt k s o old (Err NoConn) new
+    → (is_idle_at s o ≡ true) × (new ≡ old)
+unknown_at k None o old new h = (refl, h.1)
+unknown_at k (Some held) None old new h = (refl, h.1)
+unknown_at k (Some held) (Some c) old new h = cc
+
+no_step : (k : ℕ) (old new : TargetState) → (is_idle_at (place old.streams k) (place old.connections k) ≡ true) × (new ≡ old) → StepsUntilIdle k old new
+no_step k old new h = record { number = 0; steps = h.1; idle = rw h.1 h.0 }
+
+pub idle_already : (k : ℕ) (old new : TargetState) → StepsAt k (place old.streams k) (place old.connections k) old (Ok Idle) new → StepsUntilIdle k old new
+idle_already k old new h = no_step k old new (idle_at k (place old.streams k) (place old.connections k) old new h)
+
+pub unknown_already : (k : ℕ) (old new : TargetState) → StepsAt k (place old.streams k) (place old.connections k) old (Err NoConn) new → StepsUntilIdle k old new
+unknown_already k old new h = no_step k old new (unknown_at k (place old.streams k) (place old.connections k) old new h)
+
+-- a connection that is not known is idle
+none_steps : (k : ℕ) (t : TargetState) → place t.connections k ≡ None → StepsUntilIdle k t t
+none_steps k t none = no_step k t t (rw none (by (place t.streams k)), refl) where
+  by : (s : Option (List ℕ)) → is_idle_at s None ≡ true
+  by None = refl
+  by (Some held) = refl
+
+none_is : {T : Type 0} (o : Option T) → is_some o ≡ false → o ≡ None
+none_is None h = refl
+none_is (Some x) h = cc
+
+pub unknown_steps : (k : ℕ) (t : TargetState) → is_some (place t.connections k) ≡ false → StepsUntilIdle k t t
+unknown_steps k t not = none_steps k t (none_is (place t.connections k) not)
+
+-- ---- a step
+
+pub steps_more : (k : ℕ) (old mid last : TargetState) → Moves (stepped k (front_of (place old.streams k))) old mid → StepsUntilIdle k mid last → StepsUntilIdle k old last
+steps_more k old mid last moves more = record { number = suc more.number; steps = (mid, moves, more.steps); idle = more.idle }
+
+abbrev is_whole : Front → Bool
+is_whole incomplete = false
+is_whole (whole pdu) = true
+is_whole (faulty fault head) = false
+
+neither : (a b : Bool) → (a || b) ≡ false → (a ≡ false) × (b ≡ false)
+neither true b h = cc
+neither false b h = (refl, h)
+
+-- a step that finds a fault ends the connection
+decided_end : (t : TargetState) (k : ℕ) (c : ConnectionState) (found : Front) → (k == k) ≡ true → place t.connections k ≡ Some c
+    → is_ended c.conversation.session ≡ false → is_whole found ≡ false → is_incomplete found ≡ false
+    → (d : Decision) × (decided (meets t (stepped k found)) k ≡ Some d) × ((s : Session) (host : List ℕ) → is_ended (session_after s d host) ≡ true)
+decided_end t k c incomplete same known lasts not here = absurd (true≢false here)
+decided_end t k c (whole pdu) same known lasts not here = absurd (true≢false not)
+decided_end t k c (faulty fault head) same known lasts not here = (terminate fault.fes fault.fei, rw (same, known, lasts) refl, λ s host. refl)
+
+ends_there : (by_others : Bool) (s : Session) (o : Option Decision) (d : Decision) (found : Front) → o ≡ Some d
+    → ((before : Session) (host : List ℕ) → is_ended (session_after before d host) ≡ true)
+    → is_ended (if by_others then session.Ended else session_decided s o found) ≡ true
+ends_there true s o d found decides ends = refl
+ends_there false s o d found decides ends = rw decides (ends s (host_in found))
+
+faulty_ends : (t : TargetState) (k : ℕ) (c : ConnectionState) (found : Front) → (k == k) ≡ true → place t.connections k ≡ Some c
+    → is_ended c.conversation.session ≡ false → is_whole found ≡ false → is_incomplete found ≡ false
+    → is_ended (connection_moved (meets t (stepped k found)) k c).conversation.session ≡ true
+faulty_ends t k c found same known lasts not here =
+    let x = meets t (stepped k found) in
+    let d = decided_end t k c found same known lasts not here in
+    ends_there (ends_by (ending_in x.event) c.conversation) c.conversation.session (decided x k) d.0 found d.1 d.2
+
+shorter : (ended : Bool) (len held : ℕ) → len < held → (if ended then 0 else suc len) < suc held
+shorter true len held h = omega arith
+shorter false len held h = omega arith
+
+none_left : (ended : Bool) (len held : ℕ) → ended ≡ true → (if ended then 0 else suc len) < suc held
+none_left true len held h = omega arith
+none_left false len held h = cc
+
+-- a step consumes a PDU, or ends the connection
+consumes_or_ends : (t : TargetState) (k : ℕ) (held : List ℕ) (c : ConnectionState) (found : Front) → (k == k) ≡ true
+    → place t.connections k ≡ Some c → is_ended c.conversation.session ≡ false → is_incomplete found ≡ false → front Target held ≡ found
+    → (if is_ended (connection_moved (meets t (stepped k found)) k c).conversation.session then 0 else suc (length (drop (consumed_of found) held)))
+    < suc (length held)
+consumes_or_ends t k held c incomplete same known lasts here stands = absurd (true≢false here)
+consumes_or_ends t k held c (whole pdu) same known lasts here stands =
+    let begins = front_whole Target held pdu stands in
+    let eight = eight_within Target pdu begins.is_pdu in
+    shorter (is_ended (connection_moved (meets t (stepped k (whole pdu))) k c).conversation.session) (length (drop (length pdu.bytes) held)) (length held)
+    (omega (arith, length-drop (length pdu.bytes) held, eight, begins.within))
+consumes_or_ends t k held c (faulty fault head) same known lasts here stands =
+    none_left (is_ended (connection_moved (meets t (stepped k (faulty fault head))) k c).conversation.session) (length held) (length held)
+    (faulty_ends t k c (faulty fault head) same known lasts refl refl)
+
+-- a step that is not idle: what it moves, and that less is left
+pub record StepsOnce (k : ℕ) (old new : TargetState) : Type 0 where
+  pub moves : Moves (stepped k (front_of (place old.streams k))) old new
+  pub less : left_at new k < left_at old k
+
+left_is : (t : TargetState) (k : ℕ) (held : List ℕ) (c : ConnectionState) → place t.streams k ≡ Some held → place t.connections k ≡ Some c
+    → left_at t k ≡ (if is_ended c.conversation.session then 0 else suc (length held))
+left_is t k held c stream known = rw (stream, known) refl
+
+step_by : (k : ℕ) (held : List ℕ) (c : ConnectionState) (old new : TargetState) → place old.streams k ≡ Some held → place old.connections k ≡ Some c
+    → is_idle held c ≡ false → Moves (stepped k (front Target held)) old new → StepsOnce k old new
+step_by k held c old new stream known busy moves =
+    let found = front Target held in
+    let same : (k == k) ≡ true = grind (arith, nat_tests) in
+    let lasts = neither (is_ended c.conversation.session) (is_incomplete found) busy in
+    let after = connection_moved (meets old (stepped k found)) k c in
+    let connection : place new.connections k ≡ Some after = moves.connection k ∙ ap (option_map (connection_moved (meets old (stepped k found)) k)) known in
+    let held_after : place new.streams k ≡ Some (drop (consumed_of found) held) =
+    moves.stream k ∙ ap (option_map (stream_moved (stepped k found) k)) stream ∙ ap (λ b. Some (if b then drop (consumed_of found) held else held)) same in
+    let before : left_at old k ≡ suc (length held) = left_is old k held c stream known ∙ ap (λ b. if b then 0 else suc (length held)) lasts.0 in
+    record {
+      moves = rw stream moves;
+      less = subst (λ n. n < left_at old k) (sym (left_is new k (drop (consumed_of found) held) after held_after connection))
+          (subst (λ n. (if is_ended after.conversation.session then 0 else suc (length (drop (consumed_of found) held))) < n) (sym before)
+          (consumes_or_ends old k held c found same known lasts.0 lasts.1 refl));
+    }
+
+steps_by : (k : ℕ) (s : Option (List ℕ)) (o : Option ConnectionState) (old new : TargetState) → place old.streams k ≡ s → place old.connections k ≡ o
+    → (StepsAt k s o old (Ok One) new → StepsOnce k old new) × (StepsAt k s o old (Ok Ended) new → StepsOnce k old new)
+steps_by k None o old new stream known = (λ h. cc, λ h. cc)
+steps_by k (Some held) None old new stream known = (λ h. cc, λ h. cc)
+steps_by k (Some held) (Some c) old new stream known =
+    (λ h. step_by k held c old new stream known h.0 h.1, λ h. step_by k held c old new stream known h.0 h.1)
+
+pub one_steps : (k : ℕ) (old new : TargetState) → StepsAt k (place old.streams k) (place old.connections k) old (Ok One) new → StepsOnce k old new
+one_steps k old new h = (steps_by k (place old.streams k) (place old.connections k) old new refl refl).0 h
+
+pub ended_steps : (k : ℕ) (old new : TargetState) → StepsAt k (place old.streams k) (place old.connections k) old (Ok Ended) new → StepsOnce k old new
+ended_steps k old new h = (steps_by k (place old.streams k) (place old.connections k) old new refl refl).1 h
+
+-- ---- all connections
+
+pub below_none : (t : TargetState) → StepBelow 0 t t
+unfolding StepBelow
+below_none t = refl
+
+pub below_more : (k : ℕ) (old mid new : TargetState) → StepBelow k old mid → StepsUntilIdle k mid new → StepBelow (k + 1) old new
+unfolding StepBelow
+below_more k old mid new before here = rw add-one (mid, before, here)

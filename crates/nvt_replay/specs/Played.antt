@@ -1,0 +1,152 @@
+-- What a replay makes of a target, line by line, and what it prints of it.
+use Rattle.std.specs.Prelude.{◌≡◌, ℕ, zero, suc, ◌<◌, ◌==◌, ◌&&◌, ◌⊎◌, Bool, true, false, nat_lt, List, [], ◌∷◌, ◌++◌, length, take, drop, min, codes, Option, Some, None, is_none, MatchOption, Ok, if◌then◌else◌}
+use Rattle.std.specs.Io.KnownBytes.{Appends}
+use Rattle.hex.specs.Hex.{decode_of}
+use Rattle.number_table.specs.Table.{place}
+use Rattle.target_core.specs.declared.fault.OpenFault.{OpenFault}
+use Rattle.target_core.specs.Agreement.{front_of}
+use Rattle.target_core.specs.Connection.{ConnectionState}
+use Rattle.target_core.specs.Moves.{Moves}
+use Rattle.target_core.specs.Target.{TargetState, free_number, is_ended_at, is_idle, open_fault, room_at, with_connection, with_stream, without_connection}
+use Rattle.target_decision.specs.Session.{is_ended}
+use Rattle.target_decision.specs.World.{connections_max}
+use Rattle.target_history.specs.Event.{opened, stepped}
+use Rattle.nvt_replay.specs.declared.stream_line.StreamLine.{StreamLine}
+use Rattle.nvt_replay.specs.declared.stream_line.StreamLine.TheVariants as line
+use Rattle.nvt_replay.specs.Printed.{event_line, output_lines, refused_line}
+use Rattle.nvt_replay.specs.StreamLine.{Says}
+
+-- a writer's known bytes grew by some text of which this holds
+abbrev pub Prints : Option (List ℕ) → Option (List ℕ) → (List ℕ → Type 0) → Type 0
+Prints old new P = (text : List ℕ) × Appends old new text × P text
+
+-- no connection is open
+abbrev pub HasNone : TargetState → Type 0
+HasNone t = (k : ℕ) → place t.connections k ≡ None
+
+-- ---- the bytes of an `rx`
+
+-- how many of these bytes connection k has room for
+abbrev pub number_taken : ℕ → List ℕ → TargetState → ℕ
+number_taken k bytes t = min (room_at (place t.streams k) (place t.connections k)) (length bytes)
+
+abbrev pub given : ℕ → Option (List ℕ) → Option ConnectionState → List ℕ → TargetState → TargetState
+given k None o bytes t = t
+given k (Some held) None bytes t = t
+given k (Some held) (Some c) bytes t = with_stream t k (held ++ bytes)
+
+-- connection k received these bytes, behind those that it held
+abbrev pub Receives : ℕ → List ℕ → TargetState → TargetState → Type 0
+Receives k bytes old new = new ≡ given k (place old.streams k) (place old.connections k) bytes old
+
+-- ---- the steps in between
+
+-- whether a step of a connection has nothing to do
+abbrev pub is_idle_at : Option (List ℕ) → Option ConnectionState → Bool
+is_idle_at None o = true
+is_idle_at (Some held) None = true
+is_idle_at (Some held) (Some c) = is_idle held c
+
+-- n steps of connection k, one after the other
+abbrev pub Steps : ℕ → ℕ → TargetState → TargetState → Type 0
+Steps zero k old new = new ≡ old
+Steps (suc n) k old new =
+    (mid : TargetState) × Moves (stepped k (front_of (place old.streams k))) old mid × Steps n k mid new
+
+-- connection k steps until it is idle
+pub record StepsUntilIdle (k : ℕ) (old new : TargetState) : Type 0 where
+  pub number : ℕ
+  pub steps : Steps number k old new
+  pub idle : is_idle_at (place new.streams k) (place new.connections k) ≡ true
+
+-- the connections below n step until each is idle, one after the other, in rising number
+unfoldable pub StepBelow : ℕ → TargetState → TargetState → Type 0
+StepBelow zero old new = new ≡ old
+StepBelow (suc k) old new = (mid : TargetState) × StepBelow k old mid × StepsUntilIdle k mid new
+
+-- ---- what the target owes, and the connections that it ended
+
+-- the lines of a connection: those of its output, and that it is closed where the target ended it
+abbrev pub connection_lines : ℕ → Option ConnectionState → List ℕ
+connection_lines k None = []
+connection_lines k (Some c) =
+    output_lines k c.output ++ (if is_ended c.conversation.session then event_line k (codes "closed") else [])
+
+-- what is left of it when they are printed: nothing where it is closed, and else it has nothing to send
+abbrev pub printed_out : Option ConnectionState → Option ConnectionState
+printed_out None = None
+printed_out (Some c) =
+    if is_ended c.conversation.session then None
+    else Some (record { conversation = c.conversation; output = [] })
+
+-- all that a connection has to send is taken
+abbrev pub TakesOutput : ℕ → Option ConnectionState → TargetState → TargetState → Type 0
+TakesOutput k None old new = new ≡ old
+TakesOutput k (Some c) old new = new ≡ with_connection old k (record { conversation = c.conversation; output = [] })
+
+-- the lines of the connections below n, in rising number
+unfoldable pub lines_below : ℕ → TargetState → List ℕ
+lines_below zero t = []
+lines_below (suc k) t = lines_below k t ++ connection_lines k (place t.connections k)
+
+-- the lines of these connections are printed: their output was taken, those that are closed were given up,
+-- and nothing else changed
+pub record ArePrinted (these : ℕ → Bool) (old new : TargetState) : Type 0 where
+  pub config : new.config ≡ old.config
+  pub shown : new.shown ≡ old.shown
+  pub connection : (k : ℕ) → place new.connections k
+      ≡ (if these k then printed_out (place old.connections k) else place old.connections k)
+  pub stream : (k : ℕ) → place new.streams k
+      ≡ (if these k && is_ended_at (place old.connections k) then None else place old.streams k)
+
+-- all connections step until they are idle, and then the lines of all are printed
+pub record Settles (old : TargetState) (printed : List ℕ) (new : TargetState) : Type 0 where
+  pub idle : TargetState
+  pub steps : StepBelow connections_max old idle
+  pub prints : printed ≡ lines_below connections_max idle
+  pub left : ArePrinted (λ k. true) idle new
+
+-- ---- the lines of a script
+
+-- Connection k receives these bytes in n pieces, of which each is as long as there is room for, and after each
+-- the target settles. No bytes are left then, or no room, as where the connection has ended.
+abbrev pub HandsOut : ℕ → ℕ → List ℕ → TargetState → List ℕ → TargetState → Type 0
+HandsOut zero k bytes old printed new = (number_taken k bytes old ≡ 0) × (printed ≡ []) × (new ≡ old)
+HandsOut (suc n) k bytes old printed new =
+    (mid : TargetState) × (settled : TargetState) × (first : List ℕ) × (rest : List ℕ)
+    × (0 < number_taken k bytes old) × Receives k (take (number_taken k bytes old) bytes) old mid
+    × Settles mid first settled × HandsOut n k (drop (number_taken k bytes old) bytes) settled rest new
+    × (printed ≡ first ++ rest)
+
+-- a line of a connection that is not open
+abbrev pub PrintsNone : ℕ → TargetState → List ℕ → TargetState → Type 0
+PrintsNone k old printed new = (printed ≡ event_line k (codes "none")) × (new ≡ old)
+
+-- `open PORT`: it is opened under the least number that is free, or refused
+abbrev pub PlaysOpen : ℕ → TargetState → List ℕ → TargetState → Type 0
+PlaysOpen port old printed new = MatchOption (open_fault old port)
+    ((k : ℕ) × (free_number old ≡ Some k) × Moves (opened port k) old new × (printed ≡ event_line k (codes "open")))
+    (λ fault. (printed ≡ refused_line fault) × (new ≡ old))
+
+-- `rx K HEX`
+abbrev pub PlaysReceive : ℕ → List ℕ → TargetState → List ℕ → TargetState → Type 0
+PlaysReceive k hex old printed new = MatchOption (place old.connections k) (PrintsNone k old printed new)
+    (λ c. (bytes : List ℕ) × (decode_of hex ≡ Ok bytes) × (n : ℕ) × HandsOut n k bytes old printed new)
+
+-- `end K`
+abbrev pub PlaysEnd : ℕ → TargetState → List ℕ → TargetState → Type 0
+PlaysEnd k old printed new = MatchOption (place old.connections k) (PrintsNone k old printed new)
+    (λ c. (printed ≡ []) × (new ≡ without_connection old k))
+
+abbrev pub Plays : StreamLine → TargetState → List ℕ → TargetState → Type 0
+Plays (line.Open port) old printed new = PlaysOpen port old printed new
+Plays (line.Receive k hex) old printed new = PlaysReceive k hex.now old printed new
+Plays (line.End k) old printed new = PlaysEnd k old printed new
+
+-- the lines of a script, one after the other
+abbrev pub PlaysAll : List (List ℕ) → TargetState → List ℕ → TargetState → Type 0
+PlaysAll [] old printed new = (printed ≡ []) × (new ≡ old)
+PlaysAll (text ∷ lines) old printed new =
+    (says : StreamLine) × Says text says
+    × (mid : TargetState) × (first : List ℕ) × (rest : List ℕ)
+    × Plays says old first mid × PlaysAll lines mid rest new × (printed ≡ first ++ rest)

@@ -1,0 +1,142 @@
+//! A target, and which of its connections are open.
+
+ghost use Rattle.std.specs.Prelude.{◌≡◌, IfOk, IsOkUnless, MatchOption, OnErr};
+ghost use Rattle.std.specs.Prelude.{OnOk, is_some, slice_set, take};
+ghost use Rattle.number_table.specs.Table.{place};
+ghost use Rattle.target_core.specs.Moves.{Moves};
+ghost use Rattle.target_core.specs.Target.{free_number, is_ended_at, open_fault, output_at};
+ghost use Rattle.target_core.specs.Target.{without_connection};
+ghost use Rattle.target_history.specs.Event.{opened};
+ghost use Rattle.target_decision.specs.World.{connections_max};
+ghost use Rattle.nvt_replay.specs.Played.{Receives, StepBelow, StepsUntilIdle, TakesOutput};
+ghost use Rattle.nvt_replay.specs.Played.{HasNone, number_taken};
+
+use std::alloc::AllocError;
+use std::marker::Model;
+use target_core::{OpenFault, StepFault, Stepped, Target};
+
+pub const CONNECTIONS: usize = target_core::CONNECTIONS_MAX;
+
+/// A target, and which of its connections are open: opened and not given up.
+#[derive(Drop)]
+pub struct Connections {
+    target: Target,
+    open: [bool; CONNECTIONS],
+}
+
+impl Model for Connections {
+    ghost use Rattle.std.specs.Prelude.{◌≡◌, ℕ, is_some, slice_index_or, false};
+    ghost use Rattle.number_table.specs.Table.{place};
+    ghost use Rattle.target_core.specs.Target.{TargetState};
+
+    ghost Value = { TargetState };
+
+    ghost view = { λ c. c.target };
+
+    ghost invariant = { λ c. (k : ℕ) →
+        slice_index_or c.open k false ≡ is_some (place c.target.connections k) };
+}
+
+impl Connections {
+    /// The connections of a target that has none yet.
+    pub fn over(target: Target) -> Connections
+        requires { HasNone target }
+        ensures { result ≡ target }
+    {
+        Connections {
+            target,
+            open: [false; CONNECTIONS],
+        }
+    }
+
+    /// Opens a connection on a port, and returns its number, as the target does.
+    pub fn open(&mut self, port: u16) -> Result<usize, OpenFault>
+        ensures refused { MatchOption (open_fault self.old port)
+            (IsOkUnless result OpenFault.Memory) (λ fault. result ≡ Err fault) }
+        ensures opened { IfOk result (λ k.
+            (free_number self.old ≡ Some k) × Moves (opened port k) self.old self.new) }
+        ensures err { OnErr result (self.new ≡ self.old) }
+    {
+        let k = self.target.open(port)?;
+        mark(&mut self.open, k, true);
+        Ok(k)
+    }
+
+    pub fn is_open(&self, k: usize) -> bool
+        ensures { result ≡ is_some (place self.now.connections k) }
+    {
+        self.open.get(k).copied().unwrap_or(false)
+    }
+
+    /// Hands the connection as many of the first bytes as it has room for, and returns their number.
+    pub fn receive(&mut self, k: usize, bytes: &[u8]) -> usize
+        ensures number { result ≡ number_taken k bytes.now self.old }
+        ensures received { Receives k (take result bytes.now) self.old self.new }
+    {
+        self.target.receive(k, bytes).unwrap_or(0)
+    }
+
+    /// Lets all connections step until they are idle, in rising number.
+    pub fn step(&mut self) -> Result<(), AllocError>
+        ensures { OnOk result (StepBelow connections_max self.old self.new) }
+    {
+        for k in 0..CONNECTIONS {
+            if self.is_open(k) {
+                self.step_one(k)?;
+            }
+        }
+        Ok(())
+    }
+
+    fn step_one(&mut self, k: usize) -> Result<(), AllocError>
+        ensures { OnOk result (StepsUntilIdle k self.old self.new) }
+    {
+        loop {
+            match self.target.step(k) {
+                Ok(Stepped::One) => {}
+                Ok(Stepped::Ended) => {}
+                Ok(Stepped::Idle) | Err(StepFault::NoConn) => return Ok(()),
+                Err(StepFault::Memory) => return Err(AllocError),
+            }
+        }
+    }
+
+    /// What the connection has to send.
+    pub fn output(&self, k: usize) -> &[u8]
+        ensures { result.now ≡ output_at (place self.now.connections k) }
+    {
+        self.target.output(k)
+    }
+
+    /// Takes all of it away.
+    pub fn take_output(&mut self, k: usize)
+        ensures { TakesOutput k (place self.old.connections k) self.old self.new }
+    {
+        let len = self.target.output(k).len();
+        self.target.taken(k, len);
+    }
+
+    /// Whether the target has ended the connection.
+    pub fn is_ended(&self, k: usize) -> bool
+        ensures { result ≡ is_ended_at (place self.now.connections k) }
+    {
+        self.target.ended(k)
+    }
+
+    /// Gives the connection up.
+    pub fn end(&mut self, k: usize)
+        ensures { self.new ≡ without_connection self.old k }
+    {
+        self.target.end(k);
+        mark(&mut self.open, k, false);
+    }
+}
+
+// Notes whether the connection of that number is open.
+fn mark(marks: &mut [bool], k: usize, is_open: bool)
+    ensures { marks.new ≡ slice_set marks.old k is_open }
+{
+    if k < marks.len() {
+        marks[k] = is_open;
+    }
+}
