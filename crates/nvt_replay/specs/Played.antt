@@ -104,7 +104,7 @@ pub record Settles (old : TargetState) (printed : List ℕ) (new : TargetState) 
   pub idle : TargetState
   pub steps : StepBelow connections_max old idle
   pub prints : printed ≡ lines_below connections_max idle
-  pub left : ArePrinted (λ k. true) idle new
+  pub left : ArePrinted (λ k. nat_lt k connections_max) idle new
 
 -- ---- the lines of a script
 

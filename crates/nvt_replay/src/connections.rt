@@ -21,7 +21,7 @@ pub const CONNECTIONS: usize = target_core::CONNECTIONS_MAX;
 #[derive(Drop)]
 pub struct Connections {
     target: Target,
-    open: [bool; CONNECTIONS],
+    marks: [bool; CONNECTIONS],
 }
 
 impl Model for Connections {
@@ -34,7 +34,7 @@ impl Model for Connections {
     ghost view = { λ c. c.target };
 
     ghost invariant = { λ c. (k : ℕ) →
-        slice_index_or c.open k false ≡ is_some (place c.target.connections k) };
+        slice_index_or c.marks k false ≡ is_some (place c.target.connections k) };
 }
 
 impl Connections {
@@ -45,7 +45,7 @@ impl Connections {
     {
         Connections {
             target,
-            open: [false; CONNECTIONS],
+            marks: [false; CONNECTIONS],
         }
     }
 
@@ -58,14 +58,14 @@ impl Connections {
         ensures err { OnErr result (self.new ≡ self.old) }
     {
         let k = self.target.open(port)?;
-        mark(&mut self.open, k, true);
+        mark(&mut self.marks, k, true);
         Ok(k)
     }
 
     pub fn is_open(&self, k: usize) -> bool
         ensures { result ≡ is_some (place self.now.connections k) }
     {
-        self.open.get(k).copied().unwrap_or(false)
+        self.marks.get(k).copied().unwrap_or(false)
     }
 
     /// Hands the connection as many of the first bytes as it has room for, and returns their number.
@@ -128,7 +128,7 @@ impl Connections {
         ensures { self.new ≡ without_connection self.old k }
     {
         self.target.end(k);
-        mark(&mut self.open, k, false);
+        mark(&mut self.marks, k, false);
     }
 }
 

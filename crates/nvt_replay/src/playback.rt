@@ -209,7 +209,7 @@ impl Playback {
         requires { HasHex line }
         ensures fault { IfErr result IsOfRun }
         ensures played { OnOk result (Prints (W.contents out.old) (W.contents out.new)
-            (λ text. Plays line self.old.connections text self.new.connections)) }
+            (λ text. Plays line.entry self.old.connections text self.new.connections)) }
     {
         match line {
             StreamLine::Open { port } => self.open(port, out),
@@ -245,9 +245,14 @@ impl Playback {
         if !self.connections.is_open(k) {
             return self.printer.event(out, connection, "none");
         }
-        self.bytes.resize(hex.len() / 2, 0)?;
-        decode_hex(hex, self.bytes.as_mut_slice());
-        self.hand_out(k, out)
+        decode(hex, &mut self.bytes)?;
+        hand_out(
+            &mut self.connections,
+            k,
+            &self.bytes,
+            &mut self.printer,
+            out,
+        )
     }
 
     fn end<W: Write>(&mut self, connection: u64, out: &mut W) -> Result<(), ReplayFault>
@@ -262,24 +267,29 @@ impl Playback {
         self.connections.end(k);
         Ok(())
     }
+}
 
-    // Hands the bytes out, as many at a time as the connection has room for, and lets all
-    // connections step in between. What is left once the connection has ended is dropped.
-    fn hand_out<W: Write>(&mut self, k: usize, out: &mut W) -> Result<(), ReplayFault>
-        ensures fault { IfErr result IsOfRun }
-        ensures played { OnOk result (Prints (W.contents out.old) (W.contents out.new) (λ text.
-            (n : ℕ) × HandsOut n k self.old.bytes.items self.old.connections text
-                self.new.connections)) }
-    {
-        let mut rest = self.bytes.as_slice();
-        loop {
-            let len = self.connections.receive(k, rest);
-            if len == 0 {
-                return Ok(());
-            }
-            rest = &rest[len..];
-            settle(&mut self.connections, &mut self.printer, out)?;
+// Hands the bytes out, as many at a time as the connection has room for, and lets all connections
+// step in between. What is left once the connection has ended is dropped.
+fn hand_out<W: Write>(
+    connections: &mut Connections,
+    k: usize,
+    bytes: &[u8],
+    printer: &mut Printer,
+    out: &mut W,
+) -> Result<(), ReplayFault>
+    ensures fault { IfErr result IsOfRun }
+    ensures played { OnOk result (Prints (W.contents out.old) (W.contents out.new) (λ text.
+        (n : ℕ) × HandsOut n k bytes.now connections.old text connections.new)) }
+{
+    let mut rest = bytes;
+    loop {
+        let len = connections.receive(k, rest);
+        if len == 0 {
+            return Ok(());
         }
+        rest = &rest[len..];
+        settle(connections, printer, out)?;
     }
 }
 
@@ -320,6 +330,16 @@ fn print<W: Write>(
         printer.event(out, k as u64, "closed")?;
         connections.end(k);
     }
+    Ok(())
+}
+
+// Makes these the bytes that pairs of hex digits say.
+fn decode(hex: &[u8], bytes: &mut Vec<u8>) -> Result<(), AllocError>
+    requires { IsHex hex.now }
+    ensures { OnOk result (decode_of hex.now ≡ Ok bytes.new.items) }
+{
+    bytes.resize(hex.len() / 2, 0)?;
+    decode_hex(hex, bytes.as_mut_slice());
     Ok(())
 }
 

@@ -19,16 +19,23 @@ loop-line-preserved c =
     record {
       rest = next.after;
       counted = omega (arith, next.below);
-      before = before_more (lines_of c.args.edits.now) c.loop-line.number c.in-Some.line.now c.next.new.self _ _ _ left c.loop-line.invariant.before c.in_ok-take_edit.ensures;
+      before = before_more (lines_of c.args.edits.now) c.loop-line.number c.in-Some.line.now c.next.new.self _ _ _ left c.loop-line.invariant.before c.in_ok-take_edit.ensures.takes;
+      none = λ h. c.in_ok-take_edit.ensures.none (c.loop-line.invariant.none h);
     }
 
 pub returns-in_err-take_edit-clause-fault : goal.returns-in_err-take_edit-clause-fault
 returns-in_err-take_edit-clause-fault c =
     let left : drop c.loop-line.number (lines_of c.args.edits.now) ≡ c.in-Some.line.now ∷ c.next.new.self = c.loop-line.invariant.rest ∙ c.in-Some.ensures.steps in
     let p = err_from_is_err_and c.from_residual.result c.from_residual.ensures.1 in
-    rw (p.1, p.2) (refused_at _ c.args.edits.now c.loop-line.number c.in-Some.line.now c.next.new.self _ _ left c.loop-line.invariant.before c.in_err-take_edit.ensures)
+    rw (p.1, p.2) (refused_at _ c.args.edits.now c.loop-line.number c.in-Some.line.now c.next.new.self _ _ left c.loop-line.invariant.before c.in_err-take_edit.ensures.takes)
 
 pub returns-clause-ok : goal.returns-clause-ok
 returns-clause-ok c =
     let all = all_taken (lines_of c.args.edits.now) c.loop-line.number (c.loop-line.invariant.rest ∙ c.in-None.ensures.steps.0) in
     subst (λ lines. Configures lines c.args.target.now.config c.loop-line.target.config) all c.loop-line.invariant.before
+
+pub returns-in_err-take_edit-clause-none : goal.returns-in_err-take_edit-clause-none
+returns-in_err-take_edit-clause-none c = λ h. c.in_err-take_edit.ensures.none (c.loop-line.invariant.none h)
+
+pub returns-clause-none : goal.returns-clause-none
+returns-clause-none c = c.loop-line.invariant.none

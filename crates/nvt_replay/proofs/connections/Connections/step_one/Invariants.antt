@@ -7,7 +7,7 @@ use Rattle.nvt_replay.proofs.connections.Connections.step_one.Given as goal
 -- whatever steps of the connection come now, they come behind those that it has made
 abbrev pub invariant-loop : goal.invariant-loop
 invariant-loop l = record {
-  marks : AreMarks l.self-inside.open l.self-inside.target;
+  marks : AreMarks l.self-inside.marks l.self-inside.target;
   behind : (last : TargetState) → StepsUntilIdle l.k l.self-inside.target last → StepsUntilIdle l.k l.fn.self last;
 }
 

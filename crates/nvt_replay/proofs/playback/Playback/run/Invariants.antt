@@ -1,6 +1,7 @@
 use Rattle.std.proofs.Common.{◌≡◌, ◌≤◌, take, drop, length}
 use Rattle.std.specs.List.{All}
 use Rattle.config_text.specs.Lines.{lines_of}
+use Rattle.nvt_replay.specs.Played.{PlaysAll, Prints}
 use Rattle.nvt_replay.specs.StreamLine.{IsStreamLine}
 use Rattle.nvt_replay.proofs.playback.Playback.run.Given as goal
 
@@ -9,4 +10,6 @@ invariant-loop-line g l = record {
   rest : drop l.number (lines_of l.stream) ≡ l.line-iterator;
   counted : l.number ≤ length (lines_of l.stream);
   before : All IsStreamLine (take l.number (lines_of l.stream));
+  played : Prints (g.W.Write.contents l.initial.out) (g.W.Write.contents l.out)
+      (λ text. PlaysAll (take l.number (lines_of l.stream)) l.initial.self.connections text l.self.connections);
 }

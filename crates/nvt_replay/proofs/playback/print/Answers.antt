@@ -1,0 +1,17 @@
+use Rattle.std.proofs.Common.{sym, ◌∙◌}
+use Rattle.number_table.specs.Table.{place}
+use Rattle.nvt_replay.proofs.Prints.{closed_left, closed_lines, open_left, printed_lines, still_ended}
+use Rattle.nvt_replay.proofs.playback.print.Goals as goal
+
+pub returns-else-is_ended-clause-printed : goal.returns-else-is_ended-clause-printed
+returns-else-is_ended-clause-printed g c =
+    let old = c.args.connections.now in
+    printed_lines c.args.k (place old.connections c.args.k) (g.W.Write.contents c.args.out.now) (g.W.Write.contents c.pdus.new.out) c.output.result.now
+    c.output.ensures (sym (still_ended c.args.k old c.take_output.new.self c.take_output.ensures) ∙ sym c.if-is_ended.ensures)
+    c.in_ok-pdus.ensures.printed
+
+pub returns-else-is_ended-clause-left : goal.returns-else-is_ended-clause-left
+returns-else-is_ended-clause-left g c =
+    let old = c.args.connections.now in
+    open_left c.args.k old c.take_output.new.self c.take_output.ensures
+    (sym (still_ended c.args.k old c.take_output.new.self c.take_output.ensures) ∙ sym c.if-is_ended.ensures)
