@@ -1,135 +1,97 @@
--- The lines of edits: the line of each edit, and the first fault of a line.
-use Rattle.std.specs.Prelude.{◌≡◌, ℕ, ◌+◌, ◌≤◌, ◌==◌, ◌||◌, nat_lt, Bool, List, [], ◌∷◌, ◌++◌, length, drop, codes, Option, Some, None, if◌then◌else◌}
-use Rattle.std.specs.Char.{is_ascii_graphic}
-use Rattle.std.specs.Fmt.{decimal}
-use Rattle.std.specs.List.{before_first, list_all}
-use Rattle.std.specs.Option.{option_or}
-use Rattle.std.specs.Str.{bytes_eq}
-use Rattle.nvt_config.specs.declared.edit.Edit.{Edit}
-use Rattle.nvt_config.specs.declared.edit.Edit.TheVariants.{PortAdd}
-use Rattle.config_lists.specs.declared.port.Family.{Family}
-use Rattle.config_lists.specs.declared.port.Family.TheVariants.{Ipv4, Ipv6}
-use Rattle.config_text.specs.Number.{is_number}
-use Rattle.config_text.specs.declared.edit_line.LineFault.{LineFault}
-use Rattle.config_text.specs.declared.edit_line.LineFaultKind.{LineFaultKind}
-use Rattle.config_text.specs.declared.edit_line.LineFaultKind.TheVariants.{TooLong, Empty, UnknownWord, Missing, BadNumber, BadWord, Extra}
-use Rattle.config_text.specs.declared.edit_line.ReadEditFault.{ReadEditFault}
-use Rattle.config_text.specs.declared.edit_line.ReadEditFault.TheVariants.{Line, Memory}
+-- The one line of each edit.
+use Rattle.std.specs.Prelude.{◌≡◌, ℕ, ◌≤◌, List, [], ◌∷◌, length, map}
+use Rattle.std.specs.List.{AllByRecursion, join_with_byte}
+use Rattle.config_edits.specs.declared.edit.Edit.{Edit}
+use Rattle.config_edits.specs.declared.edit.Edit.TheVariants as edit
+use Rattle.config_edits.specs.declared.edit.Endpoint.{Endpoint}
+use Rattle.config_edits.specs.declared.edit.NewNamespace.{NewNamespace}
+use Rattle.config_text.specs.Command.{grammar_of}
+use Rattle.config_text.specs.Operand.{IsSaid, Value, access, family, form_of, name, number, state, text, uuid, word_of}
+use Rattle.config_text.specs.Words.{words}
+use Rattle.config_text.specs.declared.command.Command.{Command}
+use Rattle.config_text.specs.declared.command.Command.TheVariants.{SubsystemAdd, SubsystemSet, SubsystemDel, NamespaceAdd, NamespaceSize, NamespaceGroup, NamespaceDel, PortAdd, PortSet, PortDel, LinkAdd, LinkDel, HostAdd, HostDel, AllowAdd, AllowDel, AnaSet, ReferralAdd, ReferralSet, ReferralDel}
 
-abbrev pub family_word : Family → List ℕ
-family_word Ipv4 = codes "ipv4"
-family_word Ipv6 = codes "ipv6"
+abbrev pub command_of : Edit → Command
+command_of (edit.SubsystemAdd n s a) = SubsystemAdd
+command_of (edit.SubsystemSet n a) = SubsystemSet
+command_of (edit.SubsystemDel n) = SubsystemDel
+command_of (edit.NamespaceAdd n) = NamespaceAdd
+command_of (edit.NamespaceSize s n b) = NamespaceSize
+command_of (edit.NamespaceGroup s n g) = NamespaceGroup
+command_of (edit.NamespaceDel s n) = NamespaceDel
+command_of (edit.PortAdd e) = PortAdd
+command_of (edit.PortSet e) = PortSet
+command_of (edit.PortDel i) = PortDel
+command_of (edit.LinkAdd p s) = LinkAdd
+command_of (edit.LinkDel p s) = LinkDel
+command_of (edit.HostAdd n) = HostAdd
+command_of (edit.HostDel n) = HostDel
+command_of (edit.AllowAdd s h) = AllowAdd
+command_of (edit.AllowDel s h) = AllowDel
+command_of (edit.AnaSet p s g t) = AnaSet
+command_of (edit.ReferralAdd e) = ReferralAdd
+command_of (edit.ReferralSet e) = ReferralSet
+command_of (edit.ReferralDel i) = ReferralDel
 
--- words, with one space between
-abbrev pub place_words : List ℕ → ℕ → List ℕ
-place_words address service = address ++ 32 ∷ decimal service
+abbrev pub namespace_values : NewNamespace → List Value
+namespace_values n =
+    name n.subsystem ∷ number n.nsid ∷ number n.disk ∷ number n.blocks ∷ number n.block_size ∷ uuid n.uuid ∷ number n.group ∷ []
 
-abbrev pub endpoint_words : ℕ → Family → List ℕ → ℕ → List ℕ
-endpoint_words id family address service =
-    decimal id ++ 32 ∷ (family_word family ++ 32 ∷ place_words address service)
+abbrev pub endpoint_values : Endpoint → List Value
+endpoint_values e = number e.id ∷ family e.family ∷ text e.address ∷ number e.service ∷ []
 
-abbrev pub port_add_line : ℕ → Family → List ℕ → ℕ → List ℕ
-port_add_line id family address service =
-    codes "port" ++ 32 ∷ (codes "add" ++ 32 ∷ endpoint_words id family address service)
+-- what the words after the first two say, in order
+abbrev pub values_of : Edit → List Value
+values_of (edit.SubsystemAdd nqn serial who) = name nqn ∷ text serial ∷ access who ∷ []
+values_of (edit.SubsystemSet nqn who) = name nqn ∷ access who ∷ []
+values_of (edit.SubsystemDel nqn) = name nqn ∷ []
+values_of (edit.NamespaceAdd new) = namespace_values new
+values_of (edit.NamespaceSize subsystem nsid blocks) = name subsystem ∷ number nsid ∷ number blocks ∷ []
+values_of (edit.NamespaceGroup subsystem nsid group) = name subsystem ∷ number nsid ∷ number group ∷ []
+values_of (edit.NamespaceDel subsystem nsid) = name subsystem ∷ number nsid ∷ []
+values_of (edit.PortAdd endpoint) = endpoint_values endpoint
+values_of (edit.PortSet endpoint) = endpoint_values endpoint
+values_of (edit.PortDel id) = number id ∷ []
+values_of (edit.LinkAdd port subsystem) = number port ∷ name subsystem ∷ []
+values_of (edit.LinkDel port subsystem) = number port ∷ name subsystem ∷ []
+values_of (edit.HostAdd nqn) = name nqn ∷ []
+values_of (edit.HostDel nqn) = name nqn ∷ []
+values_of (edit.AllowAdd subsystem host) = name subsystem ∷ name host ∷ []
+values_of (edit.AllowDel subsystem host) = name subsystem ∷ name host ∷ []
+values_of (edit.AnaSet port subsystem group s) = number port ∷ name subsystem ∷ number group ∷ state s ∷ []
+values_of (edit.ReferralAdd endpoint) = endpoint_values endpoint
+values_of (edit.ReferralSet endpoint) = endpoint_values endpoint
+values_of (edit.ReferralDel id) = number id ∷ []
 
--- Whether this is the edit's one line. Until the edit language is built, `port add` alone has a line.
-abbrev pub IsLineOf : List ℕ → Edit → Type 0
-IsLineOf line (PortAdd id family address service) = line ≡ port_add_line id family address service
-IsLineOf line _ = ⊥
+-- the edit is of this command and says these values
+pub record IsEditOf (command : Command) (values : List Value) (e : Edit) : Type 0 where
+  pub command_is : command_of e ≡ command
+  pub values_are : values_of e ≡ values
 
--- what a word of a line has to be
-pub data Form : Type 0 where
-  keyword_form : List ℕ → Form
-  number_form : Form
-  family_form : Form
-  address_form : Form
+-- the words that say a command with these values
+abbrev pub said_words : Command → List Value → List (List ℕ)
+said_words command values = (grammar_of command).noun ∷ (grammar_of command).verb ∷ map word_of values
 
-abbrev pub place_forms : List Form
-place_forms = address_form ∷ number_form ∷ []
+abbrev pub words_of : Edit → List (List ℕ)
+words_of e = said_words (command_of e) (values_of e)
 
-abbrev pub endpoint_forms : List Form
-endpoint_forms = number_form ∷ family_form ∷ place_forms
+-- its words, with one space between
+abbrev pub line_of : Edit → List ℕ
+line_of e = join_with_byte 32 (words_of e)
 
-abbrev pub port_add_command : List Form
-port_add_command = keyword_form (codes "port") ∷ keyword_form (codes "add") ∷ []
+-- a line without a fault says a command with values of its forms
+pub record IsSaidBy (line : List ℕ) (command : Command) (values : List Value) : Type 0 where
+  pub short : length line ≤ 1024
+  pub words_are : words line ≡ said_words command values
+  pub forms_are : map form_of values ≡ (grammar_of command).forms
+  pub said : AllByRecursion IsSaid values
 
-abbrev pub port_add_forms : List Form
-port_add_forms = port_add_command ++ endpoint_forms
+-- each of its values has a word
+abbrev pub IsSayable : Edit → Type 0
+IsSayable e = AllByRecursion IsSaid (values_of e)
 
-abbrev pub allows : Form → List ℕ → Bool
-allows (keyword_form text) word = bytes_eq word text
-allows number_form word = is_number word
-allows family_form word = bytes_eq word (codes "ipv4") || bytes_eq word (codes "ipv6")
-allows address_form word = list_all is_ascii_graphic word
-
-abbrev pub kind_of : Form → LineFaultKind
-kind_of (keyword_form text) = UnknownWord
-kind_of number_form = BadNumber
-kind_of family_form = BadWord
-kind_of address_form = BadWord
-
-abbrev pub fault : ℕ → LineFaultKind → Option LineFault
-fault column kind = Some (record { column = column; kind = kind })
-
--- the word at a column, up to the next space or the line's end
-abbrev pub word_at : List ℕ → ℕ → List ℕ
-word_at line column = before_first (λ b. b == 32) (drop column line)
-
--- the column of the word after it; past the line's end where there is none
-abbrev pub next_column : List ℕ → ℕ → ℕ
-next_column line column = column + length (word_at line column) + 1
-
--- from a column of a line to the next, where there is a word
-abbrev pub IsMoved : List ℕ → ℕ → List ℕ → ℕ → Type 0
-IsMoved old column new next = (new ≡ old) × (column ≤ length old) × (next ≡ next_column old column)
-
--- there has to be a word, of a byte at least
-abbrev pub absence : List ℕ → ℕ → Option LineFault
-absence line column =
-    if nat_lt (length line) column then fault (length line) Missing
-    else if length (word_at line column) == 0 then fault column Empty else None
-
--- the word at a column has to be of this form
-abbrev pub word_fault : List ℕ → ℕ → Form → Option LineFault
-word_fault line column form =
-    option_or (absence line column)
-    (if allows form (word_at line column) then None else fault column (kind_of form))
-
--- the words from a column on have to be of these forms, and no more
-abbrev pub fault_from : List ℕ → ℕ → List Form → Option LineFault
-fault_from line column [] =
-    if nat_lt (length line) column then None
-    else option_or (absence line column) (fault column Extra)
-fault_from line column (form ∷ forms) =
-    option_or (word_fault line column form) (fault_from line (next_column line column) forms)
-
--- the words from a column on have to be of these forms; more may follow
-abbrev pub front_fault : List ℕ → ℕ → List Form → Option LineFault
-front_fault line column [] = None
-front_fault line column (form ∷ forms) =
-    option_or (word_fault line column form) (front_fault line (next_column line column) forms)
-
--- the column after so many words
-abbrev pub column_after : List ℕ → ℕ → List Form → ℕ
-column_after line column [] = column
-column_after line column (form ∷ forms) = column_after line (next_column line column) forms
-
--- these words stand from the column on, and then the line goes on at the next column or ends
-abbrev pub IsFront : List ℕ → ℕ → List ℕ → List ℕ → ℕ → Type 0
-IsFront old column words new next =
-    (new ≡ old) × (column ≤ length old)
-    × (next ≤ length new → drop column old ≡ words ++ 32 ∷ drop next new)
-
--- these words stand from the column on, and there the line ends
-abbrev pub IsRest : List ℕ → ℕ → List ℕ → Type 0
-IsRest line column words = (column ≤ length line) × (drop column line ≡ words)
-
--- the first fault of a line
-abbrev pub line_fault : List ℕ → Option LineFault
-line_fault line =
-    if nat_lt 1024 (length line) then fault 0 TooLong else fault_from line 0 port_add_forms
-
--- the fault is that of the line; memory is wanted only where there is none
-abbrev pub IsReadFault : List ℕ → ReadEditFault → Type 0
-IsReadFault line (Line fault) = line_fault line ≡ Some fault
-IsReadFault line Memory = line_fault line ≡ None
+-- whether the line is the edit's
+pub record IsLineOf (line : List ℕ) (e : Edit) : Type 0 where
+  pub sayable : IsSayable e
+  pub is_line : line ≡ line_of e
+  pub short : length line ≤ 1024

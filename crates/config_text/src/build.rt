@@ -1,0 +1,276 @@
+//! The edit of a command and its values.
+ghost use Rattle.std.specs.Prelude.{◌≡◌, IfOk, Some, map, slice_get};
+ghost use Rattle.config_text.specs.Command.{grammar_of};
+ghost use Rattle.config_text.specs.EditLine.{IsEditOf, endpoint_values, namespace_values};
+ghost use Rattle.config_text.specs.Operand.{form_of, name, text, values};
+ghost use Rattle.config_text.specs.declared.operand.Form.TheVariants as form;
+ghost use Rattle.config_text.specs.declared.command.Command.TheVariants as command;
+
+use crate::command::Command;
+use crate::operand::{
+    Operand, access_at, family_at, name_at, number_at, state_at, text_at, uuid_at,
+};
+use config_edits::{Edit, Endpoint, NewNamespace};
+use config_lists::Text;
+use nvt_fields::Nqn;
+use std::alloc::{AllocError, Global};
+
+/// The edit of a command and the values that its line says.
+pub(crate) fn build(
+    alloc: Global,
+    command: Command,
+    operands: &[Operand<'_>],
+) -> Result<Edit, AllocError>
+    requires { map form_of (values operands.now) ≡ (grammar_of command).forms }
+    ensures { IfOk result (IsEditOf command (values operands.now)) }
+{
+    match command {
+        Command::SubsystemAdd => subsystem_add(alloc, operands),
+        Command::SubsystemSet => subsystem_set(alloc, operands),
+        Command::SubsystemDel => subsystem_del(alloc, operands),
+        Command::NamespaceAdd => namespace_add(alloc, operands),
+        Command::NamespaceSize => namespace_size(alloc, operands),
+        Command::NamespaceGroup => namespace_group(alloc, operands),
+        Command::NamespaceDel => namespace_del(alloc, operands),
+        Command::PortAdd => port_add(alloc, operands),
+        Command::PortSet => port_set(alloc, operands),
+        Command::PortDel => Ok(port_del(operands)),
+        Command::LinkAdd => link_add(alloc, operands),
+        Command::LinkDel => link_del(alloc, operands),
+        Command::HostAdd => host_add(alloc, operands),
+        Command::HostDel => host_del(alloc, operands),
+        Command::AllowAdd => allow_add(alloc, operands),
+        Command::AllowDel => allow_del(alloc, operands),
+        Command::AnaSet => ana_set(alloc, operands),
+        Command::ReferralAdd => referral_add(alloc, operands),
+        Command::ReferralSet => referral_set(alloc, operands),
+        Command::ReferralDel => Ok(referral_del(operands)),
+    }
+}
+
+fn subsystem_add(alloc: Global, operands: &[Operand<'_>]) -> Result<Edit, AllocError>
+    requires { map form_of (values operands.now) ≡ (grammar_of command.SubsystemAdd).forms }
+    ensures { IfOk result (IsEditOf command.SubsystemAdd (values operands.now)) }
+{
+    let nqn = read_name(alloc, operands, 0)?;
+    Ok(Edit::SubsystemAdd {
+        nqn,
+        serial: read_text(alloc, operands, 1)?,
+        access: access_at(operands, 2),
+    })
+}
+
+fn subsystem_set(alloc: Global, operands: &[Operand<'_>]) -> Result<Edit, AllocError>
+    requires { map form_of (values operands.now) ≡ (grammar_of command.SubsystemSet).forms }
+    ensures { IfOk result (IsEditOf command.SubsystemSet (values operands.now)) }
+{
+    Ok(Edit::SubsystemSet {
+        nqn: read_name(alloc, operands, 0)?,
+        access: access_at(operands, 1),
+    })
+}
+
+fn subsystem_del(alloc: Global, operands: &[Operand<'_>]) -> Result<Edit, AllocError>
+    requires { map form_of (values operands.now) ≡ (grammar_of command.SubsystemDel).forms }
+    ensures { IfOk result (IsEditOf command.SubsystemDel (values operands.now)) }
+{
+    Ok(Edit::SubsystemDel {
+        nqn: read_name(alloc, operands, 0)?,
+    })
+}
+
+fn host_add(alloc: Global, operands: &[Operand<'_>]) -> Result<Edit, AllocError>
+    requires { map form_of (values operands.now) ≡ (grammar_of command.HostAdd).forms }
+    ensures { IfOk result (IsEditOf command.HostAdd (values operands.now)) }
+{
+    Ok(Edit::HostAdd {
+        nqn: read_name(alloc, operands, 0)?,
+    })
+}
+
+fn host_del(alloc: Global, operands: &[Operand<'_>]) -> Result<Edit, AllocError>
+    requires { map form_of (values operands.now) ≡ (grammar_of command.HostDel).forms }
+    ensures { IfOk result (IsEditOf command.HostDel (values operands.now)) }
+{
+    Ok(Edit::HostDel {
+        nqn: read_name(alloc, operands, 0)?,
+    })
+}
+
+fn namespace_add(alloc: Global, operands: &[Operand<'_>]) -> Result<Edit, AllocError>
+    requires { map form_of (values operands.now) ≡ (grammar_of command.NamespaceAdd).forms }
+    ensures { IfOk result (IsEditOf command.NamespaceAdd (values operands.now)) }
+{
+    Ok(Edit::NamespaceAdd(NewNamespace {
+        subsystem: read_name(alloc, operands, 0)?,
+        nsid: number_at(operands, 1),
+        disk: number_at(operands, 2),
+        blocks: number_at(operands, 3),
+        block_size: number_at(operands, 4),
+        uuid: uuid_at(operands, 5),
+        group: number_at(operands, 6),
+    }))
+}
+
+fn namespace_size(alloc: Global, operands: &[Operand<'_>]) -> Result<Edit, AllocError>
+    requires { map form_of (values operands.now) ≡ (grammar_of command.NamespaceSize).forms }
+    ensures { IfOk result (IsEditOf command.NamespaceSize (values operands.now)) }
+{
+    Ok(Edit::NamespaceSize {
+        subsystem: read_name(alloc, operands, 0)?,
+        nsid: number_at(operands, 1),
+        blocks: number_at(operands, 2),
+    })
+}
+
+fn namespace_group(alloc: Global, operands: &[Operand<'_>]) -> Result<Edit, AllocError>
+    requires { map form_of (values operands.now) ≡ (grammar_of command.NamespaceGroup).forms }
+    ensures { IfOk result (IsEditOf command.NamespaceGroup (values operands.now)) }
+{
+    Ok(Edit::NamespaceGroup {
+        subsystem: read_name(alloc, operands, 0)?,
+        nsid: number_at(operands, 1),
+        group: number_at(operands, 2),
+    })
+}
+
+fn namespace_del(alloc: Global, operands: &[Operand<'_>]) -> Result<Edit, AllocError>
+    requires { map form_of (values operands.now) ≡ (grammar_of command.NamespaceDel).forms }
+    ensures { IfOk result (IsEditOf command.NamespaceDel (values operands.now)) }
+{
+    Ok(Edit::NamespaceDel {
+        subsystem: read_name(alloc, operands, 0)?,
+        nsid: number_at(operands, 1),
+    })
+}
+
+fn port_add(alloc: Global, operands: &[Operand<'_>]) -> Result<Edit, AllocError>
+    requires { map form_of (values operands.now) ≡ (grammar_of command.PortAdd).forms }
+    ensures { IfOk result (IsEditOf command.PortAdd (values operands.now)) }
+{
+    Ok(Edit::PortAdd(endpoint(alloc, operands)?))
+}
+
+fn port_set(alloc: Global, operands: &[Operand<'_>]) -> Result<Edit, AllocError>
+    requires { map form_of (values operands.now) ≡ (grammar_of command.PortSet).forms }
+    ensures { IfOk result (IsEditOf command.PortSet (values operands.now)) }
+{
+    Ok(Edit::PortSet(endpoint(alloc, operands)?))
+}
+
+fn referral_add(alloc: Global, operands: &[Operand<'_>]) -> Result<Edit, AllocError>
+    requires { map form_of (values operands.now) ≡ (grammar_of command.ReferralAdd).forms }
+    ensures { IfOk result (IsEditOf command.ReferralAdd (values operands.now)) }
+{
+    Ok(Edit::ReferralAdd(endpoint(alloc, operands)?))
+}
+
+fn referral_set(alloc: Global, operands: &[Operand<'_>]) -> Result<Edit, AllocError>
+    requires { map form_of (values operands.now) ≡ (grammar_of command.ReferralSet).forms }
+    ensures { IfOk result (IsEditOf command.ReferralSet (values operands.now)) }
+{
+    Ok(Edit::ReferralSet(endpoint(alloc, operands)?))
+}
+
+fn port_del(operands: &[Operand<'_>]) -> Edit
+    requires { map form_of (values operands.now) ≡ (grammar_of command.PortDel).forms }
+    ensures { IsEditOf command.PortDel (values operands.now) result }
+{
+    Edit::PortDel {
+        id: number_at(operands, 0),
+    }
+}
+
+fn referral_del(operands: &[Operand<'_>]) -> Edit
+    requires { map form_of (values operands.now) ≡ (grammar_of command.ReferralDel).forms }
+    ensures { IsEditOf command.ReferralDel (values operands.now) result }
+{
+    Edit::ReferralDel {
+        id: number_at(operands, 0),
+    }
+}
+
+fn link_add(alloc: Global, operands: &[Operand<'_>]) -> Result<Edit, AllocError>
+    requires { map form_of (values operands.now) ≡ (grammar_of command.LinkAdd).forms }
+    ensures { IfOk result (IsEditOf command.LinkAdd (values operands.now)) }
+{
+    Ok(Edit::LinkAdd {
+        port: number_at(operands, 0),
+        subsystem: read_name(alloc, operands, 1)?,
+    })
+}
+
+fn link_del(alloc: Global, operands: &[Operand<'_>]) -> Result<Edit, AllocError>
+    requires { map form_of (values operands.now) ≡ (grammar_of command.LinkDel).forms }
+    ensures { IfOk result (IsEditOf command.LinkDel (values operands.now)) }
+{
+    Ok(Edit::LinkDel {
+        port: number_at(operands, 0),
+        subsystem: read_name(alloc, operands, 1)?,
+    })
+}
+
+fn allow_add(alloc: Global, operands: &[Operand<'_>]) -> Result<Edit, AllocError>
+    requires { map form_of (values operands.now) ≡ (grammar_of command.AllowAdd).forms }
+    ensures { IfOk result (IsEditOf command.AllowAdd (values operands.now)) }
+{
+    let subsystem = read_name(alloc, operands, 0)?;
+    Ok(Edit::AllowAdd {
+        subsystem,
+        host: read_name(alloc, operands, 1)?,
+    })
+}
+
+fn allow_del(alloc: Global, operands: &[Operand<'_>]) -> Result<Edit, AllocError>
+    requires { map form_of (values operands.now) ≡ (grammar_of command.AllowDel).forms }
+    ensures { IfOk result (IsEditOf command.AllowDel (values operands.now)) }
+{
+    let subsystem = read_name(alloc, operands, 0)?;
+    Ok(Edit::AllowDel {
+        subsystem,
+        host: read_name(alloc, operands, 1)?,
+    })
+}
+
+fn ana_set(alloc: Global, operands: &[Operand<'_>]) -> Result<Edit, AllocError>
+    requires { map form_of (values operands.now) ≡ (grammar_of command.AnaSet).forms }
+    ensures { IfOk result (IsEditOf command.AnaSet (values operands.now)) }
+{
+    Ok(Edit::AnaSet {
+        port: number_at(operands, 0),
+        subsystem: read_name(alloc, operands, 1)?,
+        group: number_at(operands, 2),
+        state: state_at(operands, 3),
+    })
+}
+
+fn endpoint(alloc: Global, operands: &[Operand<'_>]) -> Result<Endpoint, AllocError>
+    requires { map form_of (values operands.now) ≡ (grammar_of command.PortAdd).forms }
+    ensures { IfOk result (λ e. endpoint_values e ≡ values operands.now) }
+{
+    Ok(Endpoint {
+        id: number_at(operands, 0),
+        family: family_at(operands, 1),
+        address: read_text(alloc, operands, 2)?,
+        service: number_at(operands, 3),
+    })
+}
+
+// The name at a place.
+fn read_name(alloc: Global, operands: &[Operand<'_>], at: usize) -> Result<Nqn, AllocError>
+    requires { slice_get (map form_of (values operands.now)) at ≡ Some form.Name }
+    ensures { IfOk result (λ nqn. slice_get (values operands.now) at ≡ Some (name nqn)) }
+{
+    match Nqn::read(alloc, name_at(operands, at)) {
+        Ok(nqn) => Ok(nqn),
+        Err(_) => Err(AllocError),
+    }
+}
+
+// The text at a place.
+fn read_text(alloc: Global, operands: &[Operand<'_>], at: usize) -> Result<Text, AllocError>
+    requires { slice_get (map form_of (values operands.now)) at ≡ Some form.Text }
+    ensures { IfOk result (λ t. slice_get (values operands.now) at ≡ Some (text t)) }
+{
+    Ok(Text::from(Vec::from_slice(alloc, text_at(operands, at))?))
+}

@@ -1,0 +1,234 @@
+//! The writer of lines.
+ghost use Rattle.std.specs.Prelude.{◌≡◌, ◌+◌, ◌≤◌, [], ◌∷◌, ◌++◌, Some, codes, length, nat_le};
+ghost use Rattle.config_text.specs.EditLine.{command_of, endpoint_values, line_of, namespace_values};
+ghost use Rattle.config_text.specs.EditLine.{values_of};
+ghost use Rattle.config_text.specs.Operand.{access, name, number, state, text, values};
+ghost use Rattle.config_text.specs.Output.{AppendsOrFull, head_of, spaced};
+
+use crate::command::Command;
+use crate::operand::{Operand, Operands, Scratch};
+use arrayvec::ArrayVec;
+use bytes::BytesMut;
+use config_edits::{Edit, Endpoint, NewNamespace};
+use config_lists::{Access, AnaState, Text};
+use nvt_fields::Nqn;
+use std::error::Error;
+use std::fmt;
+
+/// The buffer's spare room is too small for the line. The buffer is as it was.
+#[derive(Clone, Copy, Debug, PartialEq, Eq)]
+pub struct Full;
+
+impl Error for Full {}
+
+impl fmt::Display for Full {
+    ghost output = { λ _. Some (codes "the line does not fit the buffer's spare room") };
+
+    fn fmt<W: fmt::Write>(&self, f: &mut fmt::Formatter<W>) -> fmt::Result {
+        f.write_str("the line does not fit the buffer's spare room")
+    }
+}
+
+/// Appends the edit's line. It takes no memory.
+pub fn write_edit(edit: &Edit, out: &mut BytesMut) -> Result<(), Full>
+    ensures { AppendsOrFull out.old out.new (line_of edit.now) result }
+{
+    let command = command_of(edit);
+    let operands = operands_of(edit);
+    if !has_room(command, &operands, out.capacity() - out.len()) {
+        return Err(Full);
+    }
+    out.extend_reserved(command.noun());
+    out.extend_reserved(b" ");
+    out.extend_reserved(command.verb());
+    append_operands(&operands, out);
+    Ok(())
+}
+
+// Whether the line fits in so much room.
+fn has_room(command: Command, operands: &[Operand<'_>], room: usize) -> bool
+    ensures { result ≡ nat_le (length (head_of command ++ spaced (values operands.now))) room }
+{
+    let head = command.noun().len() + 1 + command.verb().len();
+    match room.checked_sub(head) {
+        Some(room) => have_room(operands, room),
+        None => false,
+    }
+}
+
+// Whether the words of the values fit in so much room, each after a space.
+fn have_room(operands: &[Operand<'_>], room: usize) -> bool
+    ensures { result ≡ nat_le (length (spaced (values operands.now))) room }
+{
+    let mut left = room;
+    let mut scratch = Scratch::new();
+    for operand in operands {
+        let len = operand.word(&mut scratch).len();
+        if left <= len {
+            return false;
+        }
+        left -= len + 1;
+    }
+    true
+}
+
+// Appends the words of the values, each after a space.
+fn append_operands(operands: &[Operand<'_>], out: &mut BytesMut)
+    requires { length (spaced (values operands.now)) ≤ out.old.spare }
+    ensures items { out.new.items ≡ out.old.items ++ spaced (values operands.now) }
+    ensures spare { out.new.spare + length (spaced (values operands.now)) ≡ out.old.spare }
+{
+    let mut scratch = Scratch::new();
+    for operand in operands {
+        out.extend_reserved(b" ");
+        out.extend_reserved(operand.word(&mut scratch));
+    }
+}
+
+fn command_of(edit: &Edit) -> Command
+    ensures { result ≡ command_of edit.now }
+{
+    match edit {
+        Edit::SubsystemAdd { .. } => Command::SubsystemAdd,
+        Edit::SubsystemSet { .. } => Command::SubsystemSet,
+        Edit::SubsystemDel { .. } => Command::SubsystemDel,
+        Edit::NamespaceAdd(_) => Command::NamespaceAdd,
+        Edit::NamespaceSize { .. } => Command::NamespaceSize,
+        Edit::NamespaceGroup { .. } => Command::NamespaceGroup,
+        Edit::NamespaceDel { .. } => Command::NamespaceDel,
+        Edit::PortAdd(_) => Command::PortAdd,
+        Edit::PortSet(_) => Command::PortSet,
+        Edit::PortDel { .. } => Command::PortDel,
+        Edit::LinkAdd { .. } => Command::LinkAdd,
+        Edit::LinkDel { .. } => Command::LinkDel,
+        Edit::HostAdd { .. } => Command::HostAdd,
+        Edit::HostDel { .. } => Command::HostDel,
+        Edit::AllowAdd { .. } => Command::AllowAdd,
+        Edit::AllowDel { .. } => Command::AllowDel,
+        Edit::AnaSet { .. } => Command::AnaSet,
+        Edit::ReferralAdd(_) => Command::ReferralAdd,
+        Edit::ReferralSet(_) => Command::ReferralSet,
+        Edit::ReferralDel { .. } => Command::ReferralDel,
+    }
+}
+
+// What the words after the first two say.
+fn operands_of(edit: &Edit) -> Operands<'_>
+    ensures { values result.items ≡ values_of edit.now }
+{
+    match edit {
+        Edit::SubsystemAdd {
+            nqn,
+            serial,
+            access,
+        } => of_subsystem(nqn, serial, *access),
+        Edit::SubsystemSet { nqn, access } => {
+            list_of(&[Operand::Name(nqn.as_bytes()), Operand::Access(*access)])
+        }
+        Edit::SubsystemDel { nqn } | Edit::HostAdd { nqn } | Edit::HostDel { nqn } => {
+            list_of(&[Operand::Name(nqn.as_bytes())])
+        }
+        Edit::NamespaceAdd(new) => of_namespace(new),
+        Edit::NamespaceSize {
+            subsystem,
+            nsid,
+            blocks,
+        } => of_setting(subsystem, *nsid, *blocks),
+        Edit::NamespaceGroup {
+            subsystem,
+            nsid,
+            group,
+        } => of_setting(subsystem, *nsid, *group),
+        Edit::NamespaceDel { subsystem, nsid } => {
+            list_of(&[Operand::Name(subsystem.as_bytes()), Operand::Number(*nsid)])
+        }
+        Edit::PortAdd(endpoint)
+        | Edit::PortSet(endpoint)
+        | Edit::ReferralAdd(endpoint)
+        | Edit::ReferralSet(endpoint) => of_endpoint(endpoint),
+        Edit::PortDel { id } | Edit::ReferralDel { id } => list_of(&[Operand::Number(*id)]),
+        Edit::LinkAdd { port, subsystem } | Edit::LinkDel { port, subsystem } => {
+            list_of(&[Operand::Number(*port), Operand::Name(subsystem.as_bytes())])
+        }
+        Edit::AllowAdd { subsystem, host } | Edit::AllowDel { subsystem, host } => {
+            list_of(&[
+                Operand::Name(subsystem.as_bytes()),
+                Operand::Name(host.as_bytes()),
+            ])
+        }
+        Edit::AnaSet {
+            port,
+            subsystem,
+            group,
+            state,
+        } => { of_state(*port, subsystem, *group, *state) }
+    }
+}
+
+fn of_subsystem<'a>(nqn: &'a Nqn, serial: &'a Text, who: Access) -> Operands<'a>
+    ensures { values result.items ≡ name nqn.now ∷ text serial.now ∷ access who ∷ [] }
+{
+    list_of(&[
+        Operand::Name(nqn.as_bytes()),
+        Operand::Text(serial.as_bytes()),
+        Operand::Access(who),
+    ])
+}
+
+fn of_namespace(new: &NewNamespace) -> Operands<'_>
+    ensures { values result.items ≡ namespace_values new.now }
+{
+    list_of(&[
+        Operand::Name(new.subsystem.as_bytes()),
+        Operand::Number(new.nsid),
+        Operand::Number(new.disk),
+        Operand::Number(new.blocks),
+        Operand::Number(new.block_size),
+        Operand::Uuid(new.uuid),
+        Operand::Number(new.group),
+    ])
+}
+
+fn of_setting(subsystem: &Nqn, nsid: u64, setting: u64) -> Operands<'_>
+    ensures { values result.items ≡ name subsystem.now ∷ number nsid ∷ number setting ∷ [] }
+{
+    list_of(&[
+        Operand::Name(subsystem.as_bytes()),
+        Operand::Number(nsid),
+        Operand::Number(setting),
+    ])
+}
+
+fn of_endpoint(endpoint: &Endpoint) -> Operands<'_>
+    ensures { values result.items ≡ endpoint_values endpoint.now }
+{
+    list_of(&[
+        Operand::Number(endpoint.id),
+        Operand::Family(endpoint.family),
+        Operand::Text(endpoint.address.as_bytes()),
+        Operand::Number(endpoint.service),
+    ])
+}
+
+fn of_state(port: u64, subsystem: &Nqn, group: u64, ana: AnaState) -> Operands<'_>
+    ensures { values result.items
+        ≡ number port ∷ name subsystem.now ∷ number group ∷ state ana ∷ [] }
+{
+    list_of(&[
+        Operand::Number(port),
+        Operand::Name(subsystem.as_bytes()),
+        Operand::Number(group),
+        Operand::State(ana),
+    ])
+}
+
+fn list_of<'a>(items: &[Operand<'a>]) -> Operands<'a>
+    requires { length items.now ≤ 7 }
+    ensures { result.items ≡ items.now }
+{
+    let mut operands = ArrayVec::new();
+    for item in items {
+        operands.push(*item);
+    }
+    operands
+}
