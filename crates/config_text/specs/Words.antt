@@ -1,5 +1,6 @@
 -- A line as words, and the first word of one that is faulty.
-use Rattle.std.specs.Prelude.{ℕ, ◌+◌, ◌==◌, nat_lt, Bool, false, is_some, Bor, List, [], ◌∷◌, length, Option, Some, None, if◌then◌else◌}
+use Rattle.std.specs.Prelude.{ℕ, ◌+◌, ◌==◌, nat_lt, Bool, false, is_some, List, [], ◌∷◌, length, Option, Some, None, if◌then◌else◌}
+use Rattle.std.specs.Borrow.{Bor}
 use Rattle.std.specs.List.{slice_split}
 use Rattle.config_text.specs.Command.{command_from, grammar_of, is_noun}
 use Rattle.config_text.specs.Operand.{allows, kind_of}

@@ -1,0 +1,17 @@
+use Rattle.std.proofs.Common.{rules, ◌≡◌, ◌<◌, ◌≤◌, ◌+◌, [], ◌∷◌, IfErr, IfOk, OnOk, Some, length, map, List, None, if◌then◌else◌, ℕ, ◌-◌, ◌*◌, ◌/◌, ◌%◌, Bool, true, false, nat_eq, nat_lt, ◌++◌, slice_index_or, slice_set, bit_and, bit_or, Fits, w8, w32, w64, Bor, MutBor}
+use Rattle.std.specs.List.{AllByRecursion}
+use Rattle.std.specs.Result.{result_err}
+use Rattle.config_text.specs.Command.{grammar_of}
+use Rattle.config_text.specs.Operand.{IsSaid, form_of, value_of, values, word_of}
+use Rattle.config_text.specs.Words.{absence, fault, forms_fault, left_len, words, words_fault, words_in}
+use Rattle.config_text.specs.declared.operand.Form.{Form}
+use Rattle.config_text.specs.WordsLeft.{Takes, words_left}
+use Rattle.config_text.proofs.words.Words.command.Goals as goal
+
+-- src/words.rt:59:20
+pub returns-in_err-verb-clause-fault : goal.returns-in_err-verb-clause-fault
+returns-in_err-verb-clause-fault c = ?
+
+-- src/words.rt:47:5
+pub returns-in-Some-clause-words : goal.returns-in-Some-clause-words
+returns-in-Some-clause-words c = ?
