@@ -1,3 +1,5 @@
 pub mod LineLemmas
 pub mod NumberLemmas
 pub mod OperandLemmas
+pub mod UuidLemmas
+pub mod WordLemmas

@@ -1,6 +1,8 @@
 //! The commands of the edit language.
-ghost use Rattle.std.specs.Prelude.{◌≡◌, ◌≤◌, length};
-ghost use Rattle.config_text.specs.Command.{command_from, commands, grammar_of, is_noun};
+ghost use Rattle.std.specs.Prelude.{◌≡◌, ◌≤◌, ◌&&◌, find, length};
+ghost use Rattle.std.specs.Option.{option_copied};
+ghost use Rattle.std.specs.Str.{bytes_eq};
+ghost use Rattle.config_text.specs.Command.{command_from, grammar_of, is_noun};
 
 use crate::operand::Form;
 
@@ -57,10 +59,7 @@ impl Command {
     pub(crate) fn from_words(noun: &[u8], verb: &[u8]) -> Option<Command>
         ensures { result ≡ command_from noun.now verb.now }
     {
-        COMMANDS
-            .iter()
-            .find(|command| command.noun() == noun && command.verb() == verb)
-            .copied()
+        find_command(COMMANDS, noun, verb).copied()
     }
 
     /// The first word: what is edited.
@@ -152,4 +151,14 @@ pub(crate) fn is_noun(word: &[u8]) -> bool
     ensures { result ≡ is_noun word.now }
 {
     COMMANDS.iter().any(|command| command.noun() == word)
+}
+
+fn find_command<'a>(commands: &'a [Command], noun: &[u8], verb: &[u8]) -> Option<&'a Command>
+    ensures { option_copied result ≡ find
+        (λ c. bytes_eq (grammar_of c).noun noun.now && bytes_eq (grammar_of c).verb verb.now)
+        commands.now }
+{
+    commands
+        .iter()
+        .find(|command| command.noun() == noun && command.verb() == verb)
 }

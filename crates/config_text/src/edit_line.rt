@@ -13,6 +13,7 @@ use crate::command::Command;
 use crate::fault::{LineFault, LineFaultKind};
 use crate::operand::Operands;
 use crate::words::Words;
+use arrayvec::ArrayVec;
 use config_edits::Edit;
 use std::alloc::{AllocError, Global};
 
@@ -50,7 +51,8 @@ fn read_words(line: &[u8]) -> Result<(Command, Operands<'_>), LineFault>
     }
     let mut words = Words::of(line);
     let command = words.command()?;
-    let operands = words.operands(command.forms())?;
+    let mut operands = ArrayVec::new();
+    words.operands(command.forms(), &mut operands)?;
     Ok((command, operands))
 }
 

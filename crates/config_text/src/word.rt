@@ -1,8 +1,7 @@
 //! The words that say a value which is no number.
-ghost use Rattle.std.specs.Prelude.{◌≡◌, ◌==◌, ◌&&◌, nat_eq, nat_le, codes, IfSome, is_some, length};
+ghost use Rattle.std.specs.Prelude.{◌≡◌, ◌<◌, All, IfSome, codes, is_some, length, nat_eq};
 ghost use Rattle.std.specs.Char.{is_ascii_graphic};
 ghost use Rattle.std.specs.List.{list_all, starts_with};
-ghost use Rattle.nvt_fields.specs.Name.{is_name};
 ghost use Rattle.config_text.specs.Word.{access_word, family_word, is_access, is_family};
 ghost use Rattle.config_text.specs.Word.{is_name_word, is_state, is_text_word, is_uuid_word};
 ghost use Rattle.config_text.specs.Word.{state_word, uuid_word};
@@ -93,16 +92,28 @@ pub(crate) fn read_state(word: &[u8]) -> Option<AnaState>
 pub(crate) fn read_uuid(word: &[u8]) -> Option<Uuid>
     ensures variant { is_some result ≡ is_uuid_word word.now }
     ensures some { IfSome result (λ uuid. word.now ≡ uuid_word uuid) }
+    ensures bytes { IfSome result (λ uuid. (length uuid ≡ 16) × All (λ b. b < 256) uuid) }
 {
     let Ok(uuid) = Uuid::try_parse_ascii(word) else {
         return None;
     };
+    sixteen_bytes(uuid.as_bytes());
     let mut buffer = [0u8; 36];
     let text = uuid.hyphenated().encode_lower(&mut buffer);
     if text.as_bytes() == word {
         return Some(uuid);
     }
     None
+}
+
+// Sixteen numbers below 256, which a clause knows of bytes that are read: this walk costs nothing.
+#[inline]
+fn sixteen_bytes(bytes: &[u8; 16])
+    ensures { (length bytes.now ≡ 16) × All (λ b. b < 256) bytes.now }
+{
+    'bytes: for i in 0..16 {
+        let _ = bytes[i];
+    }
 }
 
 /// Whether the word is an NVMe qualified name.

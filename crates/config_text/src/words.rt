@@ -1,10 +1,11 @@
 //! The words of a line, one after the other.
-ghost use Rattle.std.specs.Prelude.{◌≡◌, ◌<◌, ◌≤◌, ◌+◌, [], ◌∷◌, IfErr, IfOk, OnOk, Some, length, map};
+ghost use Rattle.std.specs.Prelude.{◌≡◌, ◌<◌, ◌≤◌, ◌+◌, [], ◌∷◌, ◌++◌, IfErr, IfOk, OnOk, Some, length, map};
 ghost use Rattle.std.specs.Prelude.{List, None, if◌then◌else◌};
 ghost use Rattle.std.specs.List.{AllByRecursion};
 ghost use Rattle.std.specs.Result.{result_err};
+ghost use Rattle.arrayvec.specs.ArrayVec.{array_vec_len};
 ghost use Rattle.config_text.specs.Command.{grammar_of};
-ghost use Rattle.config_text.specs.Operand.{IsSaid, form_of, value_of, values, word_of};
+ghost use Rattle.config_text.specs.Operand.{IsSaid, form_of, values, word_of};
 ghost use Rattle.config_text.specs.Words.{absence, fault, forms_fault, left_len, words};
 ghost use Rattle.config_text.specs.Words.{words_fault, words_in};
 ghost use Rattle.config_text.specs.declared.operand.Form.{Form};
@@ -12,8 +13,7 @@ ghost use Rattle.config_text.specs.declared.operand.Form.{Form};
 use crate::command::{Command, is_noun};
 use crate::fault::{LineFault, LineFaultKind};
 use crate::lines::find_byte;
-use crate::operand::{Form, Operand, Operands};
-use arrayvec::ArrayVec;
+use crate::operand::{Form, Operands};
 
 /// The words of a line that are left to read.
 #[derive(Debug, Drop)]
@@ -66,52 +66,62 @@ impl<'a> Words<'a> {
         }
     }
 
-    /// The values that the words say, which have to be of these forms, and no more.
-    pub(crate) fn operands(&mut self, forms: &[Form]) -> Result<Operands<'a>, LineFault>
-        requires { length forms.now ≤ 7 }
+    /// Adds the values that the words say, which have to be of these forms, and no more.
+    pub(crate) fn operands(
+        &mut self,
+        forms: &[Form],
+        operands: &mut Operands<'a>,
+    ) -> Result<(), LineFault>
+        requires { array_vec_len operands.old + length forms.now ≤ 7 }
         ensures fault { result_err result
             ≡ forms_fault self.old.end self.old.column forms.now (words_left self.old) }
-        ensures words { IfOk result (λ o. map word_of (values o.items) ≡ words_left self.old) }
-        ensures forms { IfOk result (λ o. map form_of (values o.items) ≡ forms.now) }
-        ensures said { IfOk result (λ o. AllByRecursion IsSaid (values o.items)) }
+        ensures words { OnOk result (map word_of (values operands.new.items)
+            ≡ map word_of (values operands.old.items) ++ words_left self.old) }
+        ensures forms { OnOk result (map form_of (values operands.new.items)
+            ≡ map form_of (values operands.old.items) ++ forms.now) }
+        ensures said { OnOk result (AllByRecursion IsSaid (values operands.old.items)
+            → AllByRecursion IsSaid (values operands.new.items)) }
     {
-        let mut operands = ArrayVec::new();
         for form in forms {
-            let operand = self.operand(*form)?;
-            operands.push(operand);
+            self.push_operand(*form, operands)?;
         }
-        self.end()?;
-        Ok(operands)
+        self.end()
     }
 
-    // The value that the next word says. What is clear of the faults holds whatever forms follow.
-    fn operand(&mut self, form: Form) -> Result<Operand<'a>, LineFault>
+    // Adds the value that the next word says. What is said of the faults holds whatever forms follow.
+    fn push_operand(&mut self, form: Form, operands: &mut Operands<'a>) -> Result<(), LineFault>
+        requires { array_vec_len operands.old < 7 }
         ensures fault { IfErr result (λ fault. (forms : List Form)
             → forms_fault self.old.end self.old.column (form ∷ forms) (words_left self.old)
             ≡ Some fault) }
         ensures rest { OnOk result ((forms : List Form)
             → forms_fault self.old.end self.old.column (form ∷ forms) (words_left self.old)
             ≡ forms_fault self.new.end self.new.column forms (words_left self.new)) }
-        ensures word { IfOk result (λ operand. words_left self.old
-            ≡ word_of (value_of operand) ∷ words_left self.new) }
-        ensures form { IfOk result (λ operand. form_of (value_of operand) ≡ form) }
-        ensures said { IfOk result (λ operand. IsSaid (value_of operand)) }
+        ensures words { OnOk result (map word_of (values operands.new.items) ++ words_left self.new
+            ≡ map word_of (values operands.old.items) ++ words_left self.old) }
+        ensures forms { OnOk result (map form_of (values operands.new.items)
+            ≡ map form_of (values operands.old.items) ++ form ∷ []) }
+        ensures said { OnOk result (AllByRecursion IsSaid (values operands.old.items)
+            → AllByRecursion IsSaid (values operands.new.items)) }
+        ensures len { OnOk result (array_vec_len operands.new ≡ array_vec_len operands.old + 1) }
     {
         let column = self.column;
         let word = self.next_word()?;
-        match form.read(word) {
-            Some(operand) => Ok(operand),
-            None => Err(LineFault {
+        let Some(operand) = form.read(word) else {
+            return Err(LineFault {
                 column,
                 kind: form.kind(),
-            }),
-        }
+            });
+        };
+        operands.push(operand);
+        Ok(())
     }
 
     // Nothing where no word is left, and the fault of the next one otherwise.
     fn end(&mut self) -> Result<(), LineFault>
-        ensures { result_err result
+        ensures fault { result_err result
             ≡ forms_fault self.old.end self.old.column [] (words_left self.old) }
+        ensures ended { OnOk result (words_left self.old ≡ []) }
     {
         if self.rest.is_none() {
             return Ok(());

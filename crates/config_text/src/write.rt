@@ -123,10 +123,10 @@ fn operands_of(edit: &Edit) -> Operands<'_>
             access,
         } => of_subsystem(nqn, serial, *access),
         Edit::SubsystemSet { nqn, access } => {
-            list_of(&[Operand::Name(nqn.as_bytes()), Operand::Access(*access)])
+            two(Operand::Name(nqn.as_bytes()), Operand::Access(*access))
         }
         Edit::SubsystemDel { nqn } | Edit::HostAdd { nqn } | Edit::HostDel { nqn } => {
-            list_of(&[Operand::Name(nqn.as_bytes())])
+            one(Operand::Name(nqn.as_bytes()))
         }
         Edit::NamespaceAdd(new) => of_namespace(new),
         Edit::NamespaceSize {
@@ -140,21 +140,21 @@ fn operands_of(edit: &Edit) -> Operands<'_>
             group,
         } => of_setting(subsystem, *nsid, *group),
         Edit::NamespaceDel { subsystem, nsid } => {
-            list_of(&[Operand::Name(subsystem.as_bytes()), Operand::Number(*nsid)])
+            two(Operand::Name(subsystem.as_bytes()), Operand::Number(*nsid))
         }
         Edit::PortAdd(endpoint)
         | Edit::PortSet(endpoint)
         | Edit::ReferralAdd(endpoint)
         | Edit::ReferralSet(endpoint) => of_endpoint(endpoint),
-        Edit::PortDel { id } | Edit::ReferralDel { id } => list_of(&[Operand::Number(*id)]),
+        Edit::PortDel { id } | Edit::ReferralDel { id } => one(Operand::Number(*id)),
         Edit::LinkAdd { port, subsystem } | Edit::LinkDel { port, subsystem } => {
-            list_of(&[Operand::Number(*port), Operand::Name(subsystem.as_bytes())])
+            two(Operand::Number(*port), Operand::Name(subsystem.as_bytes()))
         }
         Edit::AllowAdd { subsystem, host } | Edit::AllowDel { subsystem, host } => {
-            list_of(&[
+            two(
                 Operand::Name(subsystem.as_bytes()),
                 Operand::Name(host.as_bytes()),
-            ])
+            )
         }
         Edit::AnaSet {
             port,
@@ -168,67 +168,72 @@ fn operands_of(edit: &Edit) -> Operands<'_>
 fn of_subsystem<'a>(nqn: &'a Nqn, serial: &'a Text, who: Access) -> Operands<'a>
     ensures { values result.items ≡ name nqn.now ∷ text serial.now ∷ access who ∷ [] }
 {
-    list_of(&[
+    let mut operands = two(
         Operand::Name(nqn.as_bytes()),
         Operand::Text(serial.as_bytes()),
-        Operand::Access(who),
-    ])
+    );
+    operands.push(Operand::Access(who));
+    operands
 }
 
 fn of_namespace(new: &NewNamespace) -> Operands<'_>
     ensures { values result.items ≡ namespace_values new.now }
 {
-    list_of(&[
+    let mut operands = two(
         Operand::Name(new.subsystem.as_bytes()),
         Operand::Number(new.nsid),
-        Operand::Number(new.disk),
-        Operand::Number(new.blocks),
-        Operand::Number(new.block_size),
-        Operand::Uuid(new.uuid),
-        Operand::Number(new.group),
-    ])
+    );
+    operands.push(Operand::Number(new.disk));
+    operands.push(Operand::Number(new.blocks));
+    operands.push(Operand::Number(new.block_size));
+    operands.push(Operand::Uuid(new.uuid));
+    operands.push(Operand::Number(new.group));
+    operands
 }
 
 fn of_setting(subsystem: &Nqn, nsid: u64, setting: u64) -> Operands<'_>
     ensures { values result.items ≡ name subsystem.now ∷ number nsid ∷ number setting ∷ [] }
 {
-    list_of(&[
-        Operand::Name(subsystem.as_bytes()),
-        Operand::Number(nsid),
-        Operand::Number(setting),
-    ])
+    let mut operands = two(Operand::Name(subsystem.as_bytes()), Operand::Number(nsid));
+    operands.push(Operand::Number(setting));
+    operands
 }
 
 fn of_endpoint(endpoint: &Endpoint) -> Operands<'_>
     ensures { values result.items ≡ endpoint_values endpoint.now }
 {
-    list_of(&[
+    let mut operands = two(
         Operand::Number(endpoint.id),
         Operand::Family(endpoint.family),
-        Operand::Text(endpoint.address.as_bytes()),
-        Operand::Number(endpoint.service),
-    ])
+    );
+    operands.push(Operand::Text(endpoint.address.as_bytes()));
+    operands.push(Operand::Number(endpoint.service));
+    operands
 }
 
 fn of_state(port: u64, subsystem: &Nqn, group: u64, ana: AnaState) -> Operands<'_>
     ensures { values result.items
         ≡ number port ∷ name subsystem.now ∷ number group ∷ state ana ∷ [] }
 {
-    list_of(&[
-        Operand::Number(port),
-        Operand::Name(subsystem.as_bytes()),
-        Operand::Number(group),
-        Operand::State(ana),
-    ])
+    let mut operands = two(Operand::Number(port), Operand::Name(subsystem.as_bytes()));
+    operands.push(Operand::Number(group));
+    operands.push(Operand::State(ana));
+    operands
 }
 
-fn list_of<'a>(items: &[Operand<'a>]) -> Operands<'a>
-    requires { length items.now ≤ 7 }
-    ensures { result.items ≡ items.now }
+fn one(first: Operand<'_>) -> Operands<'_>
+    ensures { result.items ≡ first.entry ∷ [] }
 {
     let mut operands = ArrayVec::new();
-    for item in items {
-        operands.push(*item);
-    }
+    operands.push(first);
+    operands
+}
+
+fn two<'a>(first: Operand<'a>, second: Operand<'a>) -> Operands<'a>
+    ensures { result.items ≡ first.entry ∷ second.entry ∷ [] }
+{
+    let mut operands = ArrayVec::new();
+    operands.push(first);
+    operands.push(second);
     operands
 }

@@ -1,14 +1,14 @@
-use Rattle.std.proofs.Common.{rules, ◌≡◌, ◌==◌, ◌&&◌, nat_eq, nat_le, codes, IfSome, is_some, length, ℕ, ◌+◌, ◌-◌, ◌*◌, ◌<◌, ◌≤◌, ◌/◌, ◌%◌, Bool, true, false, nat_lt, List, [], ◌∷◌, ◌++◌, slice_index_or, slice_set, bit_and, bit_or, Fits, w8, w32, w64, Bor, MutBor}
-use Rattle.std.specs.Char.{is_ascii_graphic}
-use Rattle.std.specs.List.{list_all, starts_with}
-use Rattle.nvt_fields.specs.Name.{is_name}
-use Rattle.config_text.specs.Word.{access_word, family_word, is_access, is_family, is_name_word, is_state, is_text_word, is_uuid_word, state_word, uuid_word}
+use Rattle.std.proofs.Common.{sym, ◌∙◌, ap}
+use Rattle.std.proofs.lemmas.Bool.{false≢true}
+use Rattle.std.proofs.lemmas.Bool.Decides.{Decides-eqb}
+use Rattle.std.proofs.lemmas.Slice.Eq.{slice_eq-Decides}
+use Rattle.config_text.specs.Word.{uuid_word}
+use Rattle.config_text.proofs.UuidLemmas.{unparsed}
 use Rattle.config_text.proofs.word.read_uuid.Goals as goal
 
--- src/word.rt:98:9
 pub returns-in_default-clause-variant : goal.returns-in_default-clause-variant
-returns-in_default-clause-variant c = ?
+returns-in_default-clause-variant c = sym (unparsed c.args.word.now (λ some. false≢true (c.in_default.ensures.ok.1 some)))
 
--- src/word.rt:103:9
 pub returns-then-eq-clause-some : goal.returns-then-eq-clause-some
-returns-then-eq-clause-some c = ?
+returns-then-eq-clause-some c =
+    sym ((slice_eq-Decides Decides-eqb _ _ _ c.eq.ensures).0 c.if-eq.true) ∙ c.as_bytes-2.ensures.value ∙ c.encode_lower-text.ensures.text ∙ ap uuid_word c.hyphenated.ensures

@@ -1,13 +1,11 @@
-use Rattle.std.proofs.Common.{rules, ◌≡◌, ◌<◌, ◌≤◌, ◌+◌, [], ◌∷◌, IfErr, IfOk, OnOk, Some, length, map, List, None, if◌then◌else◌, ℕ, ◌-◌, ◌*◌, ◌/◌, ◌%◌, Bool, true, false, nat_eq, nat_lt, ◌++◌, slice_index_or, slice_set, bit_and, bit_or, Fits, w8, w32, w64, Bor, MutBor}
-use Rattle.std.specs.List.{AllByRecursion}
-use Rattle.std.specs.Result.{result_err}
-use Rattle.config_text.specs.Command.{grammar_of}
-use Rattle.config_text.specs.Operand.{IsSaid, form_of, value_of, values, word_of}
-use Rattle.config_text.specs.Words.{absence, fault, forms_fault, left_len, words, words_fault, words_in}
-use Rattle.config_text.specs.declared.operand.Form.{Form}
-use Rattle.config_text.specs.WordsLeft.{Takes, words_left}
+use Rattle.std.proofs.Common.{◌≡◌, true, is_some, sym, arith}
+use Rattle.std.proofs.lemmas.Grind.{common_steps}
+use Rattle.std.proofs.lemmas.Result.{err_from_is_err_and}
+use Rattle.config_text.proofs.WordLemmas.{end_absent}
 use Rattle.config_text.proofs.words.Words.end.Goals as goal
 
--- src/words.rt:120:9
-pub returns-in_err-next_word : goal.returns-in_err-next_word
-returns-in_err-next_word c = ?
+pub returns-in_err-next_word-clause-fault : goal.returns-in_err-next_word-clause-fault
+returns-in_err-next_word-clause-fault c =
+    let p = err_from_is_err_and c.from_residual.result c.from_residual.ensures.1 in
+    let more : is_some c.args.self.now.rest ≡ true = grind (arith, common_steps) in
+    rw (p.1, p.2) (sym (end_absent c.args.self.now.rest _ _ _ more (sym c.in_err-next_word.ensures.fault)))
