@@ -1,5 +1,8 @@
+pub mod EditLemmas
 pub mod LineLemmas
 pub mod NumberLemmas
 pub mod OperandLemmas
+pub mod PlainWords
 pub mod UuidLemmas
 pub mod WordLemmas
+pub mod WriteLemmas

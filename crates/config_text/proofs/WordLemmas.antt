@@ -1,24 +1,19 @@
 -- The words of a line, and their faults.
-use Rattle.std.proofs.Common.{◌≡◌, ℕ, ◌+◌, ◌≤◌, ◌<◌, ◌==◌, Bool, true, false, not, if◌then◌else◌, Option, Some, None, is_some, IfErr, Result, Ok, Err, List, [], ◌∷◌, ◌++◌, find, ◌&&◌, count_by, length, length-drop, ◌-◌, get_or, take, drop, map, refl, sym, subst, ap, ◌∙◌, append_assoc, arith}
+use Rattle.std.proofs.Common.{◌≡◌, ℕ, ◌+◌, ◌≤◌, ◌<◌, ◌==◌, Bool, true, false, if◌then◌else◌, Option, Some, None, is_some, List, [], ◌∷◌, find, ◌&&◌, count_by, length, length-drop, ◌-◌, take, drop, refl, sym, ap, ◌∙◌, arith}
 use Rattle.std.specs.Str.{bytes_eq}
 use Rattle.std.proofs.lemmas.Slice.Eq.{bytes_eq-Decides}
-use Rattle.std.specs.List.{position_or_len, before_first, after_first, slice_split, AllByRecursion}
+use Rattle.std.specs.List.{position_or_len}
 use Rattle.std.proofs.lemmas.Grind.{common_steps}
 use Rattle.std.proofs.lemmas.List.Splits.{length-slice_split, slice_split_first, slice_split_none}
 use Rattle.std.proofs.lemmas.List.{take_all}
 use Rattle.std.proofs.lemmas.List.Sums.{fails_before_first}
-use Rattle.config_text.specs.Operand.{IsSaid, Reads, allows, form_of, kind_of, value_of, values, word_of}
 use Rattle.std.specs.Borrow.{Bor}
 use Rattle.config_text.specs.Command.{command_from, commands, grammar_of, is_noun}
 use Rattle.config_text.specs.Words.{absence, fault, forms_fault, verb_fault, word_fault, words, words_fault, words_in}
-use Rattle.config_text.specs.WordsLeft.{Takes, words_left}
 use Rattle.config_text.specs.declared.command.Command.{Command}
 use Rattle.config_text.specs.declared.fault.LineFault.{LineFault}
 use Rattle.config_text.specs.declared.fault.LineFaultKind.{LineFaultKind}
-use Rattle.config_text.specs.declared.fault.LineFaultKind.TheVariants.{Empty, Extra, UnknownWord}
-use Rattle.config_text.specs.declared.operand.Form.{Form}
-use Rattle.config_text.specs.declared.operand.Operand.{Operand}
-use Rattle.config_text.specs.declared.words.Words.{Words}
+use Rattle.config_text.specs.declared.fault.LineFaultKind.TheVariants.{Empty, UnknownWord}
 
 some_same : {X : Type 0} {a b : X} → Some a ≡ Some b → a ≡ b
 some_same is = cc
@@ -51,19 +46,9 @@ nonempty_is n lt = grind (arith, common_steps)
 pub word_passes : (column : ℕ) (word : List ℕ) (passes : Bool) (kind : LineFaultKind) (rest : Option LineFault) → 0 < length word → passes ≡ true → word_fault column word passes kind rest ≡ rest
 word_passes column word passes kind rest lt passed = rw (nonempty_is (length word) lt, passed) refl
 
--- a word that has a byte and is not allowed
-pub word_fails : (column : ℕ) (word : List ℕ) (passes : Bool) (kind : LineFaultKind) (rest : Option LineFault) → 0 < length word → passes ≡ false → word_fault column word passes kind rest ≡ fault column kind
-word_fails column word passes kind rest lt failed = rw (nonempty_is (length word) lt, failed) refl
-
 by_test : (n : ℕ) (b : Bool) → (n == 0) ≡ b → (column : ℕ) (f : LineFault) → (if n == 0 then fault column Empty else None) ≡ Some f → b ≡ true
 by_test n true is column f e = refl
 by_test n false is column f e = cc
-
--- where there is no word of a byte, that is the fault, whatever has to stand there
-pub word_absent : (end column : ℕ) (words : List (List ℕ)) (form : Form) (forms : List Form) (f : LineFault) → absence end column words ≡ Some f → forms_fault end column (form ∷ forms) words ≡ Some f
-word_absent end column [] form forms f is = is
-word_absent end column (word ∷ words) form forms f is = let empty : (length word == 0) ≡ true = by_test (length word) (length word == 0) refl column f is in
-    rw empty (rw empty at is)
 
 -- a test that was passed
 pub check_passed : (b : Bool) (f : LineFault) → None ≡ (if b then None else Some f) → b ≡ true
@@ -97,32 +82,6 @@ command_words noun verb command is =
     let both = both_true (bytes_eq (grammar_of command).noun noun) (bytes_eq (grammar_of command).verb verb) passes in
     ((bytes_eq-Decides _ _).0 both.0, (bytes_eq-Decides _ _).0 both.1)
 
-pub record Says (old new : List Operand) (before after : List (List ℕ)) (form : Form) : Type 0 where
-  pub words : map word_of (values new) ++ after ≡ map word_of (values old) ++ before
-  pub forms : map form_of (values new) ≡ map form_of (values old) ++ form ∷ []
-  pub said : AllByRecursion IsSaid (values old) → AllByRecursion IsSaid (values new)
-
--- one operand more, from the next word
-pub says_one : (old new : List Operand) (operand : Operand) (before after : List (List ℕ)) (form : Form) (word : List ℕ) → new ≡ old ++ operand ∷ [] → Reads form word operand → before ≡ word ∷ after → Says old new before after form
-says_one old new operand before after form word is reads are = let P : List Operand → Type 0 = λ l. Says old l before after form in
-    subst P (sym is) (from old) where
-      from : (old : List Operand) → Says old (old ++ operand ∷ []) before after form
-      from [] = record { words = ap (λ w. w ∷ after) (sym reads.word_is) ∙ sym are; forms = ap (λ f. f ∷ []) reads.form_is; said = λ _. (reads.is_said, tt) }
-      from (o ∷ os) = let rest = from os in
-          record { words = ap (λ l. word_of (value_of o) ∷ l) rest.words; forms = ap (λ l. form_of (value_of o) ∷ l) rest.forms; said = λ all. (all.0, rest.said all.1) }
-
--- the fault of the words from a column on, where the next word has none
-pub fault_next : (end column : ℕ) (before after : List (List ℕ)) (word : List ℕ) (form : Form) (forms : List Form) → before ≡ word ∷ after → 0 < length word → allows form word ≡ true
-    → forms_fault end column (form ∷ forms) before ≡ forms_fault end (column + length word + 1) forms after
-fault_next end column before after word form forms are lt passed = ap (forms_fault end column (form ∷ forms)) are
-    ∙ word_passes column word (allows form word) (kind_of form) (forms_fault end (column + length word + 1) forms after) lt passed
-
--- .. and where it is not of the form
-pub fault_here : (end column : ℕ) (before after : List (List ℕ)) (word : List ℕ) (form : Form) (forms : List Form) → before ≡ word ∷ after → 0 < length word → allows form word ≡ false
-    → forms_fault end column (form ∷ forms) before ≡ fault column (kind_of form)
-fault_here end column before after word form forms are lt failed = ap (forms_fault end column (form ∷ forms)) are
-    ∙ word_fails column word (allows form word) (kind_of form) (forms_fault end (column + length word + 1) forms after) lt failed
-
 some_word : (ws : List (List ℕ)) (n : ℕ) → length ws ≡ n + 1 → (end column : ℕ) (f : LineFault) → absence end column ws ≡ Some f → forms_fault end column [] ws ≡ Some f
 some_word [] n len end column f is = absurd (omega arith)
 some_word (word ∷ ws) n len end column f is = let empty : (length word == 0) ≡ true = by_test (length word) (length word == 0) refl column f is in
@@ -132,7 +91,3 @@ some_word (word ∷ ws) n len end column f is = let empty : (length word == 0) �
 pub end_absent : (rest : Option (Bor (List ℕ))) (end column : ℕ) (f : LineFault) → is_some rest ≡ true → absence end column (words_in rest) ≡ Some f → forms_fault end column [] (words_in rest) ≡ Some f
 end_absent None end column f some is = cc
 end_absent (Some text) end column f some is = some_word (words text.now) (count_by is_space text.now) (length-slice_split is_space text.now) end column f is
-
--- .. and with a word
-pub end_extra : (end column : ℕ) (before after : List (List ℕ)) (word : List ℕ) → before ≡ word ∷ after → 0 < length word → forms_fault end column [] before ≡ fault column Extra
-end_extra end column before after word are lt = ap (forms_fault end column []) are ∙ word_fails column word false Extra None lt refl

@@ -33,15 +33,20 @@ impl fmt::Display for Full {
 pub fn write_edit(edit: &Edit, out: &mut BytesMut) -> Result<(), Full>
     ensures { AppendsOrFull out.old out.new (line_of edit.now) result }
 {
-    let command = command_of(edit);
-    let operands = operands_of(edit);
-    if !has_room(command, &operands, out.capacity() - out.len()) {
+    write_words(command_of(edit), &operands_of(edit), out)
+}
+
+fn write_words(command: Command, operands: &[Operand<'_>], out: &mut BytesMut) -> Result<(), Full>
+    ensures { let line = head_of command ++ spaced (values operands.now) in
+        AppendsOrFull out.old out.new line result }
+{
+    if !has_room(command, operands, out.capacity() - out.len()) {
         return Err(Full);
     }
     out.extend_reserved(command.noun());
     out.extend_reserved(b" ");
     out.extend_reserved(command.verb());
-    append_operands(&operands, out);
+    append_operands(operands, out);
     Ok(())
 }
 
@@ -122,13 +127,9 @@ fn operands_of(edit: &Edit) -> Operands<'_>
             serial,
             access,
         } => of_subsystem(nqn, serial, *access),
-        Edit::SubsystemSet { nqn, access } => {
-            two(Operand::Name(nqn.as_bytes()), Operand::Access(*access))
-        }
-        Edit::SubsystemDel { nqn } | Edit::HostAdd { nqn } | Edit::HostDel { nqn } => {
-            one(Operand::Name(nqn.as_bytes()))
-        }
-        Edit::NamespaceAdd(new) => of_namespace(new),
+        Edit::SubsystemSet { nqn, access } => of_access(nqn, *access),
+        Edit::SubsystemDel { nqn } | Edit::HostAdd { nqn } | Edit::HostDel { nqn } => of_name(nqn),
+        Edit::NamespaceAdd(new) => of_new_namespace(new),
         Edit::NamespaceSize {
             subsystem,
             nsid,
@@ -139,22 +140,15 @@ fn operands_of(edit: &Edit) -> Operands<'_>
             nsid,
             group,
         } => of_setting(subsystem, *nsid, *group),
-        Edit::NamespaceDel { subsystem, nsid } => {
-            two(Operand::Name(subsystem.as_bytes()), Operand::Number(*nsid))
-        }
-        Edit::PortAdd(endpoint)
-        | Edit::PortSet(endpoint)
-        | Edit::ReferralAdd(endpoint)
-        | Edit::ReferralSet(endpoint) => of_endpoint(endpoint),
-        Edit::PortDel { id } | Edit::ReferralDel { id } => one(Operand::Number(*id)),
+        Edit::NamespaceDel { subsystem, nsid } => of_namespace(subsystem, *nsid),
+        Edit::PortAdd(endpoint) | Edit::PortSet(endpoint) => of_endpoint(endpoint),
+        Edit::ReferralAdd(endpoint) | Edit::ReferralSet(endpoint) => of_endpoint(endpoint),
+        Edit::PortDel { id } | Edit::ReferralDel { id } => of_number(*id),
         Edit::LinkAdd { port, subsystem } | Edit::LinkDel { port, subsystem } => {
-            two(Operand::Number(*port), Operand::Name(subsystem.as_bytes()))
+            of_link(*port, subsystem)
         }
         Edit::AllowAdd { subsystem, host } | Edit::AllowDel { subsystem, host } => {
-            two(
-                Operand::Name(subsystem.as_bytes()),
-                Operand::Name(host.as_bytes()),
-            )
+            of_allow(subsystem, host)
         }
         Edit::AnaSet {
             port,
@@ -165,24 +159,73 @@ fn operands_of(edit: &Edit) -> Operands<'_>
     }
 }
 
-fn of_subsystem<'a>(nqn: &'a Nqn, serial: &'a Text, who: Access) -> Operands<'a>
-    ensures { values result.items ≡ name nqn.now ∷ text serial.now ∷ access who ∷ [] }
+fn of_name(nqn: &Nqn) -> Operands<'_>
+    ensures { values result.items
+        ≡ name nqn.now ∷ [] }
 {
-    let mut operands = two(
-        Operand::Name(nqn.as_bytes()),
-        Operand::Text(serial.as_bytes()),
-    );
+    let mut operands = ArrayVec::new();
+    operands.push(Operand::Name(nqn.as_bytes()));
+    operands
+}
+
+fn of_number<'a>(n: u64) -> Operands<'a>
+    ensures { values result.items
+        ≡ number n ∷ [] }
+{
+    let mut operands = ArrayVec::new();
+    operands.push(Operand::Number(n));
+    operands
+}
+
+fn of_access(nqn: &Nqn, who: Access) -> Operands<'_>
+    ensures { values result.items
+        ≡ name nqn.now ∷ access who ∷ [] }
+{
+    let mut operands = ArrayVec::new();
+    operands.push(Operand::Name(nqn.as_bytes()));
     operands.push(Operand::Access(who));
     operands
 }
 
-fn of_namespace(new: &NewNamespace) -> Operands<'_>
-    ensures { values result.items ≡ namespace_values new.now }
+fn of_subsystem<'a>(nqn: &'a Nqn, serial: &'a Text, who: Access) -> Operands<'a>
+    ensures { values result.items
+        ≡ name nqn.now ∷ text serial.now ∷ access who ∷ [] }
 {
-    let mut operands = two(
-        Operand::Name(new.subsystem.as_bytes()),
-        Operand::Number(new.nsid),
-    );
+    let mut operands = ArrayVec::new();
+    operands.push(Operand::Name(nqn.as_bytes()));
+    operands.push(Operand::Text(serial.as_bytes()));
+    operands.push(Operand::Access(who));
+    operands
+}
+
+fn of_namespace(subsystem: &Nqn, nsid: u64) -> Operands<'_>
+    ensures { values result.items
+        ≡ name subsystem.now ∷ number nsid ∷ [] }
+{
+    let mut operands = ArrayVec::new();
+    operands.push(Operand::Name(subsystem.as_bytes()));
+    operands.push(Operand::Number(nsid));
+    operands
+}
+
+fn of_setting(subsystem: &Nqn, nsid: u64, setting: u64) -> Operands<'_>
+    ensures { values result.items
+        ≡ name subsystem.now ∷ number nsid ∷ number setting ∷ [] }
+{
+    let mut operands = ArrayVec::new();
+    operands.push(Operand::Name(subsystem.as_bytes()));
+    operands.push(Operand::Number(nsid));
+    operands.push(Operand::Number(setting));
+    operands
+}
+
+fn of_new_namespace(new: &NewNamespace) -> Operands<'_>
+    ensures { values result.items
+        ≡ namespace_values new.now }
+{
+    let mut operands = ArrayVec::new();
+    operands.push(Operand::Name(new.subsystem.as_bytes()));
+    operands.push(Operand::Number(new.nsid));
     operands.push(Operand::Number(new.disk));
     operands.push(Operand::Number(new.blocks));
     operands.push(Operand::Number(new.block_size));
@@ -191,23 +234,35 @@ fn of_namespace(new: &NewNamespace) -> Operands<'_>
     operands
 }
 
-fn of_setting(subsystem: &Nqn, nsid: u64, setting: u64) -> Operands<'_>
-    ensures { values result.items ≡ name subsystem.now ∷ number nsid ∷ number setting ∷ [] }
+fn of_endpoint(endpoint: &Endpoint) -> Operands<'_>
+    ensures { values result.items
+        ≡ endpoint_values endpoint.now }
 {
-    let mut operands = two(Operand::Name(subsystem.as_bytes()), Operand::Number(nsid));
-    operands.push(Operand::Number(setting));
+    let mut operands = ArrayVec::new();
+    operands.push(Operand::Number(endpoint.id));
+    operands.push(Operand::Family(endpoint.family));
+    operands.push(Operand::Text(endpoint.address.as_bytes()));
+    operands.push(Operand::Number(endpoint.service));
     operands
 }
 
-fn of_endpoint(endpoint: &Endpoint) -> Operands<'_>
-    ensures { values result.items ≡ endpoint_values endpoint.now }
+fn of_link(port: u64, subsystem: &Nqn) -> Operands<'_>
+    ensures { values result.items
+        ≡ number port ∷ name subsystem.now ∷ [] }
 {
-    let mut operands = two(
-        Operand::Number(endpoint.id),
-        Operand::Family(endpoint.family),
-    );
-    operands.push(Operand::Text(endpoint.address.as_bytes()));
-    operands.push(Operand::Number(endpoint.service));
+    let mut operands = ArrayVec::new();
+    operands.push(Operand::Number(port));
+    operands.push(Operand::Name(subsystem.as_bytes()));
+    operands
+}
+
+fn of_allow<'a>(subsystem: &'a Nqn, host: &'a Nqn) -> Operands<'a>
+    ensures { values result.items
+        ≡ name subsystem.now ∷ name host.now ∷ [] }
+{
+    let mut operands = ArrayVec::new();
+    operands.push(Operand::Name(subsystem.as_bytes()));
+    operands.push(Operand::Name(host.as_bytes()));
     operands
 }
 
@@ -215,25 +270,10 @@ fn of_state(port: u64, subsystem: &Nqn, group: u64, ana: AnaState) -> Operands<'
     ensures { values result.items
         ≡ number port ∷ name subsystem.now ∷ number group ∷ state ana ∷ [] }
 {
-    let mut operands = two(Operand::Number(port), Operand::Name(subsystem.as_bytes()));
+    let mut operands = ArrayVec::new();
+    operands.push(Operand::Number(port));
+    operands.push(Operand::Name(subsystem.as_bytes()));
     operands.push(Operand::Number(group));
     operands.push(Operand::State(ana));
-    operands
-}
-
-fn one(first: Operand<'_>) -> Operands<'_>
-    ensures { result.items ≡ first.entry ∷ [] }
-{
-    let mut operands = ArrayVec::new();
-    operands.push(first);
-    operands
-}
-
-fn two<'a>(first: Operand<'a>, second: Operand<'a>) -> Operands<'a>
-    ensures { result.items ≡ first.entry ∷ second.entry ∷ [] }
-{
-    let mut operands = ArrayVec::new();
-    operands.push(first);
-    operands.push(second);
     operands
 }

@@ -1,20 +1,24 @@
-use Rattle.std.proofs.Common.{rules, ◌≡◌, ◌≤◌, Err, IfOk, IsOkUnless, MatchOption, None, Ok, List, ℕ, length, ◌⊎◌, ◌+◌, ◌-◌, ◌*◌, ◌<◌, ◌/◌, ◌%◌, Bool, true, false, nat_eq, nat_lt, [], ◌∷◌, ◌++◌, slice_index_or, slice_set, bit_and, bit_or, Fits, w8, w32, w64, Bor, MutBor}
-use Rattle.std.specs.Result.{result_err}
-use Rattle.config_edits.specs.declared.edit.Edit.{Edit}
-use Rattle.config_text.specs.EditLine.{IsLineOf, IsSaidBy, IsSayable, line_of}
-use Rattle.config_text.specs.Fault.{memory_fault}
+use Rattle.std.proofs.Common.{Ok, List, ap, subst, inl}
+use Rattle.config_text.specs.EditLine.{IsEditOf}
 use Rattle.config_text.specs.Operand.{values}
-use Rattle.config_text.specs.Words.{line_fault}
+use Rattle.config_text.specs.declared.operand.Operand.{Operand}
+use Rattle.config_text.proofs.EditLemmas.{line_from, no_line_fault, one_edit}
 use Rattle.config_text.proofs.edit_line.read_edit.Goals as goal
 
--- src/edit_line.rt:30:31
 pub returns-in_err-command-clause-only : goal.returns-in_err-command-clause-only
-returns-in_err-command-clause-only c = ?
+returns-in_err-command-clause-only c = λ edit is.
+    let none = no_line_fault c.args.line.now edit is in
+    let some = c.in_err-command.ensures.fault in
+    absurd (cc)
 
--- src/edit_line.rt:22:1
+said : goal.returns-in-Ok-clause-ok
+said c =
+    let built : IsEditOf c.in_ok-command.command (values c.in_ok-command.operands.items) c.in-Ok.edit =
+    subst (λ (os : List Operand). IsEditOf c.in_ok-command.command (values os) c.in-Ok.edit) c.deref.ensures.0 c.in-Ok.ensures in
+    line_from c.args.line.now c.in_ok-command.command (values c.in_ok-command.operands.items) c.in-Ok.edit c.in_ok-command.ensures.said built
+
 pub returns-in-Ok-clause-ok : goal.returns-in-Ok-clause-ok
-returns-in-Ok-clause-ok c = ?
+returns-in-Ok-clause-ok c = said c
 
--- src/edit_line.rt:22:1
 pub returns-in-Ok-clause-only : goal.returns-in-Ok-clause-only
-returns-in-Ok-clause-only c = ?
+returns-in-Ok-clause-only c = λ edit is. inl (ap Ok (one_edit c.args.line.now c.in-Ok.edit edit (said c) is))

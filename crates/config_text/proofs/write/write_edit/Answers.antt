@@ -1,9 +1,14 @@
-use Rattle.std.proofs.Common.{rules, ◌≡◌, ◌+◌, ◌≤◌, [], ◌∷◌, ◌++◌, Some, codes, length, nat_le, ℕ, ◌-◌, ◌*◌, ◌<◌, ◌/◌, ◌%◌, Bool, true, false, nat_eq, nat_lt, List, slice_index_or, slice_set, bit_and, bit_or, Fits, w8, w32, w64, Bor, MutBor}
-use Rattle.config_text.specs.EditLine.{command_of, endpoint_values, line_of, namespace_values, values_of}
-use Rattle.config_text.specs.Operand.{access, name, number, state, text, values}
+use Rattle.std.proofs.Common.{◌≡◌, ◌++◌, List, ℕ, sym, subst, ap, ◌∙◌}
+use Rattle.config_text.specs.EditLine.{command_of, line_of, values_of}
+use Rattle.config_text.specs.Operand.{values}
 use Rattle.config_text.specs.Output.{AppendsOrFull, head_of, spaced}
+use Rattle.config_text.proofs.WriteLemmas.{line_is}
 use Rattle.config_text.proofs.write.write_edit.Goals as goal
 
--- src/write.rt:33:1
 pub returns : goal.returns
-returns c = ?
+returns c =
+    let edit = c.args.edit.now in
+    let said : values c.deref.result.now ≡ values_of edit = ap values c.deref.ensures.0 ∙ c.operands_of.ensures in
+    let written : head_of c.command_of.result ++ spaced (values c.deref.result.now) ≡ line_of edit =
+    ap (λ k. head_of k ++ spaced (values c.deref.result.now)) c.command_of.ensures ∙ ap (λ vs. head_of (command_of edit) ++ spaced vs) said ∙ sym (line_is edit) in
+    subst (λ (line : List ℕ). AppendsOrFull c.args.out.now c.write_words.new.out line c.write_words.result) written c.write_words.ensures

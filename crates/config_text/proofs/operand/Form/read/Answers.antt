@@ -1,5 +1,4 @@
-use Rattle.std.proofs.Common.{sym, ap}
-use Rattle.config_text.specs.Operand.{form_of, value_of}
+use Rattle.std.proofs.Common.{sym}
 use Rattle.config_text.proofs.operand.Form.read.Goals as goal
 
 pub returns-in_ok-read_uuid-in-Uuid-clause-some : goal.returns-in_ok-read_uuid-in-Uuid-clause-some
