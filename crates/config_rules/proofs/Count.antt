@@ -32,8 +32,8 @@ distinct-map f (x ∷ xs) distinct i j d less below =
     λ same. distinct i j x less later (sym (get_or-map f all i x d earlier) ∙ same ∙ get_or-map f all j x d later)
 
 -- no two namespaces are on the same disk, so there are no more of them than disks
-pub namespaces_of : (c : Configuration) → IsValid c → length c.namespaces ≤ length c.units
-namespaces_of c valid =
+namespaces-le-disks : (c : Configuration) → IsValid c → length c.namespaces ≤ length c.units
+namespaces-le-disks c valid =
     let disks : List ℕ = map (λ n. n.disk) c.namespaces in
     let below : All (λ disk. disk < length c.units) disks = All-map (λ disk. disk < length c.units) (λ n. n.disk) c.namespaces (λ k d within.
     let n : Namespace = get_or c.namespaces k d in
@@ -46,5 +46,5 @@ namespaces_of c valid =
 pub namespaces_are_few : (c : Configuration) → IsValid c → length c.namespaces ≤ 256
 namespaces_are_few c valid =
     let most : length c.units ≤ 256 = leb-true (length c.units) 256 (and_parts (nat_le (length c.units) 256) (list_all (λ n. nat_le n (2 ^ 40)) c.units) valid.disks).0 in
-    let few : length c.namespaces ≤ length c.units = namespaces_of c valid in
+    let few : length c.namespaces ≤ length c.units = namespaces-le-disks c valid in
     omega arith

@@ -43,7 +43,7 @@ ArePorts-without ports id valid =
       distinct = AllPairs-filter (λ p q. p.id ≢ q.id) (λ p. not (numbered p)) ports valid.distinct;
     }
 
--- what is true of a configuration stays where its ports alone change, and lead its links on
+-- what is true of a configuration stays where its ports alone change, and its links still name ports
 with_ports : (c : Configuration) (ports : List Port) → IsValid c → ArePorts ports → AreLinks ports c.subsystems c.links → IsValid (record c { ports = ports })
 with_ports c ports valid sound links = record {
   disks = valid.disks;

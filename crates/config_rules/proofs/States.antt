@@ -17,7 +17,7 @@ use Rattle.config_rules.specs.Configuration.{Configuration, has_link, has_state,
 use Rattle.config_rules.specs.Valid.{AreStates, IsGroupState, IsValid}
 
 -- two states for the same port, subsystem and group
-abbrev pub IsSameState : GroupState → GroupState → Type 0
+abbrev IsSameState : GroupState → GroupState → Type 0
 IsSameState s t = (s.port ≡ t.port) × (s.subsystem ≡ t.subsystem) × (s.group ≡ t.group)
 
 AreStates-push : (links : List Link) (states : List GroupState) (s : GroupState) → AreStates links states → IsGroupState links s → has_state states s.port s.subsystem s.group ≡ false → AreStates links (states ++ s ∷ [])
@@ -41,7 +41,7 @@ AreStates-without links states test valid = record {
   distinct = AllPairs-filter (λ s t. ¬ IsSameState s t) (λ s. not (test s)) states valid.distinct;
 }
 
--- the states that are left where those that go are all whose link is not there
+-- the states that are left, where each whose link goes is among those that go
 pub AreStates-elsewhere : (ks ls : List Link) (states : List GroupState) (test : GroupState → Bool) → ((s : GroupState) → test s ≡ false → has_link ks s.port s.subsystem ≡ true → has_link ls s.port s.subsystem ≡ true) → AreStates ks states → AreStates ls (without test states)
 AreStates-elsewhere ks ls states test stay valid =
     let left : List GroupState = without test states in
@@ -54,7 +54,7 @@ AreStates-elsewhere ks ls states test stay valid =
       distinct = kept.distinct;
     }
 
--- where no link goes each stays
+-- where no link goes each state stays
 pub AreStates-more : (ks ls : List Link) (states : List GroupState) → ((s : GroupState) → has_link ks s.port s.subsystem ≡ true → has_link ls s.port s.subsystem ≡ true) → AreStates ks states → AreStates ls states
 AreStates-more ks ls states stay valid = record {
   sound = λ k d below.
