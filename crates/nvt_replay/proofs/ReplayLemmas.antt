@@ -11,11 +11,11 @@ use Rattle.config_rules.specs.Accept.{accept}
 use Rattle.config_rules.specs.Configuration.{Configuration, are_disks, disks_alone}
 use Rattle.config_text.specs.EditLine.{IsLineOf}
 use Rattle.config_text.specs.Lines.{lines_of}
-use Rattle.nvt_replay.specs.Replay.{AcceptsAll, Configures, EndsScript, Explains, IsFirstMalformed, MakesEdit, RefusesEdit, RefusesEdits, RefusesLine, RefusesLines, Refuses, TakesLine}
+use Rattle.nvt_replay.specs.Replay.{AcceptsAll, Configures, EndsScript, Explains, IsFirstMalformed, RefusesEdits, RefusesLine, RefusesLines}
+use Rattle.nvt_replay.specs.Replies.{Refuses}
 use Rattle.nvt_replay.specs.StreamLine.{IsStreamLine, Says}
 use Rattle.nvt_replay.specs.declared.stream_line.StreamLine.{StreamLine}
 use Rattle.nvt_replay.specs.declared.stream_line.StreamLine.TheVariants as stream
-use Rattle.nvt_replay.specs.declared.playback.Reply.TheVariants as reply
 use Rattle.nvt_replay.specs.declared.playback.ReplayFault.{ReplayFault}
 use Rattle.nvt_replay.specs.declared.playback.ReplayFault.TheVariants as fault
 
@@ -55,19 +55,6 @@ pub before_more : (all : List (List ℕ)) (n : ℕ) (line : List ℕ) (rest : Li
 before_more all n line rest old mid new e before taken =
     subst (λ lines. Configures lines old new) (sym (next_line all n line rest e).more)
     (Configures-push (take n all) old mid new line taken.0 before taken.1 taken.2)
-
-refused_line : (f : ReplayFault) (c : Configuration) (line : List ℕ) (edit : Edit) (n : ℕ) → IsLineOf line edit → RefusesEdit f c edit n → RefusesLine f c line n
-refused_line (fault.EditLine m (reply.Line f)) c line edit n is refuses = absurd refuses.1
-refused_line (fault.EditLine m (reply.Edit f)) c line edit n is refuses = (refuses.0, (edit, is, refuses.1))
-refused_line (fault.StreamLine m) c line edit n is refuses = refuses
-refused_line fault.Memory c line edit n is refuses = tt
-refused_line fault.Io c line edit n is refuses = refuses
-refused_line fault.Disks c line edit n is refuses = refuses
-
--- a line is taken as its edit is
-pub line_taken : (r : Result (Unit {0}) ReplayFault) (old new : Configuration) (line : List ℕ) (edit : Edit) (n : ℕ) → IsLineOf line edit → MakesEdit old edit n r new → TakesLine old line n r new
-line_taken (Ok done) old new line edit n is made = (edit, is, made)
-line_taken (Err f) old new line edit n is made = refused_line f old line edit n is made
 
 -- a line that is refused is the first
 pub refused_at : (f : ReplayFault) (edits : List ℕ) (n : ℕ) (line : List ℕ) (rest : List (List ℕ)) (old c : Configuration) → drop n (lines_of edits) ≡ line ∷ rest
@@ -114,11 +101,12 @@ explained fault.Memory edits stream units h = tt
 explained fault.Io edits stream units h = absurd h
 explained fault.Disks edits stream units h = h
 
--- what a line says makes it one of the three forms
+-- what a line says makes it one of the four forms
 pub is_stream_line : (line : List ℕ) (says : StreamLine) → Says line says → IsStreamLine line
 is_stream_line line (stream.Open port) h = inl (port, h)
 is_stream_line line (stream.Receive k hex) h = inr (inl (k, hex.now, h))
-is_stream_line line (stream.End k) h = inr (inr (k, h))
+is_stream_line line (stream.End k) h = inr (inr (inl (k, h)))
+is_stream_line line (stream.Edit text) h = inr (inr (inr (text.now, h)))
 
 pub well_formed_more : (all : List (List ℕ)) (n : ℕ) (line : List ℕ) (rest : List (List ℕ)) → drop n all ≡ line ∷ rest → All IsStreamLine (take n all) → IsStreamLine line → All IsStreamLine (take (n + 1) all)
 well_formed_more all n line rest e before is =

@@ -1,4 +1,5 @@
 pub mod StreamLine
 pub mod Printed
 pub mod Played
+pub mod Replies
 pub mod Replay

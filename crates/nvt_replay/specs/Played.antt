@@ -13,7 +13,9 @@ use Rattle.target_decision.specs.World.{connections_max}
 use Rattle.target_history.specs.Event.{opened, stepped}
 use Rattle.nvt_replay.specs.declared.stream_line.StreamLine.{StreamLine}
 use Rattle.nvt_replay.specs.declared.stream_line.StreamLine.TheVariants as line
-use Rattle.nvt_replay.specs.Printed.{event_line, output_lines, refused_line}
+use Rattle.nvt_replay.specs.declared.reply.Reply.{Reply}
+use Rattle.nvt_replay.specs.Printed.{edit_made_line, event_line, output_lines, refused_line, reply_line}
+use Rattle.nvt_replay.specs.Replies.{MakesLine, Refuses}
 use Rattle.nvt_replay.specs.StreamLine.{Says}
 
 -- a writer's known bytes grew by some text of which this holds
@@ -138,10 +140,18 @@ abbrev pub PlaysEnd : ℕ → TargetState → List ℕ → TargetState → Type 
 PlaysEnd k old printed new = MatchOption (place old.connections k) (PrintsNone k old printed new)
     (λ c. (printed ≡ []) × (new ≡ without_connection old k))
 
+-- `edit LINE`: the edit is made and the target settles, or it is refused
+abbrev pub PlaysEdit : List ℕ → TargetState → List ℕ → TargetState → Type 0
+PlaysEdit text old printed new =
+    ((mid : TargetState) × MakesLine text old mid
+    × (rest : List ℕ) × Settles mid rest new × (printed ≡ edit_made_line ++ rest))
+    ⊎ ((reply : Reply) × Refuses old.config text reply × (printed ≡ reply_line reply) × (new ≡ old))
+
 abbrev pub Plays : StreamLine → TargetState → List ℕ → TargetState → Type 0
 Plays (line.Open port) old printed new = PlaysOpen port old printed new
 Plays (line.Receive k hex) old printed new = PlaysReceive k hex.now old printed new
 Plays (line.End k) old printed new = PlaysEnd k old printed new
+Plays (line.Edit text) old printed new = PlaysEdit text.now old printed new
 
 -- the lines of a script, one after the other
 abbrev pub PlaysAll : List (List ℕ) → TargetState → List ℕ → TargetState → Type 0

@@ -5,6 +5,8 @@ use Rattle.hex.specs.Hex.{encode_lower}
 use Rattle.nvt_fields.specs.Field.{field_at}
 use Rattle.target_core.specs.declared.fault.OpenFault.{OpenFault}
 use Rattle.target_core.specs.Fault.{word_of_open_fault}
+use Rattle.nvt_replay.specs.declared.reply.Reply.{Reply}
+use Rattle.nvt_replay.specs.Replies.{text_of_reply}
 
 -- `K WORD`
 abbrev pub event_line : ℕ → List ℕ → List ℕ
@@ -13,6 +15,14 @@ event_line k word = decimal k ++ (codes " " ++ (word ++ codes "\n"))
 -- `open refused KIND`
 abbrev pub refused_line : OpenFault → List ℕ
 refused_line fault = codes "open refused " ++ (word_of_open_fault fault ++ codes "\n")
+
+-- `edit ok`
+abbrev pub edit_made_line : List ℕ
+edit_made_line = codes "edit ok\n"
+
+-- the reply to an edit that is refused
+abbrev pub reply_line : Reply → List ℕ
+reply_line reply = text_of_reply reply ++ codes "\n"
 
 -- `K pdu HEX`
 abbrev pub pdu_line : ℕ → List ℕ → List ℕ

@@ -3,13 +3,13 @@ use Rattle.std.specs.Prelude.{◌≡◌, ℕ, ◌-◌, ◌≤◌, true, false, L
 use Rattle.config_edits.specs.declared.edit.Edit.{Edit}
 use Rattle.config_rules.specs.Accept.{accept}
 use Rattle.config_rules.specs.Configuration.{Configuration, are_disks, disks_alone}
-use Rattle.config_text.specs.EditLine.{IsLineOf, line_fault}
+use Rattle.config_text.specs.EditLine.{IsLineOf}
 use Rattle.config_text.specs.Lines.{lines_of}
 use Rattle.target_core.specs.Target.{TargetState}
 use Rattle.nvt_replay.specs.Played.{HasNone, PlaysAll}
 use Rattle.nvt_replay.specs.StreamLine.{IsStreamLine}
-use Rattle.nvt_replay.specs.declared.playback.Reply.{Reply}
-use Rattle.nvt_replay.specs.declared.playback.Reply.TheVariants as reply
+use Rattle.nvt_replay.specs.Replies.{Refuses}
+use Rattle.nvt_replay.specs.declared.reply.Reply.{Reply}
 use Rattle.nvt_replay.specs.declared.playback.ReplayFault.{ReplayFault}
 use Rattle.nvt_replay.specs.declared.playback.ReplayFault.TheVariants.{EditLine, StreamLine, Memory, Io, Disks}
 
@@ -19,11 +19,6 @@ Configures [] old new = new ≡ old
 Configures (line ∷ lines) old new =
     (edit : Edit) × IsLineOf line edit
     × (next : Configuration) × (accept old edit ≡ Ok next) × Configures lines next new
-
--- the reply to a line: its fault, or why the configuration refuses its edit
-abbrev pub Refuses : Configuration → List ℕ → Reply → Type 0
-Refuses c line (reply.Line fault) = line_fault line ≡ Some fault
-Refuses c line (reply.Edit fault) = (edit : Edit) × IsLineOf line edit × (accept c edit ≡ Err fault)
 
 -- the line of this number, counted from 1
 abbrev pub line_at : List (List ℕ) → ℕ → List ℕ
@@ -101,23 +96,6 @@ RefusesLine Disks c line n = ⊥
 abbrev pub TakesLine : Configuration → List ℕ → ℕ → Result (Unit {0}) ReplayFault → Configuration → Type 0
 TakesLine old line n (Ok done) new = (edit : Edit) × IsLineOf line edit × (accept old edit ≡ Ok new)
 TakesLine old line n (Err fault) new = RefusesLine fault old line n
-
--- the reply to an edit: why the configuration refuses it
-abbrev pub IsReplyTo : Reply → Configuration → Edit → Type 0
-IsReplyTo (reply.Line fault) c edit = ⊥
-IsReplyTo (reply.Edit fault) c edit = accept c edit ≡ Err fault
-
--- the edit that the nth line says: refused with the reply, or without memory
-abbrev pub RefusesEdit : ReplayFault → Configuration → Edit → ℕ → Type 0
-RefusesEdit (EditLine m reply) c edit n = (m ≡ n) × IsReplyTo reply c edit
-RefusesEdit (StreamLine m) c edit n = ⊥
-RefusesEdit Memory c edit n = Unit {0}
-RefusesEdit Io c edit n = ⊥
-RefusesEdit Disks c edit n = ⊥
-
-abbrev pub MakesEdit : Configuration → Edit → ℕ → Result (Unit {0}) ReplayFault → Configuration → Type 0
-MakesEdit old edit n (Ok done) new = accept old edit ≡ Ok new
-MakesEdit old edit n (Err fault) new = RefusesEdit fault old edit n
 
 -- a fault of the edits or the disks: no line of the script has run
 abbrev pub IsBeforeScript : ReplayFault → Type 0

@@ -3,7 +3,7 @@ use Rattle.std.specs.Prelude.{◌≡◌, ℕ, ◌^◌, ◌%◌, ◌<◌, ◌⊎�
 use Rattle.std.specs.List.{AllPass}
 use Rattle.hex.specs.Hex.{is_hex_digit}
 use Rattle.nvt_replay.specs.declared.stream_line.StreamLine.{StreamLine}
-use Rattle.nvt_replay.specs.declared.stream_line.StreamLine.TheVariants.{Open, Receive, End}
+use Rattle.nvt_replay.specs.declared.stream_line.StreamLine.TheVariants.{Open, Receive, End, Edit}
 use Rattle.config_text.specs.Number.{IsNumber}
 
 -- pairs of hex digits of either case, at least one
@@ -24,20 +24,27 @@ Receives line k hex = (word : List ℕ) × (line ≡ codes "rx " ++ (word ++ 32 
 abbrev pub Ends : List ℕ → ℕ → Type 0
 Ends line k = (word : List ℕ) × (line ≡ codes "end " ++ word) × IsNumber word k
 
+-- `edit LINE`
+abbrev pub Edits : List ℕ → List ℕ → Type 0
+Edits line text = line ≡ codes "edit " ++ text
+
 abbrev pub Says : List ℕ → StreamLine → Type 0
 Says line (Open port) = Opens line port
 Says line (Receive k hex) = Receives line k hex.now
 Says line (End k) = Ends line k
+Says line (Edit text) = Edits line text.now
 
--- a line of one of the three forms
+-- a line of one of the four forms
 abbrev pub IsStreamLine : List ℕ → Type 0
 IsStreamLine line =
     ((port : ℕ) × Opens line port)
     ⊎ ((k : ℕ) × (hex : List ℕ) × Receives line k hex)
     ⊎ ((k : ℕ) × Ends line k)
+    ⊎ ((text : List ℕ) × Edits line text)
 
 -- what an `rx` line brings is pairs of hex digits
 abbrev pub HasHex : StreamLine → Type 0
 HasHex (Open port) = Unit {0}
 HasHex (Receive k hex) = IsHex hex.now
 HasHex (End k) = Unit {0}
+HasHex (Edit text) = Unit {0}

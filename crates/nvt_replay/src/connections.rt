@@ -1,6 +1,6 @@
 //! A target, and which of its connections are open.
 
-ghost use Rattle.std.specs.Prelude.{◌≡◌, IfOk, IsOkUnless, MatchOption, OnErr};
+ghost use Rattle.std.specs.Prelude.{◌≡◌, IfErr, IfOk, IsOkUnless, MatchOption, OnErr};
 ghost use Rattle.std.specs.Prelude.{OnOk, is_some, slice_set, take};
 ghost use Rattle.number_table.specs.Table.{place};
 ghost use Rattle.target_core.specs.Moves.{Moves};
@@ -10,8 +10,10 @@ ghost use Rattle.target_history.specs.Event.{opened};
 ghost use Rattle.target_decision.specs.World.{connections_max};
 ghost use Rattle.nvt_replay.specs.Played.{Receives, StepBelow, StepsUntilIdle, TakesOutput};
 ghost use Rattle.nvt_replay.specs.Played.{HasNone, number_taken};
+ghost use Rattle.nvt_replay.specs.Replies.{IsRefused, MakesLine};
 
-use std::alloc::AllocError;
+use crate::reply::{NotMade, make_line};
+use std::alloc::{AllocError, Global};
 use std::marker::Model;
 use target_core::{OpenFault, StepFault, Stepped, Target};
 
@@ -60,6 +62,15 @@ impl Connections {
         let k = self.target.open(port)?;
         mark(&mut self.marks, k, true);
         Ok(k)
+    }
+
+    /// Makes the edit that a line says. After a refusal, `Memory` included, all is as it was.
+    pub fn edit(&mut self, alloc: Global, line: &[u8]) -> Result<(), NotMade>
+        ensures made { OnOk result (MakesLine line.now self.old self.new) }
+        ensures refused { IfErr result (IsRefused self.old.config line.now) }
+        ensures err { OnErr result (self.new ≡ self.old) }
+    {
+        make_line(alloc, &mut self.target, line)
     }
 
     pub fn is_open(&self, k: usize) -> bool

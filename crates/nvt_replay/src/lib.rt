@@ -5,7 +5,9 @@
 mod connections;
 pub mod playback;
 mod print;
+pub mod reply;
 mod stream_line;
 
-pub use playback::{ReplayFault, Reply, replay};
+pub use playback::{ReplayFault, replay};
 pub use print::written;
+pub use reply::Reply;

@@ -10,18 +10,20 @@ ghost use Rattle.config_text.specs.Lines.{lines_of};
 ghost use Rattle.number_table.specs.Table.{place};
 ghost use Rattle.target_core.specs.Target.{TargetState};
 ghost use Rattle.nvt_replay.specs.Replay.{AcceptsAll, Configures, EndsScript, Explains, Replays};
-ghost use Rattle.nvt_replay.specs.Replay.{IsBeforeScript, IsOfRun, MakesEdit};
+ghost use Rattle.nvt_replay.specs.Replay.{IsBeforeScript, IsOfRun};
 ghost use Rattle.nvt_replay.specs.Replay.{RefusesEdits, RefusesLines, TakesLine};
 ghost use Rattle.nvt_replay.specs.Played.{ArePrinted, HandsOut, HasNone, Plays, PlaysAll};
-ghost use Rattle.nvt_replay.specs.Played.{PlaysEnd, PlaysOpen, PlaysReceive, Prints, Settles};
+ghost use Rattle.nvt_replay.specs.Played.{PlaysEdit, PlaysEnd, PlaysOpen, PlaysReceive, Prints};
+ghost use Rattle.nvt_replay.specs.Played.{Settles};
 ghost use Rattle.nvt_replay.specs.Played.{connection_lines};
 ghost use Rattle.nvt_replay.specs.StreamLine.{HasHex, IsHex, IsStreamLine};
 
 use crate::connections::{CONNECTIONS, Connections};
 use crate::print::Printer;
 use crate::stream_line::{StreamLine, read_stream_line};
-use config_text::{LineFault, Lines, ReadEditFault, read_edit};
-use nvt_config::{Edit, EditFault, NewFault};
+use crate::reply::{NotMade, Reply, make_line};
+use config_text::Lines;
+use nvt_config::NewFault;
 use std::alloc::{AllocError, Global};
 use std::io::Write;
 use target_core::{OpenFault, Target};
@@ -45,15 +47,6 @@ pub enum ReplayFault {
     /// More than 256 disks, or one of more than 2^40 units.
     #[error("disks")]
     Disks,
-}
-
-/// The reply to a line of edits that is refused.
-#[derive(Clone, Copy, Debug, PartialEq, Eq, Error)]
-pub enum Reply {
-    #[error("{0}")]
-    Line(LineFault),
-    #[error("{0}")]
-    Edit(EditFault),
 }
 
 impl From<AllocError> for ReplayFault {
@@ -152,27 +145,12 @@ fn take_edit(
     ensures takes { TakesLine target.old.config line.now number result target.new.config }
     ensures none { HasNone target.old → HasNone target.new }
 {
-    match read_edit(alloc, line) {
-        Ok(edit) => make_edit(target, number, &edit),
-        Err(ReadEditFault::Memory) => Err(ReplayFault::Memory),
-        Err(ReadEditFault::Line(fault)) => Err(ReplayFault::EditLine {
-            line: number,
-            reply: Reply::Line(fault),
-        }),
-    }
-}
-
-// Makes the edit that the line of this number says.
-fn make_edit(target: &mut Target, number: usize, edit: &Edit) -> Result<(), ReplayFault>
-    ensures makes { MakesEdit target.old.config edit.now number result target.new.config }
-    ensures none { HasNone target.old → HasNone target.new }
-{
-    match target.edit(edit) {
+    match make_line(alloc, target, line) {
         Ok(()) => Ok(()),
-        Err(EditFault::Memory) => Err(ReplayFault::Memory),
-        Err(fault) => Err(ReplayFault::EditLine {
+        Err(NotMade::Memory) => Err(ReplayFault::Memory),
+        Err(NotMade::Refused(reply)) => Err(ReplayFault::EditLine {
             line: number,
-            reply: Reply::Edit(fault),
+            reply,
         }),
     }
 }
@@ -215,6 +193,23 @@ impl Playback {
             StreamLine::Open { port } => self.open(port, out),
             StreamLine::Receive { connection, hex } => self.receive(connection, hex, out),
             StreamLine::End { connection } => self.end(connection, out),
+            StreamLine::Edit { line } => self.edit(line, out),
+        }
+    }
+
+    // The reply comes first, and then what the edit makes the connections send or close.
+    fn edit<W: Write>(&mut self, line: &[u8], out: &mut W) -> Result<(), ReplayFault>
+        ensures fault { IfErr result IsOfRun }
+        ensures played { OnOk result (Prints (W.contents out.old) (W.contents out.new)
+            (λ text. PlaysEdit line.now self.old.connections text self.new.connections)) }
+    {
+        match self.connections.edit(*self.bytes.allocator(), line) {
+            Ok(()) => {
+                self.printer.edit_made(out)?;
+                settle(&mut self.connections, &mut self.printer, out)
+            }
+            Err(NotMade::Memory) => Err(ReplayFault::Memory),
+            Err(NotMade::Refused(reply)) => self.printer.refused_edit(out, reply),
         }
     }
 

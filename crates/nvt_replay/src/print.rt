@@ -7,10 +7,12 @@ ghost use Rattle.std.specs.Io.KnownBytes.{Appends};
 ghost use Rattle.std.specs.IoError.{error_kind};
 ghost use Rattle.hex.specs.Hex.{encode_lower};
 ghost use Rattle.nvt_replay.specs.Printed.{AreAllOf, event_line, output_lines, pdu_length};
-ghost use Rattle.nvt_replay.specs.Printed.{pdu_line, pdus_of, refused_line};
+ghost use Rattle.nvt_replay.specs.Printed.{edit_made_line, pdu_line, pdus_of, refused_line};
+ghost use Rattle.nvt_replay.specs.Printed.{reply_line};
 ghost use Rattle.nvt_replay.specs.Replay.{IsOfRun};
 
 use crate::playback::ReplayFault;
+use crate::reply::Reply;
 use nvt_fields::u32_at;
 use std::alloc::{AllocError, Global};
 use std::fmt::Display;
@@ -60,6 +62,24 @@ impl Printer {
             (refused_line fault)) }
     {
         self.text(out, format_args!("open refused {fault}\n"))
+    }
+
+    /// Prints `edit ok`.
+    pub fn edit_made<W: Write>(&mut self, out: &mut W) -> Result<(), ReplayFault>
+        ensures fault { IfErr result IsOfRun }
+        ensures printed { OnOk result (Appends (W.contents out.old) (W.contents out.new)
+            edit_made_line) }
+    {
+        self.text(out, format_args!("edit ok\n"))
+    }
+
+    /// Prints the reply to an edit that is refused.
+    pub fn refused_edit<W: Write>(&mut self, out: &mut W, reply: Reply) -> Result<(), ReplayFault>
+        ensures fault { IfErr result IsOfRun }
+        ensures printed { OnOk result (Appends (W.contents out.old) (W.contents out.new)
+            (reply_line reply)) }
+    {
+        self.text(out, format_args!("{reply}\n"))
     }
 
     /// Prints `K pdu HEX` for each PDU of some output of connection K.

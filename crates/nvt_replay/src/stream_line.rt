@@ -18,6 +18,8 @@ pub enum StreamLine<'a> {
     Receive { connection: u64, hex: &'a [u8] },
     /// `end K`: the host's end of connection K goes away.
     End { connection: u64 },
+    /// `edit LINE`: an edit is made.
+    Edit { line: &'a [u8] },
 }
 
 /// What the line says; nothing where it has another form.
@@ -30,6 +32,9 @@ pub fn read_stream_line(line: &[u8]) -> Option<StreamLine<'_>>
     }
     if let Some(rest) = after(line, b"rx ") {
         return read_receive(rest);
+    }
+    if let Some(text) = after(line, b"edit ") {
+        return Some(StreamLine::Edit { line: text });
     }
     let word = after(line, b"end ")?;
     let connection = read_number(word)?;

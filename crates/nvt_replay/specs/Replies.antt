@@ -1,0 +1,55 @@
+-- Lines of edits that are made on a target, and the replies to those that are refused.
+use Rattle.std.specs.Prelude.{◌≡◌, ℕ, List, Some, Ok, Err}
+use Rattle.config_edits.specs.declared.edit.Edit.{Edit}
+use Rattle.config_edits.specs.declared.fault.EditFault.{EditFault}
+use Rattle.config_edits.specs.Fault.{reply_of}
+use Rattle.config_rules.specs.Accept.{accept}
+use Rattle.config_rules.specs.Configuration.{Configuration}
+use Rattle.config_text.specs.declared.fault.LineFault.{LineFault}
+use Rattle.config_text.specs.declared.fault.LineFaultKind.{LineFaultKind}
+use Rattle.config_text.specs.declared.fault.LineFaultKind.TheVariants as kind
+use Rattle.config_text.specs.EditLine.{IsLineOf}
+use Rattle.config_text.specs.Fault.{reply_of_line_fault}
+use Rattle.config_text.specs.Words.{line_fault}
+use Rattle.target_core.specs.Moves.{Moves}
+use Rattle.target_core.specs.Target.{TargetState}
+use Rattle.target_history.specs.Event.{edited}
+use Rattle.nvt_replay.specs.declared.reply.NotMade.{NotMade}
+use Rattle.nvt_replay.specs.declared.reply.NotMade.TheVariants.{Refused, Memory}
+use Rattle.nvt_replay.specs.declared.reply.Reply.{Reply}
+use Rattle.nvt_replay.specs.declared.reply.Reply.TheVariants as reply
+
+abbrev pub text_of_reply : Reply → List ℕ
+text_of_reply (reply.Line fault) = reply_of_line_fault fault
+text_of_reply (reply.Edit fault) = reply_of fault
+
+-- the reply to a line: its fault, or why the configuration refuses its edit
+abbrev pub Refuses : Configuration → List ℕ → Reply → Type 0
+Refuses c line (reply.Line fault) = line_fault line ≡ Some fault
+Refuses c line (reply.Edit fault) = (edit : Edit) × IsLineOf line edit × (accept c edit ≡ Err fault)
+
+-- want of memory is no reply
+abbrev pub not_read_by : LineFault → LineFaultKind → NotMade
+not_read_by fault kind.Memory = Memory
+not_read_by fault _ = Refused (reply.Line fault)
+
+abbrev pub not_read : LineFault → NotMade
+not_read fault = not_read_by fault fault.kind
+
+-- why the edit of a line is not made
+abbrev pub IsRefused : Configuration → List ℕ → NotMade → Type 0
+IsRefused c line (Refused reply) = Refuses c line reply
+IsRefused c line Memory = Unit {0}
+
+-- why an edit is not made
+abbrev pub IsEditRefused : Configuration → Edit → NotMade → Type 0
+IsEditRefused c edit (Refused (reply.Line fault)) = ⊥
+IsEditRefused c edit (Refused (reply.Edit fault)) = accept c edit ≡ Err fault
+IsEditRefused c edit Memory = Unit {0}
+
+-- the line is that of an edit, which is accepted and made
+pub record MakesLine (line : List ℕ) (old new : TargetState) : Type 0 where
+  pub edit : Edit
+  pub is_line : IsLineOf line edit
+  pub accepted : accept old.config edit ≡ Ok new.config
+  pub moves : Moves (edited edit) old new
