@@ -1,8 +1,3 @@
 pub mod EditLemmas
-pub mod LineLemmas
-pub mod NumberLemmas
-pub mod OperandLemmas
-pub mod PlainWords
-pub mod UuidLemmas
-pub mod WordLemmas
+pub mod ValueLists
 pub mod WriteLemmas

@@ -1,15 +1,14 @@
 -- The one line of each edit.
-use Rattle.std.specs.Prelude.{◌≡◌, ℕ, ◌≤◌, List, [], ◌∷◌, length, map}
+use Rattle.std.specs.Prelude.{◌≡◌, ℕ, ◌≤◌, List, [], ◌∷◌, length}
 use Rattle.std.specs.List.{AllByRecursion, join_with_byte}
 use Rattle.config_edits.specs.declared.edit.Edit.{Edit}
 use Rattle.config_edits.specs.declared.edit.Edit.TheVariants as edit
 use Rattle.config_edits.specs.declared.edit.Endpoint.{Endpoint}
 use Rattle.config_edits.specs.declared.edit.NewNamespace.{NewNamespace}
-use Rattle.config_text.specs.Command.{grammar_of}
-use Rattle.config_text.specs.Operand.{IsSaid, Value, access, family, form_of, name, number, state, text, uuid, word_of}
-use Rattle.config_text.specs.Words.{words}
-use Rattle.config_text.specs.declared.command.Command.{Command}
-use Rattle.config_text.specs.declared.command.Command.TheVariants.{SubsystemAdd, SubsystemSet, SubsystemDel, NamespaceAdd, NamespaceSize, NamespaceGroup, NamespaceDel, PortAdd, PortSet, PortDel, LinkAdd, LinkDel, HostAdd, HostDel, AllowAdd, AllowDel, AnaSet, ReferralAdd, ReferralSet, ReferralDel}
+use Rattle.line_words.specs.Operand.{IsSaid, Value, access, family, name, number, state, text, uuid}
+use Rattle.line_words.specs.Said.{said_words}
+use Rattle.line_words.specs.declared.command.Command.{Command}
+use Rattle.line_words.specs.declared.command.Command.TheVariants.{SubsystemAdd, SubsystemSet, SubsystemDel, NamespaceAdd, NamespaceSize, NamespaceGroup, NamespaceDel, PortAdd, PortSet, PortDel, LinkAdd, LinkDel, HostAdd, HostDel, AllowAdd, AllowDel, AnaSet, ReferralAdd, ReferralSet, ReferralDel}
 
 abbrev pub command_of : Edit → Command
 command_of (edit.SubsystemAdd n s a) = SubsystemAdd
@@ -68,23 +67,12 @@ pub record IsEditOf (command : Command) (values : List Value) (e : Edit) : Type 
   pub command_is : command_of e ≡ command
   pub values_are : values_of e ≡ values
 
--- the words that say a command with these values
-abbrev pub said_words : Command → List Value → List (List ℕ)
-said_words command values = (grammar_of command).noun ∷ (grammar_of command).verb ∷ map word_of values
-
 abbrev pub words_of : Edit → List (List ℕ)
 words_of e = said_words (command_of e) (values_of e)
 
 -- its words, with one space between
 abbrev pub line_of : Edit → List ℕ
 line_of e = join_with_byte 32 (words_of e)
-
--- a line without a fault says a command with values of its forms
-pub record IsSaidBy (line : List ℕ) (command : Command) (values : List Value) : Type 0 where
-  pub short : length line ≤ 1024
-  pub words_are : words line ≡ said_words command values
-  pub forms_are : map form_of values ≡ (grammar_of command).forms
-  pub said : AllByRecursion IsSaid values
 
 -- each of its values has a word
 abbrev pub IsSayable : Edit → Type 0

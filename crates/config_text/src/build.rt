@@ -1,17 +1,15 @@
 //! The edit of a command and its values.
 ghost use Rattle.std.specs.Prelude.{◌≡◌, IfOk, Some, map, slice_get};
-ghost use Rattle.config_text.specs.Command.{grammar_of};
+ghost use Rattle.line_words.specs.Command.{grammar_of};
 ghost use Rattle.config_text.specs.EditLine.{IsEditOf, endpoint_values, namespace_values};
-ghost use Rattle.config_text.specs.Operand.{form_of, name, text, values};
-ghost use Rattle.config_text.specs.declared.operand.Form.TheVariants as form;
-ghost use Rattle.config_text.specs.declared.command.Command.TheVariants as command;
+ghost use Rattle.line_words.specs.Operand.{form_of, name, text, values};
+ghost use Rattle.line_words.specs.declared.operand.Form.TheVariants as form;
+ghost use Rattle.line_words.specs.declared.command.Command.TheVariants as command;
 
-use crate::command::Command;
-use crate::operand::{
-    Operand, access_at, family_at, name_at, number_at, state_at, text_at, uuid_at,
-};
 use config_edits::{Edit, Endpoint, NewNamespace};
 use config_lists::Text;
+use line_words::operand::{access_at, family_at, name_at, number_at, state_at, text_at, uuid_at};
+use line_words::{Command, Operand};
 use nvt_fields::Nqn;
 use std::alloc::{AllocError, Global};
 
@@ -248,11 +246,13 @@ fn endpoint(alloc: Global, operands: &[Operand<'_>]) -> Result<Endpoint, AllocEr
     requires { map form_of (values operands.now) ≡ (grammar_of command.PortAdd).forms }
     ensures { IfOk result (λ e. endpoint_values e ≡ values operands.now) }
 {
+    let id = number_at(operands, 0);
+    let service = number_at(operands, 3);
     Ok(Endpoint {
-        id: number_at(operands, 0),
+        id,
         family: family_at(operands, 1),
         address: read_text(alloc, operands, 2)?,
-        service: number_at(operands, 3),
+        service,
     })
 }
 

@@ -1,23 +1,15 @@
 //! The line of an edit: each edit has one, and a line that is none's has a first fault.
 ghost use Rattle.std.specs.Prelude.{◌≡◌, ◌≤◌, Err, IfOk, IsOkUnless, MatchOption, None, Ok};
 ghost use Rattle.std.specs.Prelude.{List, ℕ, length, ◌⊎◌};
-ghost use Rattle.std.specs.Result.{result_err};
 ghost use Rattle.config_edits.specs.declared.edit.Edit.{Edit};
-ghost use Rattle.config_text.specs.EditLine.{IsLineOf, IsSaidBy, IsSayable, line_of};
-ghost use Rattle.config_text.specs.Fault.{memory_fault};
-ghost use Rattle.config_text.specs.Operand.{values};
-ghost use Rattle.config_text.specs.Words.{line_fault};
+ghost use Rattle.config_text.specs.EditLine.{IsLineOf, IsSayable, line_of};
+ghost use Rattle.line_words.specs.Fault.{memory_fault};
+ghost use Rattle.line_words.specs.Words.{line_fault};
 
 use crate::build::build;
-use crate::command::Command;
-use crate::fault::{LineFault, LineFaultKind};
-use crate::operand::Operands;
-use crate::words::Words;
-use arrayvec::ArrayVec;
 use config_edits::Edit;
+use line_words::{LineFault, LineFaultKind, read_words};
 use std::alloc::{AllocError, Global};
-
-const LINE_MAX: usize = 1024;
 
 /// The edit whose line this is, or the line's first fault. Want of memory comes last.
 pub fn read_edit(alloc: Global, line: &[u8]) -> Result<Edit, LineFault>
@@ -36,24 +28,6 @@ pub fn read_edit(alloc: Global, line: &[u8]) -> Result<Edit, LineFault>
             kind: LineFaultKind::Memory,
         }),
     }
-}
-
-// What a line says, before memory is taken for it.
-fn read_words(line: &[u8]) -> Result<(Command, Operands<'_>), LineFault>
-    ensures fault { result_err result ≡ line_fault line.now }
-    ensures said { IfOk result (λ said. IsSaidBy line.now said.0 (values said.1.items)) }
-{
-    if line.len() > LINE_MAX {
-        return Err(LineFault {
-            column: 0,
-            kind: LineFaultKind::TooLong,
-        });
-    }
-    let mut words = Words::of(line);
-    let command = words.command()?;
-    let mut operands = ArrayVec::new();
-    words.operands(command.forms(), &mut operands)?;
-    Ok((command, operands))
 }
 
 /// Reading what was written gives the edit: its line has no fault, and is no other edit's.

@@ -2,15 +2,14 @@
 ghost use Rattle.std.specs.Prelude.{◌≡◌, ◌+◌, ◌≤◌, [], ◌∷◌, ◌++◌, Some, codes, length, nat_le};
 ghost use Rattle.config_text.specs.EditLine.{command_of, endpoint_values, line_of, namespace_values};
 ghost use Rattle.config_text.specs.EditLine.{values_of};
-ghost use Rattle.config_text.specs.Operand.{access, name, number, state, text, values};
+ghost use Rattle.line_words.specs.Operand.{access, name, number, state, text, values};
 ghost use Rattle.config_text.specs.Output.{AppendsOrFull, head_of, spaced};
 
-use crate::command::Command;
-use crate::operand::{Operand, Operands, Scratch};
 use arrayvec::ArrayVec;
 use bytes::BytesMut;
 use config_edits::{Edit, Endpoint, NewNamespace};
 use config_lists::{Access, AnaState, Text};
+use line_words::{Command, Operand, Operands, Scratch};
 use nvt_fields::Nqn;
 use std::error::Error;
 use std::fmt;

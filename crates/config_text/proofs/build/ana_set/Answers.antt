@@ -1,5 +1,5 @@
 use Rattle.std.proofs.Common.{refl}
-use Rattle.config_text.proofs.OperandLemmas.{list_4}
+use Rattle.config_text.proofs.ValueLists.{list_4}
 use Rattle.config_text.proofs.build.ana_set.Goals as goal
 
 pub returns : goal.returns

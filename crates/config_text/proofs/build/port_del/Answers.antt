@@ -1,5 +1,5 @@
 use Rattle.std.proofs.Common.{refl}
-use Rattle.config_text.proofs.OperandLemmas.{list_1}
+use Rattle.config_text.proofs.ValueLists.{list_1}
 use Rattle.config_text.proofs.build.port_del.Goals as goal
 
 pub returns : goal.returns

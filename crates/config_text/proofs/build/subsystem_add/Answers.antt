@@ -1,5 +1,5 @@
 use Rattle.std.proofs.Common.{refl}
-use Rattle.config_text.proofs.OperandLemmas.{list_3}
+use Rattle.config_text.proofs.ValueLists.{list_3}
 use Rattle.config_text.proofs.build.subsystem_add.Goals as goal
 
 pub returns : goal.returns

@@ -1,5 +1,5 @@
 use Rattle.std.proofs.Common.{refl}
-use Rattle.config_text.proofs.OperandLemmas.{list_2}
+use Rattle.config_text.proofs.ValueLists.{list_2}
 use Rattle.config_text.proofs.build.subsystem_set.Goals as goal
 
 pub returns : goal.returns
