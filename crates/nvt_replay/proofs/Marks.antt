@@ -1,16 +1,16 @@
 -- Which connections are open, through the calls of a target.
-use Rattle.std.proofs.Common.{◌≡◌, ◌⊎◌, ℕ, zero, suc, ◌<◌, ◌≤◌, Bool, true, false, List, length, replicate, set, get_or, drop, Option, Some, None, is_some, refl, sym, ap, ◌∙◌, inl, inr, arith, length-set}
+use Rattle.std.proofs.Common.{◌≡◌, ◌⊎◌, ℕ, ◌<◌, ◌≤◌, Bool, true, false, List, length, replicate, set, get_or, drop, Option, Some, None, is_some, refl, sym, ap, ◌∙◌, inl, inr, arith}
 use Rattle.std.specs.Prelude.{◌==◌, if◌then◌else◌}
 use Rattle.std.specs.Option.{option_map}
 use Rattle.std.proofs.lemmas.Bool.{cases_eq, cases_lt, eqb-true}
 use Rattle.std.proofs.lemmas.Bool.Decides.{nat_tests}
 use Rattle.std.proofs.lemmas.List.{get_or_past, get_or-replicate, get_or-set_other, get_or-set_same, length-replicate}
 use Rattle.number_table.specs.Table.{place}
-use Rattle.number_table.proofs.Tables.{place-with_value_held, place-without}
+use Rattle.number_table.proofs.Tables.{place-with_value_held}
 use Rattle.pdu_cut.specs.Front.{Front}
 use Rattle.target_core.specs.Connection.{ConnectionState, fresh_on}
 use Rattle.target_core.specs.Moves.{Moves, connection_moved}
-use Rattle.target_core.specs.Target.{TakenAt, TargetState, meets, without_connection}
+use Rattle.target_core.specs.Target.{TakenAt, TargetState, meets}
 use Rattle.target_history.specs.Event.{opened, stepped}
 use Rattle.target_history.specs.Happening.{Happening}
 use Rattle.nvt_replay.specs.Played.{HasNone}
@@ -79,17 +79,3 @@ taken_at old new k len (Some c) marks known takes are = rw takes (λ j.
 pub taken_marked : (old new : TargetState) (k len : ℕ) (marks : List Bool) → TakenAt k (place old.connections k) old len new
     → AreMarks marks old → AreMarks marks new
 taken_marked old new k len marks takes are = taken_at old new k len (place old.connections k) marks refl takes are
-
-ended_at : (same mark : Bool) (o : Option ConnectionState) → mark ≡ is_some o → (if same then false else mark) ≡ is_some (if same then None else o)
-ended_at true mark o is = refl
-ended_at false mark o is = is
-
-pub ended_marked : (t : TargetState) (k : ℕ) (marks : List Bool) → AreMarks marks t → AreMarks (set marks k false) (without_connection t k)
-ended_marked t k marks are = λ j.
-    marked marks k false j (emptied (cases_lt k (length marks)))
-    ∙ ended_at (j == k) (get_or marks j false) (place t.connections j) (are j)
-    ∙ sym (ap is_some (place-without t.connections k j))
-  where
-    emptied : (k < length marks) ⊎ (length marks ≤ k) → get_or (set marks k false) k false ≡ false
-    emptied (inl within) = get_or-set_same marks k false false within
-    emptied (inr past) = get_or_past (set marks k false) k false (omega (arith, length-set marks k false))

@@ -1,12 +1,10 @@
 -- The bytes of an `rx`, piece by piece.
-use Rattle.std.proofs.Common.{◌≡◌, ℕ, suc, ◌<◌, List, [], ◌++◌, length, take, drop, Option, Some, None, refl, sym, ap, ◌∙◌, subst, append-nil}
-use Rattle.std.specs.Io.KnownBytes.{Appends}
-use Rattle.std.proofs.KnownBytes.{Appends-trans}
-use Rattle.number_table.specs.Table.{place, with_value}
+use Rattle.std.proofs.Common.{◌≡◌, ℕ, suc, ◌<◌, List, [], ◌++◌, take, drop, Option, Some, None, refl, sym, ap, ◌∙◌, subst, append-nil}
+use Rattle.number_table.specs.Table.{place}
 use Rattle.number_table.proofs.Tables.{with_value_same}
 use Rattle.target_core.specs.Connection.{ConnectionState}
 use Rattle.target_core.specs.Target.{TargetState, with_stream}
-use Rattle.nvt_replay.specs.Played.{HandsOut, Prints, Receives, Settles, given, number_taken}
+use Rattle.nvt_replay.specs.Played.{HandsOut, Receives, Settles, given, number_taken}
 
 given_nothing : (k : ℕ) (s : Option (List ℕ)) (o : Option ConnectionState) (t : TargetState) → place t.streams k ≡ s → given k s o [] t ≡ t
 given_nothing k None o t known = refl
@@ -19,14 +17,25 @@ given_nothing k (Some held) (Some c) t known =
 pub none_taken : (k n : ℕ) (bytes : List ℕ) (old new : TargetState) → n ≡ number_taken k bytes old → n ≡ 0 → Receives k (take n bytes) old new
     → HandsOut 0 k bytes old [] new
 none_taken k n bytes old new is none received =
-    let nothing : take n bytes ≡ [] = ap (λ m. take m bytes) none in
-    (sym is ∙ none, refl, received ∙ ap (λ piece. given k (place old.streams k) (place old.connections k) piece old) nothing
-    ∙ given_nothing k (place old.streams k) (place old.connections k) old refl)
+    let nothing : take n bytes ≡ [] = ap (λ m. take m bytes) none in (
+      sym is ∙ none,
+      refl,
+      received ∙ ap (λ piece. given k (place old.streams k) (place old.connections k) piece old) nothing
+          ∙ given_nothing k (place old.streams k) (place old.connections k) old refl,
+    )
 
 -- a piece, what is printed of it, and what the rest prints
 pub piece_more : (k n len : ℕ) (bytes rest : List ℕ) (old mid settled last : TargetState) (first text : List ℕ) → len ≡ number_taken k bytes old → 0 < len
     → Receives k (take len bytes) old mid → Settles mid first settled → rest ≡ drop len bytes → HandsOut n k rest settled text last
     → HandsOut (suc n) k bytes old (first ++ text) last
-piece_more k n len bytes rest old mid settled last first text is some received settles after more =
-    (mid, settled, first, text, subst (λ m. 0 < m) is some, subst (λ m. Receives k (take m bytes) old mid) is received, settles,
-     subst (λ r. HandsOut n k r settled text last) (after ∙ ap (λ m. drop m bytes) is) more, refl)
+piece_more k n len bytes rest old mid settled last first text is some received settles after more = (
+  mid,
+  settled,
+  first,
+  text,
+  subst (λ m. 0 < m) is some,
+  subst (λ m. Receives k (take m bytes) old mid) is received,
+  settles,
+  subst (λ r. HandsOut n k r settled text last) (after ∙ ap (λ m. drop m bytes) is) more,
+  refl,
+)

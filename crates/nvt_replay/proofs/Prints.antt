@@ -1,5 +1,5 @@
 -- What is printed of connections, and what is left of them.
-use Rattle.std.proofs.Common.{◌≡◌, ℕ, suc, ◌+◌, ◌<◌, ◌≤◌, Bool, true, false, ◌&&◌, List, [], ◌++◌, Option, Some, None, is_some, refl, sym, ap, ◌∙◌, subst, arith, append-nil, add-one, true≢false, ◌⊎◌, ◌≢◌, inl, inr}
+use Rattle.std.proofs.Common.{◌≡◌, ℕ, ◌+◌, ◌<◌, ◌≤◌, Bool, true, false, ◌&&◌, List, [], ◌++◌, Option, Some, None, is_some, refl, sym, ap, ◌∙◌, subst, arith, append-nil, add-one, true≢false, ◌⊎◌, ◌≢◌, inl, inr}
 use Rattle.std.specs.Prelude.{◌==◌, codes, nat_lt, if◌then◌else◌}
 use Rattle.std.specs.Io.KnownBytes.{Appends}
 use Rattle.std.proofs.KnownBytes.{Appends-nil, Appends-trans}
@@ -13,9 +13,6 @@ use Rattle.target_decision.specs.Session.{is_ended}
 use Rattle.nvt_replay.specs.Played.{ArePrinted, TakesOutput, connection_lines, lines_below, printed_out}
 use Rattle.nvt_replay.specs.Printed.{event_line, output_lines}
 use Rattle.nvt_replay.proofs.PduLemmas.{output_lines-nil}
-
-closed_line : ℕ → Bool → List ℕ
-closed_line k ended = if ended then event_line k (codes "closed") else []
 
 -- the lines of a connection, by its output and whether it is ended
 lines_are : (k : ℕ) (o : Option ConnectionState)

@@ -1,5 +1,5 @@
 -- How a connection steps until it is idle.
-use Rattle.std.proofs.Common.{◌≡◌, ℕ, suc, ◌+◌, ◌<◌, ◌≤◌, Bool, true, false, List, length, drop, Option, Some, None, is_some, Result, Ok, Err, refl, sym, ap, ◌∙◌, arith, length-drop, add-one, true≢false, subst}
+use Rattle.std.proofs.Common.{◌≡◌, ℕ, suc, ◌+◌, ◌<◌, Bool, true, false, List, length, drop, Option, Some, None, is_some, Ok, refl, sym, ap, ◌∙◌, arith, length-drop, add-one, true≢false, subst}
 use Rattle.std.specs.Prelude.{◌==◌, ◌||◌, if◌then◌else◌}
 use Rattle.std.specs.Option.{option_map}
 use Rattle.std.proofs.lemmas.Bool.Decides.{nat_tests}
@@ -8,14 +8,11 @@ use Rattle.pdu_cut.specs.declared.side.Side.TheVariants.{Target}
 use Rattle.pdu_cut.specs.Front.{Front, incomplete, whole, faulty, front}
 use Rattle.pdu_cut.proofs.Fronts.{front_whole}
 use Rattle.pdu_cut.proofs.Headers.{eight_within}
-use Rattle.target_core.specs.declared.fault.StepFault.{StepFault}
-use Rattle.target_core.specs.declared.fault.StepFault.TheVariants.{NoConn, Memory}
-use Rattle.target_core.specs.declared.fault.Stepped.{Stepped}
-use Rattle.target_core.specs.declared.fault.Stepped.TheVariants.{Idle, One, Ended}
+use Rattle.target_core.specs.declared.fault.Stepped.TheVariants.{One, Ended}
 use Rattle.target_core.specs.Agreement.{front_of}
 use Rattle.target_core.specs.Connection.{ConnectionState}
 use Rattle.target_core.specs.Moves.{Moves, StepsAt, connection_moved, stream_moved}
-use Rattle.target_core.specs.Target.{TargetState, is_ended_at, is_idle, is_incomplete, meets}
+use Rattle.target_core.specs.Target.{TargetState, is_idle, is_incomplete, meets}
 use Rattle.target_decision.specs.declared.decision.Decision.{Decision}
 use Rattle.target_decision.specs.declared.session.Session.{Session}
 use Rattle.target_decision.specs.declared.session.Session.TheVariants as session
@@ -24,7 +21,7 @@ use Rattle.target_decision.specs.Session.{is_ended, session_after}
 use Rattle.target_history.specs.Ending.{ending_in, ends_by}
 use Rattle.target_history.specs.Event.{stepped}
 use Rattle.target_history.specs.Happening.{decided, session_decided}
-use Rattle.nvt_replay.specs.Played.{StepBelow, Steps, StepsUntilIdle, is_idle_at}
+use Rattle.nvt_replay.specs.Played.{StepBelow, StepsUntilIdle, is_idle_at}
 
 -- what a connection may still consume: nothing once it is ended
 abbrev left_in : Option (List ℕ) → Option ConnectionState → ℕ
@@ -37,26 +34,8 @@ left_at t k = left_in (place t.streams k) (place t.connections k)
 
 -- ---- a step that is none
 
-idle_at : (k : ℕ) (s : Option (List ℕ)) (o : Option ConnectionState) (old new : TargetState) → StepsAt k s o old (Ok Idle) new
-    → (is_idle_at s o ≡ true) × (new ≡ old)
-idle_at k None o old new h = cc
-idle_at k (Some held) None old new h = cc
-idle_at k (Some held) (Some c) old new h = h
-
-unknown_at : (k : ℕ) (s : Option (List ℕ)) (o : Option ConnectionState) (old new : TargetState) → StepsAt k s o old (Err NoConn) new
-    → (is_idle_at s o ≡ true) × (new ≡ old)
-unknown_at k None o old new h = (refl, h.1)
-unknown_at k (Some held) None old new h = (refl, h.1)
-unknown_at k (Some held) (Some c) old new h = cc
-
 no_step : (k : ℕ) (old new : TargetState) → (is_idle_at (place old.streams k) (place old.connections k) ≡ true) × (new ≡ old) → StepsUntilIdle k old new
 no_step k old new h = record { number = 0; steps = h.1; idle = rw h.1 h.0 }
-
-pub idle_already : (k : ℕ) (old new : TargetState) → StepsAt k (place old.streams k) (place old.connections k) old (Ok Idle) new → StepsUntilIdle k old new
-idle_already k old new h = no_step k old new (idle_at k (place old.streams k) (place old.connections k) old new h)
-
-pub unknown_already : (k : ℕ) (old new : TargetState) → StepsAt k (place old.streams k) (place old.connections k) old (Err NoConn) new → StepsUntilIdle k old new
-unknown_already k old new h = no_step k old new (unknown_at k (place old.streams k) (place old.connections k) old new h)
 
 -- a connection that is not known is idle
 none_steps : (k : ℕ) (t : TargetState) → place t.connections k ≡ None → StepsUntilIdle k t t

@@ -1,9 +1,8 @@
 -- What a replay makes of a target, line by line, and what it prints of it.
-use Rattle.std.specs.Prelude.{◌≡◌, ℕ, zero, suc, ◌<◌, ◌==◌, ◌&&◌, ◌⊎◌, Bool, true, false, nat_lt, List, [], ◌∷◌, ◌++◌, length, take, drop, min, codes, Option, Some, None, is_none, MatchOption, Ok, if◌then◌else◌}
+use Rattle.std.specs.Prelude.{◌≡◌, ℕ, zero, suc, ◌<◌, ◌&&◌, Bool, true, nat_lt, List, [], ◌∷◌, ◌++◌, length, take, drop, min, codes, Option, Some, None, MatchOption, Ok, if◌then◌else◌}
 use Rattle.std.specs.Io.KnownBytes.{Appends}
 use Rattle.hex.specs.Hex.{decode_of}
 use Rattle.number_table.specs.Table.{place}
-use Rattle.target_core.specs.declared.fault.OpenFault.{OpenFault}
 use Rattle.target_core.specs.Agreement.{front_of}
 use Rattle.target_core.specs.Connection.{ConnectionState}
 use Rattle.target_core.specs.Moves.{Moves}

@@ -1,12 +1,14 @@
 -- What the end of a replay says of its files.
-use Rattle.std.specs.Prelude.{◌≡◌, ℕ, ◌-◌, ◌≤◌, true, false, List, [], ◌∷◌, length, take, slice_index_or, All, Some, Result, Ok, Err}
+use Rattle.std.specs.Prelude.{◌≡◌, ℕ, ◌-◌, ◌≤◌, true, false, List, [], ◌∷◌, length, take, slice_index_or, All, Option, Some, Result, Ok, Err}
 use Rattle.config_edits.specs.declared.edit.Edit.{Edit}
 use Rattle.config_rules.specs.Accept.{accept}
 use Rattle.config_rules.specs.Configuration.{Configuration, are_disks, disks_alone}
 use Rattle.config_text.specs.EditLine.{IsLineOf}
 use Rattle.config_text.specs.Lines.{lines_of}
-use Rattle.target_core.specs.Target.{TargetState}
-use Rattle.nvt_replay.specs.Played.{HasNone, PlaysAll}
+use Rattle.target_core.specs.Moves.{Moves}
+use Rattle.target_core.specs.Target.{IsNewTarget, TargetState}
+use Rattle.target_history.specs.Event.{edited}
+use Rattle.nvt_replay.specs.Played.{PlaysAll, Prints}
 use Rattle.nvt_replay.specs.StreamLine.{IsStreamLine}
 use Rattle.nvt_replay.specs.Replies.{Refuses}
 use Rattle.nvt_replay.specs.declared.reply.Reply.{Reply}
@@ -40,15 +42,42 @@ abbrev pub AcceptsAll : List ℕ → List ℕ → Type 0
 AcceptsAll edits units =
     (are_disks units ≡ true) × (c : Configuration) × Configures (lines_of edits) (disks_alone units) c
 
--- a target after the edits, which has no connection yet
-pub record IsConfigured (edits units : List ℕ) (t : TargetState) : Type 0 where
-  pub config : Configures (lines_of edits) (disks_alone units) t.config
-  pub none : HasNone t
+-- the edit that a line says is made
+abbrev pub MovesByLine : List ℕ → TargetState → TargetState → Type 0
+MovesByLine line old new = (edit : Edit) × IsLineOf line edit × Moves (edited edit) old new
 
--- the edits, and then the lines of the script over the target that they made, print this text
+-- .. and those of lines, one after the other
+abbrev pub MovesByLines : List (List ℕ) → TargetState → TargetState → Type 0
+MovesByLines [] old new = new ≡ old
+MovesByLines (line ∷ lines) old new = (next : TargetState) × MovesByLine line old next × MovesByLines lines next new
+
+-- a target of these disks after the edits
+pub record IsConfigured (edits units : List ℕ) (t : TargetState) : Type 0 where
+  pub first : TargetState
+  pub is_new : IsNewTarget (disks_alone units) first
+  pub moves : MovesByLines (lines_of edits) first t
+
+-- the lines of the script, over the target that the edits made, print this text
 abbrev pub Replays : List ℕ → List ℕ → List ℕ → List ℕ → Type 0
 Replays edits stream units text =
-    (first : TargetState) × (last : TargetState) × IsConfigured edits units first × PlaysAll (lines_of stream) first text last
+    (t : TargetState) × (last : TargetState) × IsConfigured edits units t × PlaysAll (lines_of stream) t text last
+
+-- where a line of a script has none of its forms, those before it were played
+abbrev pub PlaysBefore : ReplayFault → List (List ℕ) → TargetState → Option (List ℕ) → Option (List ℕ) → Type 0
+PlaysBefore (EditLine n reply) lines t old new = Unit {0}
+PlaysBefore (StreamLine n) lines t old new = Prints old new (λ text. (last : TargetState) × PlaysAll (take (n - 1) lines) t text last)
+PlaysBefore Memory lines t old new = Unit {0}
+PlaysBefore Io lines t old new = Unit {0}
+PlaysBefore Disks lines t old new = Unit {0}
+
+-- .. over the target that the edits made
+abbrev pub ReplaysBefore : ReplayFault → List ℕ → List ℕ → List ℕ → Option (List ℕ) → Option (List ℕ) → Type 0
+ReplaysBefore (EditLine n reply) edits stream units old new = Unit {0}
+ReplaysBefore (StreamLine n) edits stream units old new =
+    (t : TargetState) × IsConfigured edits units t × PlaysBefore (StreamLine n) (lines_of stream) t old new
+ReplaysBefore Memory edits stream units old new = Unit {0}
+ReplaysBefore Io edits stream units old new = Unit {0}
+ReplaysBefore Disks edits stream units old new = Unit {0}
 
 -- what each fault says of the edits, the script and the disks
 abbrev pub Explains : ReplayFault → List ℕ → List ℕ → List ℕ → Type 0

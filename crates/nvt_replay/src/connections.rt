@@ -123,7 +123,7 @@ impl Connections {
     pub fn take_output(&mut self, k: usize)
         ensures { TakesOutput k (place self.old.connections k) self.old self.new }
     {
-        let len = self.target.output(k).len();
+        let len = self.output(k).len();
         self.target.taken(k, len);
     }
 

@@ -9,8 +9,10 @@ ghost use Rattle.config_rules.specs.Configuration.{are_disks, disks_alone};
 ghost use Rattle.config_text.specs.Lines.{lines_of};
 ghost use Rattle.number_table.specs.Table.{place};
 ghost use Rattle.target_core.specs.Target.{TargetState};
-ghost use Rattle.nvt_replay.specs.Replay.{AcceptsAll, Configures, EndsScript, Explains, Replays};
-ghost use Rattle.nvt_replay.specs.Replay.{IsBeforeScript, IsOfRun};
+ghost use Rattle.nvt_replay.specs.Replay.{AcceptsAll, Configures, EndsScript, Explains};
+ghost use Rattle.nvt_replay.specs.Replay.{IsBeforeScript, IsConfigured, IsOfRun};
+ghost use Rattle.nvt_replay.specs.Replay.{MovesByLine, MovesByLines, PlaysBefore};
+ghost use Rattle.nvt_replay.specs.Replay.{Replays, ReplaysBefore};
 ghost use Rattle.nvt_replay.specs.Replay.{RefusesEdits, RefusesLines, TakesLine};
 ghost use Rattle.nvt_replay.specs.Played.{ArePrinted, HandsOut, HasNone, Plays, PlaysAll};
 ghost use Rattle.nvt_replay.specs.Played.{PlaysEdit, PlaysEnd, PlaysOpen, PlaysReceive, Prints};
@@ -74,6 +76,8 @@ pub fn replay<W: Write>(
     ensures fault { IfErr result (λ fault. Explains fault edits.now stream.now units.now) }
     ensures played { OnOk result (Prints (W.contents out.old) (W.contents out.new)
         (Replays edits.now stream.now units.now)) }
+    ensures before { IfErr result (λ fault. ReplaysBefore fault edits.now stream.now units.now
+        (W.contents out.old) (W.contents out.new)) }
     ensures unwritten { IfErr result (λ fault. IsBeforeScript fault →
         W.contents out.new ≡ W.contents out.old) }
 {
@@ -92,6 +96,8 @@ fn run<W: Write>(
     ensures ok { OnOk result (All IsStreamLine (lines_of stream.now)) }
     ensures played { OnOk result (Prints (W.contents out.old) (W.contents out.new) (λ text.
         (last : TargetState) × PlaysAll (lines_of stream.now) target text last)) }
+    ensures before { IfErr result (λ fault. PlaysBefore fault (lines_of stream.now) target
+        (W.contents out.old) (W.contents out.new)) }
     ensures fault { IfErr result (λ fault. EndsScript fault (lines_of stream.now)) }
 {
     let mut playback = Playback {
@@ -108,7 +114,7 @@ fn configured(alloc: Global, edits: &[u8], units: &[u64]) -> Result<Target, Repl
     ensures refused { OnFalse (are_disks units.now) (result ≡ Err ReplayFault.Disks) }
     ensures ok { IfOk result (λ target.
         Configures (lines_of edits.now) (disks_alone units.now) target.config) }
-    ensures none { IfOk result HasNone }
+    ensures configured { IfOk result (IsConfigured edits.now units.now) }
     ensures fault { IfErr result (λ fault. RefusesEdits fault edits.now units.now) }
 {
     let mut target = match Target::new(alloc, units) {
@@ -123,7 +129,7 @@ fn configured(alloc: Global, edits: &[u8], units: &[u64]) -> Result<Target, Repl
 // Applies the edits, up to the first line that is refused.
 fn take_edits(alloc: Global, target: &mut Target, edits: &[u8]) -> Result<(), ReplayFault>
     ensures ok { OnOk result (Configures (lines_of edits.now) target.old.config target.new.config) }
-    ensures none { HasNone target.old → HasNone target.new }
+    ensures moves { OnOk result (MovesByLines (lines_of edits.now) target.old target.new) }
     ensures fault { IfErr result (λ fault.
         RefusesLines fault (lines_of edits.now) target.old.config) }
 {
@@ -143,7 +149,7 @@ fn take_edit(
     line: &[u8],
 ) -> Result<(), ReplayFault>
     ensures takes { TakesLine target.old.config line.now number result target.new.config }
-    ensures none { HasNone target.old → HasNone target.new }
+    ensures moves { OnOk result (MovesByLine line.now target.old target.new) }
 {
     match make_line(alloc, target, line) {
         Ok(()) => Ok(()),
@@ -170,6 +176,8 @@ impl Playback {
         ensures ok { OnOk result (All IsStreamLine (lines_of stream.now)) }
         ensures played { OnOk result (Prints (W.contents out.old) (W.contents out.new) (λ text.
             PlaysAll (lines_of stream.now) self.old.connections text self.new.connections)) }
+        ensures before { IfErr result (λ fault. PlaysBefore fault (lines_of stream.now)
+            self.old.connections (W.contents out.old) (W.contents out.new)) }
         ensures fault { IfErr result (λ fault. EndsScript fault (lines_of stream.now)) }
     {
         let mut number = 0;

@@ -103,12 +103,7 @@ impl Printer {
         Ok(())
     }
 
-    fn pdu<W: Write>(
-        &mut self,
-        out: &mut W,
-        connection: u64,
-        pdu: &[u8],
-    ) -> Result<(), ReplayFault>
+    fn pdu<W: Write>(&mut self, out: &mut W, connection: u64, pdu: &[u8]) -> Result<(), ReplayFault>
         ensures fault { IfErr result IsOfRun }
         ensures printed { OnOk result (Appends (W.contents out.old) (W.contents out.new)
             (pdu_line connection pdu.now)) }
@@ -120,11 +115,7 @@ impl Printer {
         written(out.write_all(&self.line))
     }
 
-    fn text<W: Write, D: Display + Drop>(
-        &mut self,
-        out: &mut W,
-        text: D,
-    ) -> Result<(), ReplayFault>
+    fn text<W: Write, D: Display + Drop>(&mut self, out: &mut W, text: D) -> Result<(), ReplayFault>
         ensures fault { IfErr result IsOfRun }
         ensures printed { OnOk result (IfSome (D.output text)
             (Appends (W.contents out.old) (W.contents out.new))) }

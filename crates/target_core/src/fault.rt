@@ -2,8 +2,7 @@
 ghost use Rattle.std.specs.Prelude.{Some};
 ghost use Rattle.target_core.specs.Fault.{word_of_open_fault};
 
-use std::error;
-use std::fmt;
+use std::{error, fmt};
 use thiserror::Error;
 
 /// What a step did.

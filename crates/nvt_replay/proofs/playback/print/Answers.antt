@@ -1,6 +1,6 @@
 use Rattle.std.proofs.Common.{sym, ◌∙◌}
 use Rattle.number_table.specs.Table.{place}
-use Rattle.nvt_replay.proofs.Prints.{closed_left, closed_lines, open_left, printed_lines, still_ended}
+use Rattle.nvt_replay.proofs.Prints.{open_left, printed_lines, still_ended}
 use Rattle.nvt_replay.proofs.playback.print.Goals as goal
 
 pub returns-else-is_ended-clause-printed : goal.returns-else-is_ended-clause-printed

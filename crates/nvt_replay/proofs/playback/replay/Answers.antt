@@ -2,6 +2,7 @@ use Rattle.std.proofs.Common.{All, refl}
 use Rattle.std.proofs.lemmas.Result.{err_from_is_err_and, on_ok_weaker}
 use Rattle.config_text.specs.Lines.{lines_of}
 use Rattle.nvt_replay.specs.StreamLine.{IsStreamLine}
+use Rattle.nvt_replay.proofs.Playing.{configured_has_none}
 use Rattle.nvt_replay.proofs.playback.replay.Goals as goal
 
 pub returns-clause-ok : goal.returns-clause-ok
@@ -14,3 +15,6 @@ pub returns-in_err-target-clause-unwritten : goal.returns-in_err-target-clause-u
 returns-in_err-target-clause-unwritten g c =
     let p = err_from_is_err_and c.from_residual.result c.from_residual.ensures.1 in
     rw p.1 (λ before. refl)
+
+pub run-requires : goal.run-requires
+run-requires g c = configured_has_none c.args.edits.now c.args.units.now c.in_ok-target.target c.in_ok-target.ensures.configured

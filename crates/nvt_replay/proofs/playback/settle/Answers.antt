@@ -1,4 +1,4 @@
-use Rattle.std.proofs.Common.{◌≡◌, ℕ, List, sym, refl, subst, arith}
+use Rattle.std.proofs.Common.{◌≡◌, sym, refl, subst, arith}
 use Rattle.std.specs.Prelude.{nat_lt}
 use Rattle.std.specs.Io.KnownBytes.{Appends}
 use Rattle.nvt_replay.specs.Played.{ArePrinted, Settles, lines_below}

@@ -1,7 +1,8 @@
 use Rattle.std.proofs.Common.{◌≡◌, ◌∷◌, drop, subst, ◌∙◌, arith}
 use Rattle.std.proofs.lemmas.Result.{err_from_is_err_and}
 use Rattle.config_text.specs.Lines.{lines_of}
-use Rattle.nvt_replay.specs.Replay.{Configures}
+use Rattle.nvt_replay.specs.Replay.{Configures, MovesByLines}
+use Rattle.nvt_replay.proofs.Playing.{moved_more}
 use Rattle.config_text.proofs.LineLemmas.{length-lines_of}
 use Rattle.nvt_replay.proofs.ReplayLemmas.{IsNext, all_taken, before_more, next_line, refused_at}
 use Rattle.nvt_replay.proofs.playback.take_edits.Goals as goal
@@ -20,7 +21,7 @@ loop-line-preserved c =
       rest = next.after;
       counted = omega (arith, next.below);
       before = before_more (lines_of c.args.edits.now) c.loop-line.number c.in-Some.line.now c.next.new.self _ _ _ left c.loop-line.invariant.before c.in_ok-take_edit.ensures.takes;
-      none = λ h. c.in_ok-take_edit.ensures.none (c.loop-line.invariant.none h);
+      moves = moved_more (lines_of c.args.edits.now) c.loop-line.number c.in-Some.line.now c.next.new.self _ _ _ left c.loop-line.invariant.moves c.in_ok-take_edit.ensures.moves;
     }
 
 pub returns-in_err-take_edit-clause-fault : goal.returns-in_err-take_edit-clause-fault
@@ -34,8 +35,7 @@ returns-clause-ok c =
     let all = all_taken (lines_of c.args.edits.now) c.loop-line.number (c.loop-line.invariant.rest ∙ c.in-None.ensures.steps.0) in
     subst (λ lines. Configures lines c.args.target.now.config c.loop-line.target.config) all c.loop-line.invariant.before
 
-pub returns-in_err-take_edit-clause-none : goal.returns-in_err-take_edit-clause-none
-returns-in_err-take_edit-clause-none c = λ h. c.in_err-take_edit.ensures.none (c.loop-line.invariant.none h)
-
-pub returns-clause-none : goal.returns-clause-none
-returns-clause-none c = c.loop-line.invariant.none
+pub returns-clause-moves : goal.returns-clause-moves
+returns-clause-moves c =
+    let all = all_taken (lines_of c.args.edits.now) c.loop-line.number (c.loop-line.invariant.rest ∙ c.in-None.ensures.steps.0) in
+    subst (λ lines. MovesByLines lines c.args.target.now c.loop-line.target) all c.loop-line.invariant.moves

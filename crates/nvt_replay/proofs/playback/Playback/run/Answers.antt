@@ -4,7 +4,7 @@ use Rattle.config_text.specs.Lines.{lines_of}
 use Rattle.nvt_replay.specs.StreamLine.{IsStreamLine}
 use Rattle.config_text.proofs.LineLemmas.{length-lines_of}
 use Rattle.nvt_replay.specs.Played.{PlaysAll, Prints}
-use Rattle.nvt_replay.proofs.Playing.{played_more}
+use Rattle.nvt_replay.proofs.Playing.{played_before, played_more}
 use Rattle.nvt_replay.proofs.ReplayLemmas.{IsNext, all_taken, is_stream_line, malformed_at, next_line, well_formed_more}
 use Rattle.nvt_replay.proofs.playback.Playback.run.Goals as goal
 
@@ -33,11 +33,16 @@ returns-in-None-read_stream_line-clause-fault g c =
     let left : drop c.loop-line.number (lines_of c.args.stream.now) ≡ c.in-Some.line.now ∷ c.next.new.self = c.loop-line.invariant.rest ∙ c.in-Some.ensures.steps in
     malformed_at (lines_of c.args.stream.now) c.loop-line.number c.in-Some.line.now c.next.new.self left c.loop-line.invariant.before c.in-None-read_stream_line.ensures.none
 
+pub returns-in-None-read_stream_line-clause-before : goal.returns-in-None-read_stream_line-clause-before
+returns-in-None-read_stream_line-clause-before g c =
+    played_before (lines_of c.args.stream.now) c.loop-line.number c.args.self.now.connections c.loop-line.self.connections
+    (g.W.Write.contents c.args.out.now) (g.W.Write.contents c.loop-line.out) c.loop-line.invariant.played
+
 pub returns-clause-played : goal.returns-clause-played
 returns-clause-played g c =
     let all = all_taken (lines_of c.args.stream.now) c.loop-line.number (c.loop-line.invariant.rest ∙ c.in-None.ensures.steps.0) in
     subst (λ (lines : List (List ℕ)). Prints (g.W.Write.contents c.args.out.now) (g.W.Write.contents c.loop-line.out)
-        (λ text. PlaysAll lines c.args.self.now.connections text c.loop-line.self.connections)) all c.loop-line.invariant.played
+    (λ text. PlaysAll lines c.args.self.now.connections text c.loop-line.self.connections)) all c.loop-line.invariant.played
 
 pub returns-clause-ok : goal.returns-clause-ok
 returns-clause-ok g c =
