@@ -9,7 +9,6 @@ use Rattle.pdu_cut.specs.Front.{Front, incomplete, whole, faulty, front}
 use Rattle.pdu_cut.proofs.Fronts.{front_whole}
 use Rattle.pdu_cut.proofs.Headers.{eight_within}
 use Rattle.target_core.specs.declared.fault.Stepped.TheVariants.{One, Ended}
-use Rattle.target_core.specs.Agreement.{front_of}
 use Rattle.target_core.specs.Connection.{ConnectionState}
 use Rattle.target_core.specs.Moves.{Moves, StepsAt, connection_moved, stream_moved}
 use Rattle.target_core.specs.Target.{TargetState, is_idle, is_incomplete, meets}
@@ -21,7 +20,7 @@ use Rattle.target_decision.specs.Session.{is_ended, session_after}
 use Rattle.target_history.specs.Ending.{ending_in, ends_by}
 use Rattle.target_history.specs.Event.{stepped}
 use Rattle.target_history.specs.Happening.{decided, session_decided}
-use Rattle.nvt_replay.specs.Played.{StepBelow, StepsUntilIdle, is_idle_at}
+use Rattle.nvt_replay.specs.Played.{StepBelow, Steps, StepsUntilIdle, is_idle_at}
 
 -- what a connection may still consume: nothing once it is ended
 abbrev left_in : Option (List ℕ) → Option ConnectionState → ℕ
@@ -53,8 +52,8 @@ unknown_steps k t not = none_steps k t (none_is (place t.connections k) not)
 
 -- ---- a step
 
-pub steps_more : (k : ℕ) (old mid last : TargetState) → Moves (stepped k (front_of (place old.streams k))) old mid → StepsUntilIdle k mid last → StepsUntilIdle k old last
-steps_more k old mid last moves more = record { number = suc more.number; steps = (mid, moves, more.steps); idle = more.idle }
+pub steps_more : (k : ℕ) (old mid last : TargetState) → Steps k old mid → StepsUntilIdle k mid last → StepsUntilIdle k old last
+steps_more k old mid last first more = record { number = suc more.number; steps = (mid, first, more.steps); idle = more.idle }
 
 abbrev is_whole : Front → Bool
 is_whole incomplete = false
@@ -112,7 +111,7 @@ consumes_or_ends t k held c (faulty fault head) same known lasts here stands =
 
 -- a step that is not idle: what it moves, and that less is left
 pub record StepsOnce (k : ℕ) (old new : TargetState) : Type 0 where
-  pub moves : Moves (stepped k (front_of (place old.streams k))) old new
+  pub step : Steps k old new
   pub less : left_at new k < left_at old k
 
 left_is : (t : TargetState) (k : ℕ) (held : List ℕ) (c : ConnectionState) → place t.streams k ≡ Some held → place t.connections k ≡ Some c
@@ -131,7 +130,7 @@ step_by k held c old new stream known busy moves =
     moves.stream k ∙ ap (option_map (stream_moved (stepped k found) k)) stream ∙ ap (λ b. Some (if b then drop (consumed_of found) held else held)) same in
     let before : left_at old k ≡ suc (length held) = left_is old k held c stream known ∙ ap (λ b. if b then 0 else suc (length held)) lasts.0 in
     record {
-      moves = rw stream moves;
+      step = record { busy = rw (stream, known) busy; moves = rw stream moves };
       less = subst (λ n. n < left_at old k) (sym (left_is new k (drop (consumed_of found) held) after held_after connection))
           (subst (λ n. (if is_ended after.conversation.session then 0 else suc (length (drop (consumed_of found) held))) < n) (sym before)
           (consumes_or_ends old k held c found same known lasts.0 lasts.1 refl));

@@ -1,5 +1,5 @@
 -- What a replay makes of a target, line by line, and what it prints of it.
-use Rattle.std.specs.Prelude.{◌≡◌, ℕ, zero, suc, ◌<◌, ◌&&◌, Bool, true, nat_lt, List, [], ◌∷◌, ◌++◌, length, take, drop, min, codes, Option, Some, None, MatchOption, Ok, if◌then◌else◌}
+use Rattle.std.specs.Prelude.{◌≡◌, ℕ, zero, suc, ◌<◌, ◌&&◌, Bool, true, false, nat_lt, List, [], ◌∷◌, ◌++◌, length, take, drop, min, codes, Option, Some, None, MatchOption, Ok, if◌then◌else◌}
 use Rattle.std.specs.Io.KnownBytes.{Appends}
 use Rattle.hex.specs.Hex.{decode_of}
 use Rattle.number_table.specs.Table.{place}
@@ -48,16 +48,20 @@ is_idle_at None o = true
 is_idle_at (Some held) None = true
 is_idle_at (Some held) (Some c) = is_idle held c
 
--- n steps of connection k, one after the other
-abbrev pub Steps : ℕ → ℕ → TargetState → TargetState → Type 0
-Steps zero k old new = new ≡ old
-Steps (suc n) k old new =
-    (mid : TargetState) × Moves (stepped k (front_of (place old.streams k))) old mid × Steps n k mid new
+-- a step of connection k, which is not idle
+pub record Steps (k : ℕ) (old new : TargetState) : Type 0 where
+  pub busy : is_idle_at (place old.streams k) (place old.connections k) ≡ false
+  pub moves : Moves (stepped k (front_of (place old.streams k))) old new
+
+-- n of them, one after the other
+abbrev pub StepsTimes : ℕ → ℕ → TargetState → TargetState → Type 0
+StepsTimes zero k old new = new ≡ old
+StepsTimes (suc n) k old new = (mid : TargetState) × Steps k old mid × StepsTimes n k mid new
 
 -- connection k steps until it is idle
 pub record StepsUntilIdle (k : ℕ) (old new : TargetState) : Type 0 where
   pub number : ℕ
-  pub steps : Steps number k old new
+  pub steps : StepsTimes number k old new
   pub idle : is_idle_at (place new.streams k) (place new.connections k) ≡ true
 
 -- the connections below n step until each is idle, one after the other, in rising number

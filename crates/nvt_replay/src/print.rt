@@ -31,7 +31,9 @@ pub struct Printer {
 }
 
 impl Printer {
-    pub fn new(alloc: Global) -> Printer {
+    pub fn new(alloc: Global) -> Printer
+        ensures { result.line.items ≡ [] }
+    {
         Printer {
             line: Vec::new(alloc),
         }
