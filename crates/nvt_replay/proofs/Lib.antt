@@ -4,4 +4,6 @@ pub mod Pieces
 pub mod Playing
 pub mod Prints
 pub mod ReplayLemmas
+pub mod Replying
+pub mod Splits
 pub mod Steps

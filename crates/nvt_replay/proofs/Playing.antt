@@ -4,7 +4,7 @@ use Rattle.std.proofs.KnownBytes.{Appends-trans}
 use Rattle.number_table.proofs.Tables.{place-replicate}
 use Rattle.config_edits.specs.declared.edit.Edit.{Edit}
 use Rattle.config_rules.specs.Configuration.{Configuration, disks_alone}
-use Rattle.config_text.specs.Lines.{lines_of}
+use Rattle.line_words.specs.Lines.{lines_of}
 use Rattle.target_core.specs.Connection.{ConnectionState}
 use Rattle.target_core.specs.Moves.{Moves, connection_after}
 use Rattle.target_core.specs.Target.{IsNewTarget, TargetState, meets}

@@ -10,7 +10,7 @@ use Rattle.config_edits.specs.declared.edit.Edit.{Edit}
 use Rattle.config_rules.specs.Accept.{accept}
 use Rattle.config_rules.specs.Configuration.{Configuration, are_disks, disks_alone}
 use Rattle.config_text.specs.EditLine.{IsLineOf}
-use Rattle.config_text.specs.Lines.{lines_of}
+use Rattle.line_words.specs.Lines.{lines_of}
 use Rattle.nvt_replay.specs.Replay.{AcceptsAll, Configures, EndsScript, Explains, IsFirstMalformed, RefusesEdits, RefusesLine, RefusesLines}
 use Rattle.nvt_replay.specs.Replies.{Refuses}
 use Rattle.nvt_replay.specs.StreamLine.{IsStreamLine, Says}

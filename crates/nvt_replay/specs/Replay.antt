@@ -4,7 +4,7 @@ use Rattle.config_edits.specs.declared.edit.Edit.{Edit}
 use Rattle.config_rules.specs.Accept.{accept}
 use Rattle.config_rules.specs.Configuration.{Configuration, are_disks, disks_alone}
 use Rattle.config_text.specs.EditLine.{IsLineOf}
-use Rattle.config_text.specs.Lines.{lines_of}
+use Rattle.line_words.specs.Lines.{lines_of}
 use Rattle.target_core.specs.Moves.{Moves}
 use Rattle.target_core.specs.Target.{IsNewTarget, TargetState}
 use Rattle.target_history.specs.Event.{edited}

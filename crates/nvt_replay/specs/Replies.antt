@@ -5,12 +5,12 @@ use Rattle.config_edits.specs.declared.fault.EditFault.{EditFault}
 use Rattle.config_edits.specs.Fault.{reply_of}
 use Rattle.config_rules.specs.Accept.{accept}
 use Rattle.config_rules.specs.Configuration.{Configuration}
-use Rattle.config_text.specs.declared.fault.LineFault.{LineFault}
-use Rattle.config_text.specs.declared.fault.LineFaultKind.{LineFaultKind}
-use Rattle.config_text.specs.declared.fault.LineFaultKind.TheVariants as kind
+use Rattle.line_words.specs.declared.fault.LineFault.{LineFault}
+use Rattle.line_words.specs.declared.fault.LineFaultKind.{LineFaultKind}
+use Rattle.line_words.specs.declared.fault.LineFaultKind.TheVariants as kind
 use Rattle.config_text.specs.EditLine.{IsLineOf}
-use Rattle.config_text.specs.Fault.{reply_of_line_fault}
-use Rattle.config_text.specs.Words.{line_fault}
+use Rattle.line_words.specs.Fault.{reply_of_line_fault}
+use Rattle.line_words.specs.Words.{line_fault}
 use Rattle.target_core.specs.Moves.{Moves}
 use Rattle.target_core.specs.Target.{TargetState}
 use Rattle.target_history.specs.Event.{edited}

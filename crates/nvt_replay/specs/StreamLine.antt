@@ -4,7 +4,7 @@ use Rattle.std.specs.List.{AllPass}
 use Rattle.hex.specs.Hex.{is_hex_digit}
 use Rattle.nvt_replay.specs.declared.stream_line.StreamLine.{StreamLine}
 use Rattle.nvt_replay.specs.declared.stream_line.StreamLine.TheVariants.{Open, Receive, End, Edit}
-use Rattle.config_text.specs.Number.{IsNumber}
+use Rattle.line_words.specs.Number.{IsNumber}
 
 -- pairs of hex digits of either case, at least one
 pub record IsHex (text : List ℕ) : Type 0 where

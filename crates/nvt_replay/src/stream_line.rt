@@ -4,7 +4,7 @@ ghost use Rattle.std.specs.Prelude.{◌≡◌, ◌≢◌, ◌^◌, ◌<◌, ◌�
 ghost use Rattle.std.specs.Prelude.{IfNone, IfSome, IsTrue, MatchOption, codes, length};
 ghost use Rattle.std.specs.List.{AllPass, position_or_len};
 ghost use Rattle.hex.specs.Hex.{is_hex_digit};
-ghost use Rattle.config_text.specs.Number.{IsNumber};
+ghost use Rattle.line_words.specs.Number.{IsNumber};
 ghost use Rattle.nvt_replay.specs.StreamLine.{IsHex, IsStreamLine, Says};
 
 use config_text::{find_byte, read_number};

@@ -1,6 +1,6 @@
 use Rattle.std.proofs.Common.{All, refl}
 use Rattle.std.proofs.lemmas.Result.{err_from_is_err_and, on_ok_weaker}
-use Rattle.config_text.specs.Lines.{lines_of}
+use Rattle.line_words.specs.Lines.{lines_of}
 use Rattle.nvt_replay.specs.StreamLine.{IsStreamLine}
 use Rattle.nvt_replay.proofs.Playing.{configured_has_none}
 use Rattle.nvt_replay.proofs.playback.replay.Goals as goal

@@ -1,9 +1,9 @@
 use Rattle.std.proofs.Common.{◌≡◌, ◌∷◌, drop, subst, ◌∙◌, arith}
 use Rattle.std.proofs.lemmas.Result.{err_from_is_err_and}
-use Rattle.config_text.specs.Lines.{lines_of}
+use Rattle.line_words.specs.Lines.{lines_of}
 use Rattle.nvt_replay.specs.Replay.{Configures, MovesByLines}
 use Rattle.nvt_replay.proofs.Playing.{moved_more}
-use Rattle.config_text.proofs.LineLemmas.{length-lines_of}
+use Rattle.line_words.proofs.LineLemmas.{length-lines_of}
 use Rattle.nvt_replay.proofs.ReplayLemmas.{IsNext, all_taken, before_more, next_line, refused_at}
 use Rattle.nvt_replay.proofs.playback.take_edits.Goals as goal
 

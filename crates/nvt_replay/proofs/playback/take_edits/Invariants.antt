@@ -1,5 +1,5 @@
 use Rattle.std.proofs.Common.{◌≡◌, ◌≤◌, take, drop, length}
-use Rattle.config_text.specs.Lines.{lines_of}
+use Rattle.line_words.specs.Lines.{lines_of}
 use Rattle.nvt_replay.specs.Replay.{Configures, MovesByLines}
 use Rattle.nvt_replay.proofs.playback.take_edits.Given as goal
 

@@ -1,5 +1,5 @@
 use Rattle.std.proofs.Common.{◌≡◌, arith}
-use Rattle.config_text.proofs.NumberLemmas.{one_number}
+use Rattle.line_words.proofs.NumberLemmas.{one_number}
 use Rattle.nvt_replay.proofs.stream_line.read_open.Goals as goal
 
 pub returns-then-port-gt65535-clause-none : goal.returns-then-port-gt65535-clause-none

@@ -1,9 +1,9 @@
 use Rattle.std.proofs.Common.{subst, sym, arith}
-use Rattle.config_text.specs.Number.{IsNumber}
+use Rattle.line_words.specs.Number.{IsNumber}
 use Rattle.nvt_replay.specs.StreamLine.{IsHex}
 use Rattle.std.proofs.lemmas.Grind.{common_steps}
-use Rattle.config_text.proofs.NumberLemmas.{no_space}
-use Rattle.config_text.proofs.WordLemmas.{one_split}
+use Rattle.line_words.proofs.NumberLemmas.{no_space}
+use Rattle.nvt_replay.proofs.Splits.{one_split}
 use Rattle.nvt_replay.proofs.stream_line.read_receive.Goals as goal
 
 pub returns-in_err-connection-clause-none : goal.returns-in_err-connection-clause-none

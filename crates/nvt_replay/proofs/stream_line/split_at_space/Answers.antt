@@ -1,6 +1,6 @@
 use Rattle.std.proofs.Common.{◌≡◌, ◌+◌, ◌-◌, ◌∷◌, ◌++◌, length, take, drop, length-drop, sym, ap, ◌∙◌, arith}
 use Rattle.std.proofs.lemmas.List.{length-take-le, take_all}
-use Rattle.config_text.proofs.WordLemmas.{no_space_in, split_there}
+use Rattle.nvt_replay.proofs.Splits.{no_space_in, split_there}
 use Rattle.nvt_replay.proofs.stream_line.split_at_space.Goals as goal
 
 pub returns-then-len-text : goal.returns-then-len-text

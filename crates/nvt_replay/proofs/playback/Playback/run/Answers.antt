@@ -1,8 +1,8 @@
 use Rattle.std.proofs.Common.{◌≡◌, ℕ, List, ◌∷◌, drop, subst, ◌∙◌, arith}
 use Rattle.std.specs.List.{All}
-use Rattle.config_text.specs.Lines.{lines_of}
+use Rattle.line_words.specs.Lines.{lines_of}
 use Rattle.nvt_replay.specs.StreamLine.{IsStreamLine}
-use Rattle.config_text.proofs.LineLemmas.{length-lines_of}
+use Rattle.line_words.proofs.LineLemmas.{length-lines_of}
 use Rattle.nvt_replay.specs.Played.{PlaysAll, Prints}
 use Rattle.nvt_replay.proofs.Playing.{played_before, played_more}
 use Rattle.nvt_replay.proofs.ReplayLemmas.{IsNext, all_taken, is_stream_line, malformed_at, next_line, well_formed_more}

@@ -1,6 +1,6 @@
 use Rattle.std.proofs.Common.{◌≡◌, ◌≤◌, take, drop, length}
 use Rattle.std.specs.List.{All}
-use Rattle.config_text.specs.Lines.{lines_of}
+use Rattle.line_words.specs.Lines.{lines_of}
 use Rattle.nvt_replay.specs.Played.{PlaysAll, Prints}
 use Rattle.nvt_replay.specs.StreamLine.{IsStreamLine}
 use Rattle.nvt_replay.proofs.playback.Playback.run.Given as goal
