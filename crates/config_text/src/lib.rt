@@ -1,5 +1,5 @@
-//! The text of edits: each edit has one line, which is read and written. It knows no configuration, so
-//! that a line may well say an edit that is refused.
+//! The text of edits: each edit has one line, which is read and written. It knows no configuration,
+//! so that a line may well say an edit that is refused.
 #![tactic(auto)]
 
 mod build;

@@ -27,8 +27,9 @@ abbrev pub left_len : Option (Bor (List ℕ)) → ℕ
 left_len None = 0
 left_len (Some rest) = length rest.now + 1
 
--- A word has to be there, of a byte at least. The line has so many bytes, and so many stand before the
--- word.
+-- Below, a line has `end` bytes, and of these `column` stand before the words that are left.
+
+-- a word has to be there, of a byte at least
 abbrev pub absence : ℕ → ℕ → List (List ℕ) → Option LineFault
 absence end column [] = fault end Missing
 absence end column (word ∷ words) = if length word == 0 then fault column Empty else None

@@ -5,8 +5,8 @@ ghost use Rattle.line_words.specs.Fault.{reply_of_line_fault, word_of_kind};
 use std::error::Error;
 use std::fmt;
 
-/// What is wrong with a line, at the first faulty word from the left; or that there is no memory for
-/// the edit that it says. Its text is the reply to the line.
+/// What is wrong with a line, at the first faulty word from the left; or that there was no memory for
+/// what it says. Its text is the reply to the line.
 #[derive(Clone, Copy, Debug, PartialEq, Eq)]
 pub struct LineFault {
     /// How many bytes stand before the word; the line's length where a word is missing, and 0 where

@@ -1,6 +1,6 @@
-//! The words of lines: what the line of an edit says, or its first fault. Beside it stand the parts that
-//! any reader of such files wants, lines and numbers. It knows no edit: a line says a command with
-//! values, each of which is one word.
+//! The words of lines: what the line of an edit says, or its first fault. Beside it stand the parts
+//! that any reader of such files wants, lines and numbers. It knows no edit: a line says a command
+//! with values, each of which is one word.
 #![tactic(auto)]
 
 pub mod command;

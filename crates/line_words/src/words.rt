@@ -1,6 +1,6 @@
 //! The words of a line, one after the other.
-ghost use Rattle.std.specs.Prelude.{◌≡◌, ◌<◌, ◌≤◌, ◌+◌, [], ◌∷◌, ◌++◌, IfErr, IfOk, OnOk, Some, length, map};
-ghost use Rattle.std.specs.Prelude.{List, None, if◌then◌else◌};
+ghost use Rattle.std.specs.Prelude.{◌≡◌, ◌<◌, ◌≤◌, ◌+◌, [], ◌∷◌, ◌++◌, if◌then◌else◌};
+ghost use Rattle.std.specs.Prelude.{IfErr, IfOk, List, None, OnOk, Some, length, map};
 ghost use Rattle.std.specs.List.{AllByRecursion};
 ghost use Rattle.std.specs.Result.{result_err};
 ghost use Rattle.arrayvec.specs.ArrayVec.{array_vec_len};
@@ -88,7 +88,7 @@ impl<'a> Words<'a> {
         self.end()
     }
 
-    // Adds the value that the next word says. What is said of the faults holds whatever forms follow.
+    // Adds the value that the next word says. The clauses on faults hold whatever forms follow.
     fn push_operand(&mut self, form: Form, operands: &mut Operands<'a>) -> Result<(), LineFault>
         requires { array_vec_len operands.old < 7 }
         ensures fault { IfErr result (λ fault. (forms : List Form)
