@@ -1,5 +1,5 @@
 -- What a line of edits that is not made is refused by, and what an edit that is made prints.
-use Rattle.std.proofs.Common.{◌≡◌, ℕ, List, ◌++◌, MatchOption, IsOkUnless, OnOk, Option, Some, None, Result, Ok, Err, refl, sym, ap, subst, inl}
+use Rattle.std.proofs.Common.{◌≡◌, ℕ, List, ◌++◌, MatchOption, IsOkUnless, OnOk, Option, Some, None, Result, Ok, Err, refl, sym, ap, ◌∙◌, subst, inl, inr}
 use Rattle.std.specs.Io.KnownBytes.{Appends}
 use Rattle.std.proofs.KnownBytes.{Appends-trans}
 use Rattle.config_edits.specs.declared.edit.Edit.{Edit}
@@ -10,10 +10,14 @@ use Rattle.line_words.specs.declared.fault.LineFaultKind.TheVariants.{TooLong, E
 use Rattle.line_words.specs.Fault.{memory_fault}
 use Rattle.line_words.specs.Words.{line_fault}
 use Rattle.target_core.specs.Target.{TargetState}
-use Rattle.nvt_replay.specs.declared.playback.ReplayFault.{ReplayFault}
 use Rattle.nvt_replay.specs.Played.{PlaysEdit, Prints, Settles}
-use Rattle.nvt_replay.specs.Printed.{edit_made_line}
-use Rattle.nvt_replay.specs.Replies.{IsRefused, MakesLine, not_read, not_read_by}
+use Rattle.nvt_replay.specs.declared.reply.Reply.{Reply}
+use Rattle.nvt_replay.specs.Printed.{edit_made_line, reply_line}
+use Rattle.nvt_replay.specs.Replies.{IsRefused, MakesLine, Refuses, not_read, not_read_by}
+
+-- a line that is not read
+abbrev failed : LineFault → Result Edit LineFault
+failed fault = Err fault
 
 by_kind : (c : Configuration) (line : List ℕ) (fault : LineFault) (kind : LineFaultKind) → line_fault line ≡ Some fault → IsRefused c line (not_read_by fault kind)
 by_kind c line fault TooLong is = is
@@ -28,12 +32,14 @@ by_kind c line fault Extra is = is
 by_kind c line fault Memory is = tt
 
 by_fault : (c : Configuration) (line : List ℕ) (fault : LineFault) (o : Option LineFault) → line_fault line ≡ o
-    → MatchOption o (IsOkUnless {T = Edit} (Err fault) memory_fault) (λ f. fault ≡ f) → IsRefused c line (not_read fault)
+    → MatchOption o (IsOkUnless (failed fault) memory_fault) (λ f. failed fault ≡ Err f) → IsRefused c line (not_read fault)
 by_fault c line fault None none wants = subst (λ (f : LineFault). IsRefused c line (not_read f)) (sym wants) tt
-by_fault c line fault (Some f) some is = by_kind c line fault fault.kind (rw is some)
+by_fault c line fault (Some f) some is =
+    let same : f ≡ fault = cc in
+    by_kind c line fault fault.kind (some ∙ ap (λ (x : LineFault). Some x) same)
 
 pub refused_by : (c : Configuration) (line : List ℕ) (fault : LineFault)
-    → MatchOption (line_fault line) (IsOkUnless {T = Edit} (Err fault) memory_fault) (λ f. fault ≡ f) → IsRefused c line (not_read fault)
+    → MatchOption (line_fault line) (IsOkUnless (failed fault) memory_fault) (λ f. failed fault ≡ Err f) → IsRefused c line (not_read fault)
 refused_by c line fault told = by_fault c line fault (line_fault line) refl told
 
 -- an edit that is made prints that it is, and then what the settling target prints
@@ -42,3 +48,9 @@ pub made_and_settled : {E : Type 0} (r : Result (Unit {0}) E) (line : List ℕ) 
 made_and_settled (Ok done) line old mid new a b c makes made settled =
     (edit_made_line ++ settled.0, Appends-trans a b c edit_made_line settled.0 made settled.1, inl (mid, makes, settled.0, settled.2, refl))
 made_and_settled (Err fault) line old mid new a b c makes made settled = tt
+
+-- an edit that is refused prints the reply
+pub refused_and_told : {E : Type 0} (r : Result (Unit {0}) E) (line : List ℕ) (old new : TargetState) (reply : Reply) (a b : Option (List ℕ)) → Refuses old.config line reply → new ≡ old
+    → OnOk r (Appends a b (reply_line reply)) → OnOk r (Prints a b (λ text. PlaysEdit line old text new))
+refused_and_told (Ok done) line old new reply a b refuses same told = (reply_line reply, told, inr (reply, refuses, refl, same))
+refused_and_told (Err fault) line old new reply a b refuses same told = tt
