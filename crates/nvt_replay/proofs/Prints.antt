@@ -6,9 +6,9 @@ use Rattle.std.proofs.KnownBytes.{Appends-nil, Appends-trans}
 use Rattle.std.proofs.lemmas.Bool.{cases_eq, cases_lt, eqb-true}
 use Rattle.std.proofs.lemmas.Bool.Decides.{nat_tests}
 use Rattle.number_table.specs.Table.{place}
-use Rattle.number_table.proofs.Tables.{place-with_value_held, place-without}
+use Rattle.number_table.proofs.Tables.{place-with_value_held}
 use Rattle.target_core.specs.Connection.{ConnectionState}
-use Rattle.target_core.specs.Target.{TargetState, is_ended_at, output_at, with_connection, without_connection}
+use Rattle.target_core.specs.Target.{TargetState, is_ended_at, output_at}
 use Rattle.target_decision.specs.Session.{is_ended}
 use Rattle.nvt_replay.specs.Played.{ArePrinted, TakesOutput, connection_lines, lines_below, printed_out}
 use Rattle.nvt_replay.specs.Printed.{event_line, output_lines}
@@ -40,25 +40,12 @@ printed_lines k o a b output is lasts printed =
     subst (Appends a b) (sym (lines_are k o ∙ ap (λ e. output_lines k (output_at o) ++ (if e then event_line k (codes "closed") else [])) lasts
     ∙ append-nil (output_lines k (output_at o)) ∙ ap (output_lines k) (sym is))) printed
 
--- .. and where it is ended, that it is closed
-pub closed_lines : (k : ℕ) (o : Option ConnectionState) (a b c : Option (List ℕ)) (output : List ℕ) → output ≡ output_at o → is_ended_at o ≡ true
-    → Appends a b (output_lines k output) → Appends b c (event_line k (codes "closed")) → Appends a c (connection_lines k o)
-closed_lines k o a b c output is ends printed closed =
-    subst (Appends a c) (sym (lines_are k o ∙ ap (λ e. output_lines k (output_at o) ++ (if e then event_line k (codes "closed") else [])) ends
-    ∙ ap (λ (out : List ℕ). output_lines k out ++ event_line k (codes "closed")) (sym is)))
-    (Appends-trans a b c (output_lines k output) (event_line k (codes "closed")) printed closed)
-
 -- ---- what is left
 
 stream_stays : (same ended : Bool) (s : Option (List ℕ)) → (same ≡ true → ended ≡ false) → s ≡ (if same && ended then None else s)
 stream_stays true true s lasts = absurd (true≢false (lasts refl))
 stream_stays true false s lasts = refl
 stream_stays false ended s lasts = refl
-
-stream_goes : (same ended : Bool) (s : Option (List ℕ)) → (same ≡ true → ended ≡ true) → (if same then None else s) ≡ (if same && ended then None else s)
-stream_goes true true s ends = refl
-stream_goes true false s ends = absurd (true≢false (sym (ends refl)))
-stream_goes false ended s ends = refl
 
 same_at : (same : Bool) (o : Option ConnectionState) → (same ≡ true → o ≡ None) → o ≡ (if same then printed_out o else o)
 same_at true o none = let is = none refl in rw is refl
@@ -68,11 +55,6 @@ taken_at : (same : Bool) (c : ConnectionState) (o : Option ConnectionState) → 
     → (if same then Some (record { conversation = c.conversation; output = [] }) else o) ≡ (if same then printed_out o else o)
 taken_at true c o known lasts = let is = known refl in rw (is, lasts) refl
 taken_at false c o known lasts = refl
-
-gone_at : (same : Bool) (c : ConnectionState) (o : Option ConnectionState) → (same ≡ true → o ≡ Some c) → is_ended c.conversation.session ≡ true
-    → (if same then None else (if same then Some (record { conversation = c.conversation; output = [] }) else o)) ≡ (if same then printed_out o else o)
-gone_at true c o known ends = let is = known refl in rw (is, ends) refl
-gone_at false c o known ends = refl
 
 ended_there : (k j : ℕ) (t : TargetState) (o : Option ConnectionState) (b : Bool) → place t.connections k ≡ o → is_ended_at o ≡ b
     → (j == k) ≡ true → is_ended_at (place t.connections j) ≡ b
@@ -100,28 +82,6 @@ left_at k (Some c) old new known takes lasts = rw takes (record {
 pub open_left : (k : ℕ) (old new : TargetState) → TakesOutput k (place old.connections k) old new → is_ended_at (place old.connections k) ≡ false
     → ArePrinted (λ j. j == k) old new
 open_left k old new takes lasts = left_at k (place old.connections k) old new refl takes lasts
-
-gone_of : (k : ℕ) (o : Option ConnectionState) (old mid new : TargetState) → place old.connections k ≡ o → TakesOutput k o old mid
-    → new ≡ without_connection mid k → is_ended_at o ≡ true → ArePrinted (λ j. j == k) old new
-gone_of k None old mid new known takes gives_up ends = absurd (true≢false (sym ends))
-gone_of k (Some c) old mid new known takes gives_up ends =
-    let after : ConnectionState = record { conversation = c.conversation; output = [] } in
-    rw (gives_up, takes) (record {
-      config = refl;
-      shown = refl;
-      connection = λ j.
-          place-without (with_connection old k after).connections k j
-          ∙ ap (λ o. if j == k then None else o) (place-with_value_held old.connections k after j c known)
-          ∙ gone_at (j == k) c (place old.connections j) (λ is. ap (place old.connections) (eqb-true j k is) ∙ known) ends;
-      stream = λ j.
-          place-without old.streams k j
-          ∙ stream_goes (j == k) (is_ended_at (place old.connections j)) (place old.streams j) (ended_there k j old (Some c) true known ends);
-    })
-
--- one that is ended is given up
-pub closed_left : (k : ℕ) (old mid new : TargetState) → TakesOutput k (place old.connections k) old mid → new ≡ without_connection mid k
-    → is_ended_at (place old.connections k) ≡ true → ArePrinted (λ j. j == k) old new
-closed_left k old mid new takes gives_up ends = gone_of k (place old.connections k) old mid new refl takes gives_up ends
 
 -- ---- all connections
 
