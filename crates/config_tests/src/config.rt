@@ -4,7 +4,7 @@ mod limits;
 mod outline;
 mod refusals;
 
-use nvt_config::config::accepted_stays_valid;
+use config_rules::laws::accepted_stays_valid;
 use nvt_config::{Access, Config, EditFault, Family, Item, NewFault, Port, Subsystem, Text, Value};
 use outline::has_lists;
 use std::alloc::{AllocError, Global};
@@ -200,7 +200,7 @@ const REPLIES: &[(EditFault, &str)] = &[
     (EditFault::Exists(Item::Port), "refused Exists Port"),
     (EditFault::InUse(Item::Link), "refused InUse Link"),
     (EditFault::Full(Item::Host), "refused Full Host"),
-    (EditFault::Memory, "memory"),
+    (EditFault::Memory, "refused Memory"),
 ];
 
 fn prints(alloc: Global, fault: EditFault, text: &str) -> Result<bool, AllocError> {

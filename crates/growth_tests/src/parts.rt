@@ -1,7 +1,7 @@
 //! The parts below the configuration.
 use super::rows::{HOST, tell};
 use bytes::BytesMut;
-use config_text::{Lines, ReadEditFault, read_edit};
+use config_text::{LineFaultKind, Lines, read_edit};
 use number_table::NumberTable;
 use nvt_config::{Edit, Family};
 use nvt_fields::{FatalErrorStatus, Nqn, NqnFault, Status, nqn_field};
@@ -137,15 +137,10 @@ fn is_buffer_written(alloc: Global) -> Result<bool, AllocError> {
 
 fn is_port_add(edit: &Edit) -> bool {
     match edit {
-        Edit::PortAdd {
-            id,
-            family,
-            address,
-            service,
-        } => {
-            (*id, *service) == (1, 4420)
-                && *family == Family::Ipv4
-                && address.as_bytes() == b"127.0.0.1".as_slice()
+        Edit::PortAdd(port) => {
+            (port.id, port.service) == (1, 4420)
+                && port.family == Family::Ipv4
+                && port.address.as_bytes() == b"127.0.0.1".as_slice()
         }
         _ => false,
     }
@@ -154,7 +149,7 @@ fn is_port_add(edit: &Edit) -> bool {
 fn is_line_read(alloc: Global, line: &[u8]) -> Result<bool, AllocError> {
     match read_edit(alloc, line) {
         Ok(edit) => Ok(is_port_add(&edit)),
-        Err(fault) => other_fault(fault == ReadEditFault::Memory),
+        Err(fault) => other_fault(fault.kind == LineFaultKind::Memory),
     }
 }
 
