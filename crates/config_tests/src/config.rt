@@ -5,12 +5,14 @@ mod outline;
 mod refusals;
 
 use config_rules::laws::accepted_stays_valid;
-use nvt_config::{Access, Config, EditFault, Family, Item, NewFault, Port, Subsystem, Text, Value};
+use nvt_config::{
+    Access, AnaState, Config, EditFault, Family, Item, NewFault, Port, Subsystem, Text, Value,
+};
 use outline::has_lists;
 use std::alloc::{AllocError, Global};
 use std::fmt::Display;
 use std::test::Fail;
-use test_edits::{Line, is_applied, is_same};
+use test_edits::{Blocks, Line, is_applied, is_same};
 
 const DISKS: &[u64] = &[8, 1 << 40];
 
@@ -40,7 +42,9 @@ enum Script {
     Names,
     Sets,
     Removals,
-    Hosts,
+    // Edits of an empty configuration, and the lists after each.
+    Effects(&'static [(Line<'static>, &'static [u8])]),
+    Referrals,
     AllLinked,
     AllHosts,
     Refusals(&'static [(Line<'static>, EditFault)]),
@@ -57,7 +61,8 @@ fn holds(alloc: Global, script: Script) -> bool {
 
 fn runs(alloc: Global, config: &mut Config, script: Script) -> bool {
     match script {
-        Script::Hosts => effects::are_hosts_edited(alloc, config),
+        Script::Effects(rows) => effects::are_accepted(alloc, config, rows),
+        Script::Referrals => effects::are_referrals_made(alloc, config),
         Script::AllLinked => limits::is_full_of_links(alloc, config),
         Script::AllHosts => limits::is_full_of_hosts(alloc, config),
         _ => is_filled(alloc, config) && runs_filled(alloc, config, script),
@@ -67,7 +72,7 @@ fn runs(alloc: Global, config: &mut Config, script: Script) -> bool {
 fn runs_filled(alloc: Global, config: &mut Config, script: Script) -> bool {
     match script {
         Script::Items => has_items(config),
-        Script::Copy => is_copied(config),
+        Script::Copy => is_copied(alloc, config),
         Script::Names => finds_by_name(config),
         Script::Sets => effects::are_sets_made(alloc, config),
         Script::Removals => effects::are_removals_made(alloc, config),
@@ -78,7 +83,11 @@ fn runs_filled(alloc: Global, config: &mut Config, script: Script) -> bool {
 }
 
 fn is_filled(alloc: Global, config: &mut Config) -> bool {
-    for line in FILLED {
+    are_applied(alloc, config, FILLED)
+}
+
+fn are_applied(alloc: Global, config: &mut Config, lines: &[Line<'_>]) -> bool {
+    for line in lines {
         if !is_applied(alloc, config, *line) {
             return false;
         }
@@ -96,11 +105,33 @@ fn adds_items(rt: HostRuntime) {
     accepted_stays_valid();
 }
 
-fn is_copied(config: &Config) -> bool {
-    match config.try_clone() {
-        Ok(copy) => is_same(&copy, config),
-        Err(AllocError) => false,
-    }
+const NAMESPACE: Blocks = Blocks {
+    nsid: 7,
+    disk: 1,
+    blocks: 9,
+    block_size: 4_096,
+    uuid: 0xA5,
+    group: 2,
+};
+
+// What each list has then.
+const ALL_FILLED: &[Line<'static>] = &[
+    Line::NamespaceAdd(b"nqn.c", NAMESPACE),
+    Line::AllowAdd(b"nqn.b", b"nqn.h"),
+    Line::AllowAdd(b"nqn.a", b"nqn.j"),
+    Line::AnaSet(2, b"nqn.b", 32, AnaState::PersistentLoss),
+    Line::ReferralAdd(3, b"127.0.0.9", 8009),
+];
+
+const ALL_LISTS: &[u8] =
+    b" a b c 1:4420 2:4420 3:4420 1a 1b 2b h (i) j c7.1=9/2 b+h a+j 2b32p >3:8009";
+
+fn is_copied(alloc: Global, config: &mut Config) -> bool {
+    are_applied(alloc, config, ALL_FILLED)
+        && match config.try_clone() {
+            Ok(copy) => is_same(&copy, config) && has_lists(&copy, ALL_LISTS),
+            Err(AllocError) => false,
+        }
 }
 
 #[test]
@@ -177,29 +208,41 @@ fn takes_disks_within_the_limits(rt: HostRuntime) {
 
 const REPLIES: &[(EditFault, &str)] = &[
     (EditFault::BadValue(Value::Nqn), "refused BadValue Nqn"),
-    (
-        EditFault::BadValue(Value::Serial),
-        "refused BadValue Serial",
-    ),
+    (EditFault::BadValue(Value::Serial), "refused BadValue Serial"),
+    (EditFault::BadValue(Value::Nsid), "refused BadValue Nsid"),
+    (EditFault::BadValue(Value::Blocks), "refused BadValue Blocks"),
+    (EditFault::BadValue(Value::BlockSize), "refused BadValue BlockSize"),
+    (EditFault::BadValue(Value::Uuid), "refused BadValue Uuid"),
+    (EditFault::BadValue(Value::Group), "refused BadValue Group"),
     (EditFault::BadValue(Value::Port), "refused BadValue Port"),
-    (
-        EditFault::BadValue(Value::Address),
-        "refused BadValue Address",
-    ),
-    (
-        EditFault::BadValue(Value::Service),
-        "refused BadValue Service",
-    ),
-    (
-        EditFault::NoSuch(Item::Subsystem),
-        "refused NoSuch Subsystem",
-    ),
+    (EditFault::BadValue(Value::Address), "refused BadValue Address"),
+    (EditFault::BadValue(Value::Service), "refused BadValue Service"),
+    (EditFault::NoSuch(Item::Subsystem), "refused NoSuch Subsystem"),
+    (EditFault::NoSuch(Item::Disk), "refused NoSuch Disk"),
+    (EditFault::NoSuch(Item::Namespace), "refused NoSuch Namespace"),
+    (EditFault::NoSuch(Item::Uuid), "refused NoSuch Uuid"),
     (EditFault::NoSuch(Item::Port), "refused NoSuch Port"),
     (EditFault::NoSuch(Item::Link), "refused NoSuch Link"),
     (EditFault::NoSuch(Item::Host), "refused NoSuch Host"),
+    (EditFault::NoSuch(Item::Allow), "refused NoSuch Allow"),
+    (EditFault::NoSuch(Item::Referral), "refused NoSuch Referral"),
+    (EditFault::Exists(Item::Subsystem), "refused Exists Subsystem"),
+    (EditFault::Exists(Item::Namespace), "refused Exists Namespace"),
+    (EditFault::Exists(Item::Uuid), "refused Exists Uuid"),
     (EditFault::Exists(Item::Port), "refused Exists Port"),
+    (EditFault::Exists(Item::Link), "refused Exists Link"),
+    (EditFault::Exists(Item::Host), "refused Exists Host"),
+    (EditFault::Exists(Item::Allow), "refused Exists Allow"),
+    (EditFault::Exists(Item::Referral), "refused Exists Referral"),
+    (EditFault::DiskInUse, "refused DiskInUse"),
+    (EditFault::InUse(Item::Namespace), "refused InUse Namespace"),
     (EditFault::InUse(Item::Link), "refused InUse Link"),
+    (EditFault::InUse(Item::Allow), "refused InUse Allow"),
+    (EditFault::Full(Item::Subsystem), "refused Full Subsystem"),
+    (EditFault::Full(Item::Port), "refused Full Port"),
     (EditFault::Full(Item::Host), "refused Full Host"),
+    (EditFault::Full(Item::Allow), "refused Full Allow"),
+    (EditFault::Full(Item::Referral), "refused Full Referral"),
     (EditFault::Memory, "refused Memory"),
 ];
 

@@ -1,6 +1,9 @@
 //! The configuration: each kind of edit, and its copies.
 use super::rows::{A, EDITS, HOST, UNITS, edit_of, tell};
-use nvt_config::{Config, Edit, EditFault, Host, Link, NewFault, Port, Subsystem, Text};
+use nvt_config::{
+    Allow, Config, Edit, EditFault, GroupState, Host, Link, Namespace, NewFault, Port, Subsystem,
+    Text,
+};
 use std::alloc::{AllocError, Global};
 use std::process::Abort;
 use std::test::Fail;
@@ -55,8 +58,12 @@ fn is_edited(config: &Config) -> bool {
         config.ports().len(),
         config.links().len(),
         config.hosts().len(),
+        config.namespaces().len(),
+        config.allows().len(),
+        config.states().len(),
+        config.referrals().len(),
     ];
-    lens == [2, 1, 1, 1, 2] && config.may_use(HOST, A, 1)
+    lens == [2, 1, 1, 1, 2, 1, 1, 1, 1] && config.may_use(HOST, A, 1)
 }
 
 fn is_subsystem_copied(subsystem: &Subsystem) -> Result<bool, AllocError> {
@@ -84,6 +91,21 @@ fn is_host_copied(host: &Host) -> Result<bool, AllocError> {
     Ok(copy.nqn == host.nqn)
 }
 
+fn is_namespace_copied(namespace: &Namespace) -> Result<bool, AllocError> {
+    let copy = namespace.clone()?;
+    Ok(copy.subsystem == namespace.subsystem)
+}
+
+fn is_allow_copied(allow: &Allow) -> Result<bool, AllocError> {
+    let copy = allow.clone()?;
+    Ok(copy.subsystem == allow.subsystem && copy.host == allow.host)
+}
+
+fn is_state_copied(state: &GroupState) -> Result<bool, AllocError> {
+    let copy = state.clone()?;
+    Ok(copy.subsystem == state.subsystem)
+}
+
 fn items_are_copied(config: &Config) -> Result<bool, AllocError> {
     let mut are_copied = true;
     for subsystem in config.subsystems() {
@@ -92,6 +114,23 @@ fn items_are_copied(config: &Config) -> Result<bool, AllocError> {
     }
     for port in config.ports() {
         are_copied &= is_port_copied(port)?;
+    }
+    for referral in config.referrals() {
+        are_copied &= is_port_copied(referral)?;
+    }
+    Ok(are_copied)
+}
+
+fn of_subsystems_are_copied(config: &Config) -> Result<bool, AllocError> {
+    let mut are_copied = true;
+    for namespace in config.namespaces() {
+        are_copied &= is_namespace_copied(namespace)?;
+    }
+    for allow in config.allows() {
+        are_copied &= is_allow_copied(allow)?;
+    }
+    for state in config.states() {
+        are_copied &= is_state_copied(state)?;
     }
     Ok(are_copied)
 }
@@ -112,6 +151,7 @@ fn use_config(rt: &impl Abort, alloc: Global, config: &mut Config, refused: &mut
     assert!(rt; is_edited(config));
     again!(rt, *refused, AllocError, items_are_copied(config));
     again!(rt, *refused, AllocError, uses_are_copied(config));
+    again!(rt, *refused, AllocError, of_subsystems_are_copied(config));
 }
 
 fn is_used(rt: &impl Abort, alloc: Global, refused: &mut u32) -> Result<bool, NewFault> {

@@ -1,14 +1,15 @@
 //! The parts below the configuration.
-use super::rows::{HOST, tell};
+use super::rows::{HOST, NAMESPACE, edit_of, tell};
 use bytes::BytesMut;
 use config_text::{LineFaultKind, Lines, read_edit};
 use number_table::NumberTable;
-use nvt_config::{Edit, Family};
+use nvt_config::{Access, AnaState, Edit, Family};
 use nvt_fields::{FatalErrorStatus, Nqn, NqnFault, Status, nqn_field};
 use pdu_codec::{C2hData, CapsuleResp, Full, IcResp, TermReq};
 use pdu_cut::{Cut, RxBuf, Side};
 use std::alloc::{AllocError, Global};
 use std::test::Fail;
+use test_edits::{Line, is_same_edit};
 
 // A test that makes no growth of its own: what stands beside each test's growths is counted with it.
 #[test]
@@ -135,30 +136,74 @@ fn is_buffer_written(alloc: Global) -> Result<bool, AllocError> {
     Ok(are_written(&mut out))
 }
 
-fn is_port_add(edit: &Edit) -> bool {
-    match edit {
-        Edit::PortAdd(port) => {
-            (port.id, port.service) == (1, 4420)
-                && port.family == Family::Ipv4
-                && port.address.as_bytes() == b"127.0.0.1".as_slice()
-        }
-        _ => false,
-    }
+// A file of a line of each kind.
+const FILE: &[u8] = b"subsys add nqn.a S closed
+subsys set nqn.a open
+subsys del nqn.a
+ns add nqn.a 1 0 8 4096 11111111-1111-1111-1111-111111111111 1
+ns size nqn.a 1 8
+ns group nqn.a 1 2
+ns del nqn.a 1
+port add 1 ipv4 127.0.0.1 4420
+port set 1 ipv6 ::1 4420
+port del 1
+link add 1 nqn.a
+link del 1 nqn.a
+host add nqn.h
+host del nqn.h
+allow add nqn.a nqn.h
+allow del nqn.a nqn.h
+ana set 1 nqn.a 1 change
+ref add 1 ipv4 127.0.0.1 4420
+ref set 1 ipv6 ::1 4420
+ref del 1";
+
+// What its lines say.
+const SAID: &[Line<'static>] = &[
+    Line::SubsystemAdd(b"nqn.a", b"S", Access::Closed),
+    Line::SubsystemSet(b"nqn.a", Access::Open),
+    Line::SubsystemDel(b"nqn.a"),
+    Line::NamespaceAdd(b"nqn.a", NAMESPACE),
+    Line::NamespaceSize(b"nqn.a", 1, 8),
+    Line::NamespaceGroup(b"nqn.a", 1, 2),
+    Line::NamespaceDel(b"nqn.a", 1),
+    Line::PortAdd(1, b"127.0.0.1", 4420),
+    Line::PortSet(1, Family::Ipv6, b"::1", 4420),
+    Line::PortDel(1),
+    Line::LinkAdd(1, b"nqn.a"),
+    Line::LinkDel(1, b"nqn.a"),
+    Line::HostAdd(b"nqn.h"),
+    Line::HostDel(b"nqn.h"),
+    Line::AllowAdd(b"nqn.a", b"nqn.h"),
+    Line::AllowDel(b"nqn.a", b"nqn.h"),
+    Line::AnaSet(1, b"nqn.a", 1, AnaState::Change),
+    Line::ReferralAdd(1, b"127.0.0.1", 4420),
+    Line::ReferralSet(1, Family::Ipv6, b"::1", 4420),
+    Line::ReferralDel(1),
+];
+
+fn is_said(alloc: Global, edit: &Edit, said: Line<'_>) -> Result<bool, AllocError> {
+    let wanted = edit_of(alloc, said)?;
+    Ok(wanted.is_some_and(|wanted| is_same_edit(edit, &wanted)))
 }
 
-fn is_line_read(alloc: Global, line: &[u8]) -> Result<bool, AllocError> {
+fn is_line_read(alloc: Global, line: &[u8], said: Line<'_>) -> Result<bool, AllocError> {
     match read_edit(alloc, line) {
-        Ok(edit) => Ok(is_port_add(&edit)),
+        Ok(edit) => is_said(alloc, &edit, said),
         Err(fault) => other_fault(fault.kind == LineFaultKind::Memory),
     }
 }
 
 fn are_lines_read(alloc: Global) -> Result<bool, AllocError> {
     let mut are_read = true;
-    for line in Lines::of(b"port add 1 ipv4 127.0.0.1 4420\nport add 1 ipv4 127.0.0.1 4420") {
-        are_read &= is_line_read(alloc, line)?;
+    let mut rows = SAID.iter();
+    for line in Lines::of(FILE) {
+        are_read &= match rows.next() {
+            Some(said) => is_line_read(alloc, line, *said)?,
+            None => false,
+        };
     }
-    Ok(are_read)
+    Ok(are_read && rows.next().is_none())
 }
 
 // Something that wants memory of its own.

@@ -1,9 +1,9 @@
 //! Edits of each kind, and what a test says at its end.
-use nvt_config::{Access, Edit, Family};
+use nvt_config::{Access, AnaState, Edit, Family};
 use nvt_fields::NqnFault;
 use std::alloc::{AllocError, Global};
 use std::test::Fail;
-use test_edits::{Line, edit};
+use test_edits::{Blocks, Line, edit};
 
 pub const A: &[u8] = b"nqn.2026-01.test:a";
 
@@ -13,7 +13,18 @@ pub const HOST: &[u8] = b"nqn.2026-01.test:h1";
 
 pub const UNITS: &[u64] = &[2048, 4096];
 
-/// They are accepted in turn. In the end subsystem A and port 1 are there, linked, and two live hosts.
+/// A namespace that fits on the first disk.
+pub const NAMESPACE: Blocks = Blocks {
+    nsid: 1,
+    disk: 0,
+    blocks: 8,
+    block_size: 4096,
+    uuid: 0x11,
+    group: 1,
+};
+
+/// They are accepted in turn. In the end subsystem A and port 1 are there, linked, two live hosts, and
+/// one item of each other list.
 pub const EDITS: &[Line<'static>] = &[
     Line::SubsystemAdd(A, b"SN-A", Access::Open),
     Line::SubsystemAdd(B, b"SN-B", Access::Closed),
@@ -33,6 +44,22 @@ pub const EDITS: &[Line<'static>] = &[
     Line::HostDel(HOST),
     Line::HostAdd(HOST),
     Line::SubsystemSet(A, Access::Open),
+    Line::NamespaceAdd(A, NAMESPACE),
+    Line::NamespaceSize(A, 1, 256),
+    Line::NamespaceGroup(A, 1, 32),
+    Line::NamespaceDel(A, 1),
+    Line::NamespaceAdd(A, NAMESPACE),
+    Line::AllowAdd(A, HOST),
+    Line::AllowAdd(A, b"nqn.i"),
+    Line::AllowDel(A, b"nqn.i"),
+    Line::AnaSet(1, A, 1, AnaState::Inaccessible),
+    Line::AnaSet(1, A, 2, AnaState::NonOptimized),
+    Line::AnaSet(1, A, 2, AnaState::Change),
+    Line::AnaSet(1, A, 2, AnaState::Optimized),
+    Line::ReferralAdd(7, b"127.0.0.9", 8009),
+    Line::ReferralSet(7, Family::Ipv6, b"::1", 8010),
+    Line::ReferralDel(7),
+    Line::ReferralAdd(8, b"127.0.0.1", 8009),
 ];
 
 /// The edit of a line whose name is well-formed. Want of memory alone is an error.

@@ -65,11 +65,11 @@ fn is_edited(
 }
 
 // A is listed on port 1, and B on both as it opens; port 2 moves; its link of B goes, and then the
-// other.
+// other. A referral comes, moves and goes, and another comes.
 fn is_shown(view: &DiscoveryView) -> bool {
-    (view.len(HOST), view.count(HOST)) == (2048, 5)
-        && !view.is_past_end(HOST, 2048)
-        && view.is_past_end(HOST, 2049)
+    (view.len(HOST), view.count(HOST)) == (3072, 9)
+        && !view.is_past_end(HOST, 3072)
+        && view.is_past_end(HOST, 3073)
 }
 
 fn follow_edits(rt: &impl Abort, alloc: Global, followed: &mut Followed, refused: &mut u32) {

@@ -1,11 +1,11 @@
 //! What edits are answered with ample memory.
 use super::driver::{Script, holds};
 use super::pdus::{A, B, H1};
-use nvt_config::{Access, EditFault, Family, Item, Value};
+use nvt_config::{Access, AnaState, EditFault, Family, Item, Value};
 use nvt_fields::DISCOVERY_NQN;
 use std::alloc::Global;
 use target_core::Target;
-use test_edits::{Line, edit};
+use test_edits::{Blocks, Line, edit};
 
 // Edits of each kind in turn, and what each is answered.
 const ROWS: &[(Line<'static>, Result<(), EditFault>)] = &[
@@ -69,7 +69,69 @@ const ROWS: &[(Line<'static>, Result<(), EditFault>)] = &[
     (Line::HostAdd(H1), Err(EditFault::Exists(Item::Host))),
     (Line::HostDel(H1), Ok(())),
     (Line::HostDel(H1), Err(EditFault::NoSuch(Item::Host))),
+    (Line::SubsystemAdd(A, b"SN", Access::Closed), Ok(())),
+    (Line::HostAdd(H1), Ok(())),
+    (Line::AllowAdd(A, H1), Ok(())),
+    (Line::AllowAdd(A, H1), Err(EditFault::Exists(Item::Allow))),
+    (Line::SubsystemDel(A), Err(EditFault::InUse(Item::Allow))),
+    (Line::HostDel(H1), Err(EditFault::InUse(Item::Allow))),
+    (Line::AllowDel(A, H1), Ok(())),
+    (Line::AllowDel(A, H1), Err(EditFault::NoSuch(Item::Allow))),
+    (Line::NamespaceAdd(A, NAMESPACE), Ok(())),
+    (Line::NamespaceAdd(A, SAME_DISK), Err(EditFault::DiskInUse)),
+    (Line::NamespaceSize(A, 1, 2048), Ok(())),
+    (
+        Line::NamespaceSize(A, 1, 2049),
+        Err(EditFault::BadValue(Value::Blocks)),
+    ),
+    (Line::NamespaceGroup(A, 1, 32), Ok(())),
+    (
+        Line::NamespaceGroup(A, 1, 33),
+        Err(EditFault::BadValue(Value::Group)),
+    ),
+    (Line::NamespaceDel(A, 1), Ok(())),
+    (
+        Line::NamespaceDel(A, 1),
+        Err(EditFault::NoSuch(Item::Namespace)),
+    ),
+    (Line::PortAdd(1, b"127.0.0.1", 4420), Ok(())),
+    (
+        Line::AnaSet(1, A, 1, AnaState::Change),
+        Err(EditFault::NoSuch(Item::Link)),
+    ),
+    (Line::LinkAdd(1, A), Ok(())),
+    (Line::AnaSet(1, A, 1, AnaState::Change), Ok(())),
+    (Line::ReferralAdd(1, b"127.0.0.9", 8009), Ok(())),
+    (
+        Line::ReferralAdd(1, b"127.0.0.9", 8009),
+        Err(EditFault::Exists(Item::Referral)),
+    ),
+    (Line::ReferralSet(1, Family::Ipv6, b"::1", 8010), Ok(())),
+    (Line::ReferralDel(1), Ok(())),
+    (
+        Line::ReferralDel(1),
+        Err(EditFault::NoSuch(Item::Referral)),
+    ),
 ];
+
+const NAMESPACE: Blocks = Blocks {
+    nsid: 1,
+    disk: 0,
+    blocks: 8,
+    block_size: 512,
+    uuid: 1,
+    group: 1,
+};
+
+// Another name and UUID, and the same disk.
+const SAME_DISK: Blocks = Blocks {
+    nsid: 2,
+    disk: 0,
+    blocks: 8,
+    block_size: 512,
+    uuid: 2,
+    group: 1,
+};
 
 // Whether the configuration and the target answer the edit of a line so.
 fn is_answered(

@@ -1,10 +1,10 @@
 //! Random PDUs and edits.
 use super::pdus::{A, B, H1, H2, capsule, connect_data};
-use nvt_config::{Access, Family};
+use nvt_config::{Access, AnaState, Family};
 use rand_core::utils::NextWord;
 use rand_pcg::Pcg32;
 use std::alloc::{AllocError, Global};
-use test_edits::Line;
+use test_edits::{Blocks, Line};
 
 /// One of these.
 pub fn pick<T: Copy>(random: &mut Pcg32, first: T, others: &[T]) -> T {
@@ -125,25 +125,61 @@ pub fn pdu(alloc: Global, random: &mut Pcg32, position: u32) -> Result<Vec<u8>, 
     }
 }
 
-/// An edit of one of three ports, two subsystems and two hosts.
+/// An edit of one of three ports, two subsystems, two hosts, three referrals and one namespace of each
+/// subsystem.
 pub fn line(random: &mut Pcg32) -> Line<'static> {
     let id = u64::from(random.next_word() % 3);
     let nqn = pick(random, A, &[B, B, B, B]);
     let host = pick(random, H1, &[H2, H2, H2, H2]);
-    let access = pick(random, Access::Open, &[Access::Closed, Access::Closed]);
-    match random.next_word() % 13 {
+    match random.next_word() % 22 {
         0 | 1 => Line::PortAdd(id, b"127.0.0.1", 4420),
-        2 => {
-            let service = u64::from(random.next_word() % 3);
-            Line::PortSet(id, Family::Ipv4, b"127.0.0.1", service)
-        }
+        2 => Line::PortSet(id, Family::Ipv4, b"127.0.0.1", service(random)),
         3 => Line::PortDel(id),
-        4 | 5 => Line::SubsystemAdd(nqn, b"SN", access),
-        6 => Line::SubsystemSet(nqn, access),
+        4 | 5 => Line::SubsystemAdd(nqn, b"SN", access(random)),
+        6 => Line::SubsystemSet(nqn, access(random)),
         7 => Line::SubsystemDel(nqn),
-        8 | 9 => Line::LinkAdd(id, nqn),
-        10 => Line::LinkDel(id, nqn),
-        11 => Line::HostAdd(host),
-        _ => Line::HostDel(host),
+        8..=11 => Line::LinkAdd(id, nqn),
+        12 => Line::LinkDel(id, nqn),
+        13 | 14 => Line::HostAdd(host),
+        15 => Line::HostDel(host),
+        16 | 17 => Line::AllowAdd(nqn, host),
+        18 => Line::AllowDel(nqn, host),
+        19 => Line::AnaSet(id, nqn, 1, pick(random, AnaState::Optimized, &[AnaState::Change])),
+        20 => referral_line(random, id),
+        _ => namespace_line(random, nqn),
+    }
+}
+
+fn access(random: &mut Pcg32) -> Access {
+    pick(random, Access::Open, &[Access::Closed; 4])
+}
+
+fn service(random: &mut Pcg32) -> u64 {
+    u64::from(random.next_word() % 3)
+}
+
+fn referral_line(random: &mut Pcg32, id: u64) -> Line<'static> {
+    match random.next_word() % 4 {
+        0 => Line::ReferralSet(id, Family::Ipv4, b"127.0.0.9", service(random)),
+        1 => Line::ReferralDel(id),
+        _ => Line::ReferralAdd(id, b"127.0.0.9", 8009),
+    }
+}
+
+const NAMESPACE: Blocks = Blocks {
+    nsid: 1,
+    disk: 0,
+    blocks: 8,
+    block_size: 512,
+    uuid: 1,
+    group: 1,
+};
+
+fn namespace_line(random: &mut Pcg32, nqn: &'static [u8]) -> Line<'static> {
+    match random.next_word() % 5 {
+        0 => Line::NamespaceSize(nqn, 1, u64::from(random.next_word() % 4096)),
+        1 => Line::NamespaceGroup(nqn, 1, 2),
+        2 => Line::NamespaceDel(nqn, 1),
+        _ => Line::NamespaceAdd(nqn, NAMESPACE),
     }
 }

@@ -1,5 +1,7 @@
 //! What counts as a change of a host's records.
-use super::{A, B, Followed, H1, ONE_RECORD, STRANGER, Script, has_numbers, holds, is_made, page};
+use super::followed::{
+    A, B, Followed, H1, ONE_RECORD, STRANGER, Script, has_numbers, holds, is_made, page,
+};
 use nvt_config::{Access, Edit, Family};
 use std::alloc::{AllocError, Global};
 use test_edits::{Line, edit};

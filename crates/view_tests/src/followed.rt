@@ -1,32 +1,29 @@
-//! The discovery view while edits are made.
-mod counts;
-mod pages;
-mod random;
-
+//! A configuration and the view that follows its edits, and what a test expects of them.
+use super::{counts, pages};
 use discovery_view::DiscoveryView;
 use nvt_config::{Access, Config, Edit, NewFault};
 use nvt_fields::u64_at;
 use std::alloc::{AllocError, Global};
 use test_edits::{Line, edit};
 
-const A: &[u8] = b"nqn.2026-01.test:a";
+pub const A: &[u8] = b"nqn.2026-01.test:a";
 
-const B: &[u8] = b"nqn.2026-01.test:b";
+pub const B: &[u8] = b"nqn.2026-01.test:b";
 
-const H1: &[u8] = b"nqn.2026-01.test:h1";
+pub const H1: &[u8] = b"nqn.2026-01.test:h1";
 
-const STRANGER: &[u8] = b"nqn.2026-01.test:stranger";
+pub const STRANGER: &[u8] = b"nqn.2026-01.test:stranger";
 
-const UNITS: &[u64] = &[2048];
+pub const UNITS: &[u64] = &[2048, 2048];
 
-// A configuration and its view.
+/// A configuration and its view.
 #[derive(Drop)]
-struct Followed {
-    config: Config,
-    view: DiscoveryView,
+pub struct Followed {
+    pub config: Config,
+    pub view: DiscoveryView,
 }
 
-fn start(alloc: Global) -> Result<Followed, NewFault> {
+pub fn start(alloc: Global) -> Result<Followed, NewFault> {
     let config = Config::new(alloc, UNITS)?;
     match DiscoveryView::new(alloc, &config) {
         Ok(view) => Ok(Followed { config, view }),
@@ -34,27 +31,23 @@ fn start(alloc: Global) -> Result<Followed, NewFault> {
     }
 }
 
-// Makes an edit, unless it is refused; whether memory was there.
-fn follow(followed: &mut Followed, edit: &Edit) -> bool {
+/// Makes an edit, unless it is refused; whether it is accepted.
+pub fn follow(followed: &mut Followed, edit: &Edit) -> Result<bool, AllocError> {
     if followed.config.check(edit).is_err() {
-        return true;
+        return Ok(false);
     }
-    match followed.view.prepare(&followed.config, edit) {
-        Ok(plan) => {
-            let is_applied = followed.config.apply(edit).is_ok();
-            if is_applied {
-                followed.view.commit(plan);
-            }
-            is_applied
-        }
-        Err(AllocError) => false,
+    let plan = followed.view.prepare(&followed.config, edit)?;
+    if followed.config.apply(edit).is_err() {
+        return Err(AllocError);
     }
+    followed.view.commit(plan);
+    Ok(true)
 }
 
-// Makes an edit; whether it is accepted.
-fn is_made(alloc: Global, followed: &mut Followed, line: Line<'_>) -> bool {
+/// Makes an edit; whether it is accepted.
+pub fn is_made(alloc: Global, followed: &mut Followed, line: Line<'_>) -> bool {
     match edit(alloc, line) {
-        Ok(edit) => followed.config.check(&edit).is_ok() && follow(followed, &edit),
+        Ok(edit) => follow(followed, &edit) == Ok(true),
         Err(_) => false,
     }
 }
@@ -70,7 +63,7 @@ fn are_made(alloc: Global, followed: &mut Followed, lines: &[Line<'_>]) -> bool 
 
 /// What a test expects of a view.
 #[derive(Clone, Copy)]
-enum Script {
+pub enum Script {
     Moves,
     Access,
     Plans,
@@ -81,8 +74,8 @@ enum Script {
     Zeros,
 }
 
-// Whether a view that has followed these edits does what a script expects.
-fn holds(alloc: Global, lines: &[Line<'_>], script: Script) -> bool {
+/// Whether a view that has followed these edits does what a script expects.
+pub fn holds(alloc: Global, lines: &[Line<'_>], script: Script) -> bool {
     match start(alloc) {
         Ok(mut followed) => {
             are_made(alloc, &mut followed, lines) && runs(alloc, &mut followed, script)
@@ -116,24 +109,24 @@ fn shows(view: &DiscoveryView, page: &[u8], script: Script) -> bool {
     }
 }
 
-// Port 1, subsystem A, which is open, and B, which is not, and A on port 1.
-const ONE_RECORD: &[Line<'static>] = &[
+/// Port 1, subsystem A, which is open, and B, which is not, and A on port 1.
+pub const ONE_RECORD: &[Line<'static>] = &[
     Line::PortAdd(1, b"127.0.0.1", 4420),
     Line::SubsystemAdd(A, b"SN", Access::Open),
     Line::SubsystemAdd(B, b"SN", Access::Closed),
     Line::LinkAdd(1, A),
 ];
 
-// The host's page, whole.
-fn page(alloc: Global, view: &DiscoveryView, host: &[u8]) -> Result<Vec<u8>, AllocError> {
+/// The host's page, whole.
+pub fn page(alloc: Global, view: &DiscoveryView, host: &[u8]) -> Result<Vec<u8>, AllocError> {
     let len = view.len(host).min(1 << 20) as usize;
     let mut page = vec![in alloc; 0xA5; len]?;
     view.window(host, 0, &mut page);
     Ok(page)
 }
 
-// Whether the host has this GENCTR and this NUMREC, as its page, its length and the count have them.
-fn has_numbers(view: &DiscoveryView, host: &[u8], generation: u64, records: u64) -> bool {
+/// Whether the host has this GENCTR and this NUMREC, as its page, its length and the count have them.
+pub fn has_numbers(view: &DiscoveryView, host: &[u8], generation: u64, records: u64) -> bool {
     let mut header = [0; 16];
     view.window(host, 0, &mut header);
     u64_at(&header, 0) == generation

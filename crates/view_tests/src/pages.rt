@@ -1,5 +1,5 @@
 //! The bytes of pages.
-use super::{A, B, H1, ONE_RECORD, Script, holds};
+use super::followed::{A, B, H1, ONE_RECORD, Script, holds};
 use discovery_view::DiscoveryView;
 use nvt_config::{Access, Family};
 use test_edits::Line;

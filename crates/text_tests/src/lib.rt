@@ -1,0 +1,10 @@
+//! Tests of the text of edits, through the public calls: random edits are written and read back, lines
+//! with a byte more or less are no longer theirs, and the texts of the faults.
+#![tactic(auto)]
+
+#[cfg(test)]
+mod drawn;
+#[cfg(test)]
+mod faults;
+#[cfg(test)]
+mod lines;

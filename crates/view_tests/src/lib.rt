@@ -1,0 +1,12 @@
+//! Tests of the discovery view while edits are made, through its public calls, beside the plain count
+//! of its changes. The expected bytes are typed from the standards' tables.
+#![tactic(auto)]
+
+#[cfg(test)]
+mod counts;
+#[cfg(test)]
+mod followed;
+#[cfg(test)]
+mod pages;
+#[cfg(test)]
+mod random;
