@@ -36,7 +36,7 @@ impl Letters {
             *byte = 0x21 + (random.next_word() % 94) as u8;
         }
         let any = random.next_word() as usize % ADDRESS_MAX;
-        let len = pick(random, any, &[least, most, any]).clamp(least, most);
+        let len = pick(random, any, &[least, most, any]).min(most).max(least);
         Letters { bytes, len }
     }
 
