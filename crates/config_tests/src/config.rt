@@ -208,26 +208,53 @@ fn takes_disks_within_the_limits(rt: HostRuntime) {
 
 const REPLIES: &[(EditFault, &str)] = &[
     (EditFault::BadValue(Value::Nqn), "refused BadValue Nqn"),
-    (EditFault::BadValue(Value::Serial), "refused BadValue Serial"),
+    (
+        EditFault::BadValue(Value::Serial),
+        "refused BadValue Serial",
+    ),
     (EditFault::BadValue(Value::Nsid), "refused BadValue Nsid"),
-    (EditFault::BadValue(Value::Blocks), "refused BadValue Blocks"),
-    (EditFault::BadValue(Value::BlockSize), "refused BadValue BlockSize"),
+    (
+        EditFault::BadValue(Value::Blocks),
+        "refused BadValue Blocks",
+    ),
+    (
+        EditFault::BadValue(Value::BlockSize),
+        "refused BadValue BlockSize",
+    ),
     (EditFault::BadValue(Value::Uuid), "refused BadValue Uuid"),
     (EditFault::BadValue(Value::Group), "refused BadValue Group"),
     (EditFault::BadValue(Value::Port), "refused BadValue Port"),
-    (EditFault::BadValue(Value::Address), "refused BadValue Address"),
-    (EditFault::BadValue(Value::Service), "refused BadValue Service"),
-    (EditFault::NoSuch(Item::Subsystem), "refused NoSuch Subsystem"),
+    (
+        EditFault::BadValue(Value::Address),
+        "refused BadValue Address",
+    ),
+    (
+        EditFault::BadValue(Value::Service),
+        "refused BadValue Service",
+    ),
+    (
+        EditFault::NoSuch(Item::Subsystem),
+        "refused NoSuch Subsystem",
+    ),
     (EditFault::NoSuch(Item::Disk), "refused NoSuch Disk"),
-    (EditFault::NoSuch(Item::Namespace), "refused NoSuch Namespace"),
+    (
+        EditFault::NoSuch(Item::Namespace),
+        "refused NoSuch Namespace",
+    ),
     (EditFault::NoSuch(Item::Uuid), "refused NoSuch Uuid"),
     (EditFault::NoSuch(Item::Port), "refused NoSuch Port"),
     (EditFault::NoSuch(Item::Link), "refused NoSuch Link"),
     (EditFault::NoSuch(Item::Host), "refused NoSuch Host"),
     (EditFault::NoSuch(Item::Allow), "refused NoSuch Allow"),
     (EditFault::NoSuch(Item::Referral), "refused NoSuch Referral"),
-    (EditFault::Exists(Item::Subsystem), "refused Exists Subsystem"),
-    (EditFault::Exists(Item::Namespace), "refused Exists Namespace"),
+    (
+        EditFault::Exists(Item::Subsystem),
+        "refused Exists Subsystem",
+    ),
+    (
+        EditFault::Exists(Item::Namespace),
+        "refused Exists Namespace",
+    ),
     (EditFault::Exists(Item::Uuid), "refused Exists Uuid"),
     (EditFault::Exists(Item::Port), "refused Exists Port"),
     (EditFault::Exists(Item::Link), "refused Exists Link"),
