@@ -7,11 +7,11 @@ mod measure;
 
 use measure::{BenchFault, measure};
 use std::alloc::{AllocError, Global};
+use std::env;
 use std::fs::File;
 use std::io::Read;
 use std::process::ExitCode;
 use std::rt::{Clock, Env, Files};
-use std::env;
 
 const FAULT: u8 = 1;
 
