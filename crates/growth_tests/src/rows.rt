@@ -23,8 +23,8 @@ pub const NAMESPACE: Blocks = Blocks {
     group: 1,
 };
 
-/// They are accepted in turn. In the end subsystem A and port 1 are there, linked, two live hosts, and
-/// one item of each other list.
+/// They are accepted in turn. In the end subsystem A and port 1 are there, linked, two live hosts,
+/// and one item of each other list.
 pub const EDITS: &[Line<'static>] = &[
     Line::SubsystemAdd(A, b"SN-A", Access::Open),
     Line::SubsystemAdd(B, b"SN-B", Access::Closed),

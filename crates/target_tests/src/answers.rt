@@ -7,6 +7,25 @@ use std::alloc::Global;
 use target_core::Target;
 use test_edits::{Blocks, Line, edit};
 
+const NAMESPACE: Blocks = Blocks {
+    nsid: 1,
+    disk: 0,
+    blocks: 8,
+    block_size: 512,
+    uuid: 1,
+    group: 1,
+};
+
+// Another name and UUID, and the same disk.
+const SAME_DISK: Blocks = Blocks {
+    nsid: 2,
+    disk: 0,
+    blocks: 8,
+    block_size: 512,
+    uuid: 2,
+    group: 1,
+};
+
 // Edits of each kind in turn, and what each is answered.
 const ROWS: &[(Line<'static>, Result<(), EditFault>)] = &[
     (Line::SubsystemAdd(A, b"SN", Access::Open), Ok(())),
@@ -108,30 +127,8 @@ const ROWS: &[(Line<'static>, Result<(), EditFault>)] = &[
     ),
     (Line::ReferralSet(1, Family::Ipv6, b"::1", 8010), Ok(())),
     (Line::ReferralDel(1), Ok(())),
-    (
-        Line::ReferralDel(1),
-        Err(EditFault::NoSuch(Item::Referral)),
-    ),
+    (Line::ReferralDel(1), Err(EditFault::NoSuch(Item::Referral))),
 ];
-
-const NAMESPACE: Blocks = Blocks {
-    nsid: 1,
-    disk: 0,
-    blocks: 8,
-    block_size: 512,
-    uuid: 1,
-    group: 1,
-};
-
-// Another name and UUID, and the same disk.
-const SAME_DISK: Blocks = Blocks {
-    nsid: 2,
-    disk: 0,
-    blocks: 8,
-    block_size: 512,
-    uuid: 2,
-    group: 1,
-};
 
 // Whether the configuration and the target answer the edit of a line so.
 fn is_answered(

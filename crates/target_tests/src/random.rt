@@ -125,8 +125,8 @@ pub fn pdu(alloc: Global, random: &mut Pcg32, position: u32) -> Result<Vec<u8>, 
     }
 }
 
-/// An edit of one of three ports, two subsystems, two hosts, three referrals and one namespace of each
-/// subsystem.
+/// An edit of one of three ports, two subsystems, two hosts, three referrals, or one namespace of
+/// each subsystem.
 pub fn line(random: &mut Pcg32) -> Line<'static> {
     let id = u64::from(random.next_word() % 3);
     let nqn = pick(random, A, &[B, B, B, B]);
@@ -144,7 +144,7 @@ pub fn line(random: &mut Pcg32) -> Line<'static> {
         15 => Line::HostDel(host),
         16 | 17 => Line::AllowAdd(nqn, host),
         18 => Line::AllowDel(nqn, host),
-        19 => Line::AnaSet(id, nqn, 1, pick(random, AnaState::Optimized, &[AnaState::Change])),
+        19 => Line::AnaSet(id, nqn, 1, state(random)),
         20 => referral_line(random, id),
         _ => namespace_line(random, nqn),
     }
@@ -152,6 +152,10 @@ pub fn line(random: &mut Pcg32) -> Line<'static> {
 
 fn access(random: &mut Pcg32) -> Access {
     pick(random, Access::Open, &[Access::Closed; 4])
+}
+
+fn state(random: &mut Pcg32) -> AnaState {
+    pick(random, AnaState::Change, &[AnaState::Optimized; 4])
 }
 
 fn service(random: &mut Pcg32) -> u64 {

@@ -1,5 +1,5 @@
-//! Edits for tests, from names and texts that are lent, and whether two edits or two configurations are
-//! equal. The crates of tests share it; no other stands on it.
+//! Edits for tests, from names and texts that are lent, and whether two edits or two configurations
+//! are equal. The crates of tests share it; no other stands on it.
 #![tactic(auto)]
 
 mod kind;

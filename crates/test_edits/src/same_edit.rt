@@ -23,9 +23,13 @@ fn is_same_of_subsystem(edit: &Edit, other: &Edit) -> bool {
                 access: who,
             },
         ) => nqn == name && serial.as_bytes() == number.as_bytes() && access == who,
-        (Edit::SubsystemSet { nqn, access }, Edit::SubsystemSet { nqn: name, access: who }) => {
-            nqn == name && access == who
-        }
+        (
+            Edit::SubsystemSet { nqn, access },
+            Edit::SubsystemSet {
+                nqn: name,
+                access: who,
+            },
+        ) => { nqn == name && access == who }
         (Edit::SubsystemDel { nqn }, Edit::SubsystemDel { nqn: name }) => nqn == name,
         _ => false,
     }

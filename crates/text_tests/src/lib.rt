@@ -1,5 +1,5 @@
-//! Tests of the text of edits, through the public calls: random edits are written and read back, lines
-//! with a byte more or less are no longer theirs, and the texts of the faults.
+//! Tests of the text of edits, through the public calls: random edits are written and read back,
+//! lines with a byte more or less are no longer theirs, and the texts of the faults.
 #![tactic(auto)]
 
 #[cfg(test)]

@@ -1,5 +1,5 @@
-//! Tests of the discovery view while edits are made, through its public calls, beside the plain count
-//! of its changes. The expected bytes are typed from the standards' tables.
+//! Tests of the discovery view while edits are made, through its public calls, beside the plain
+//! count of its changes. The expected bytes are typed from the standards' tables.
 #![tactic(auto)]
 
 #[cfg(test)]

@@ -96,11 +96,11 @@ impl Outline {
     }
 }
 
-/// Whether the configuration has these lists, each in its order: subsystems that are open as a letter,
-/// others in brackets; ports as a number and a service; links as a number and a letter; hosts that are
-/// live as a letter, others in brackets; namespaces as a letter and an identifier, a disk, a size and
-/// a group; allows as two letters; ANA states as a port, a letter, a group and a letter; referrals as
-/// ports behind a bracket.
+/// Whether the configuration has these lists, each in its order: subsystems that are open as a
+/// letter, others in brackets; ports as a number and a service; links as a number and a letter;
+/// hosts that are live as a letter, others in brackets; namespaces as a letter and an identifier, a
+/// disk, a size and a group; allows as two letters; ANA states as a port, a letter, a group and a
+/// letter; referrals as ports behind a `>`.
 pub fn has_lists(config: &Config, lists: &[u8]) -> bool {
     let mut outline = Outline {
         bytes: [0; 96],
