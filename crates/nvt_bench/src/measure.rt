@@ -93,7 +93,10 @@ fn measure_all<R: Clock + Print + AllocGlobal>(
 
 fn read_all(alloc: Global, lines: &[u8], edits: &mut Vec<Edit>) -> Result<(), BenchFault> {
     for line in Lines::of(lines) {
-        edits.push(read_edit(alloc, line)?)?;
+        let edit = read_edit(alloc, line)?;
+        if edits.push(edit).is_err() {
+            return Err(BenchFault::Memory);
+        }
     }
     Ok(())
 }
@@ -145,7 +148,9 @@ fn report<R: Clock + Print>(
     begun: Instant,
 ) -> Result<(), BenchFault> {
     let elapsed: Duration = now(rt)?.duration_since(begun);
-    let micros = (elapsed.as_micros() as u64).max(1);
+    let micros = u64::try_from(elapsed.as_micros())
+        .unwrap_or(u64::MAX)
+        .max(1);
     let rate = (count as u64).saturating_mul(1_000_000) / micros;
     let text = format_args!("{count} lines {what} in {micros} microseconds: {rate} a second\n");
     match rt.print(text) {
