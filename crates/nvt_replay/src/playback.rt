@@ -22,8 +22,8 @@ ghost use Rattle.nvt_replay.specs.StreamLine.{HasHex, IsHex, IsStreamLine};
 
 use crate::connections::{CONNECTIONS, Connections};
 use crate::print::Printer;
-use crate::stream_line::{StreamLine, read_stream_line};
 use crate::reply::{NotMade, Reply, make_line};
+use crate::stream_line::{StreamLine, read_stream_line};
 use config_text::Lines;
 use nvt_config::NewFault;
 use std::alloc::{AllocError, Global};
