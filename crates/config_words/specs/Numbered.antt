@@ -19,9 +19,9 @@ is_there Namespaces namespaces subsystem n = list_any (is_named subsystem n) nam
 is_there Groups namespaces subsystem n = list_any (λ m. bytes_eq m.subsystem subsystem && m.group == n) namespaces
 
 -- the identifiers from 1 to 1,024 that a namespace of the subsystem has, rising
-abbrev pub active_nsids : List Namespace → List ℕ → List ℕ
+unfoldable pub active_nsids : List Namespace → List ℕ → List ℕ
 active_nsids namespaces subsystem = filter (is_there Namespaces namespaces subsystem) (numbers_from 1 1024)
 
 -- the groups from 1 to 32 that hold a namespace of the subsystem, rising
-abbrev pub groups : List Namespace → List ℕ → List ℕ
+unfoldable pub groups : List Namespace → List ℕ → List ℕ
 groups namespaces subsystem = filter (is_there Groups namespaces subsystem) (numbers_from 1 32)

@@ -42,6 +42,7 @@ impl<'a> Model for Numbers<'a> {
 }
 
 /// The active namespace identifiers of a subsystem (Base 2.0, section 3.2.1.3), rising.
+#[tactic(auto, unfolding(crate::specs::Numbered::active_nsids))]
 pub fn active_nsids<'a>(namespaces: &'a [Namespace], subsystem: &'a [u8]) -> Numbers<'a>
     ensures { result ≡ active_nsids namespaces.now subsystem.now }
 {
@@ -55,6 +56,7 @@ pub fn active_nsids<'a>(namespaces: &'a [Namespace], subsystem: &'a [u8]) -> Num
 }
 
 /// The ANA groups that hold a namespace of a subsystem (Base 2.0, section 8.1), rising.
+#[tactic(auto, unfolding(crate::specs::Numbered::groups))]
 pub fn groups<'a>(namespaces: &'a [Namespace], subsystem: &'a [u8]) -> Numbers<'a>
     ensures { result ≡ groups namespaces.now subsystem.now }
 {
