@@ -7,6 +7,7 @@ pub mod config;
 pub mod fault;
 pub mod permission;
 pub mod plan;
+pub mod words;
 
 pub use config::Config;
 pub use config_edits::{Edit, EditFault, Endpoint, Item, NewNamespace, Value};
@@ -14,5 +15,6 @@ pub use config_lists::{
     Access, Allow, AnaState, BlockSize, Family, GroupState, Host, Link, Namespace, Port, Subsystem,
     Text,
 };
+pub use config_words::Numbers;
 pub use fault::NewFault;
 pub use plan::Plan;
