@@ -10,7 +10,7 @@ pub mod number;
 pub mod operand;
 pub mod read;
 mod word;
-pub mod words;
+mod words;
 
 pub use command::Command;
 pub use fault::{LineFault, LineFaultKind};

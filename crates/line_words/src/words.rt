@@ -16,8 +16,8 @@ use crate::lines::find_byte;
 use crate::operand::{Form, Operands};
 
 /// The words of a line that are left to read.
-#[derive(Debug, Drop)]
-pub struct Words<'a> {
+#[derive(Drop)]
+pub(crate) struct Words<'a> {
     // None after the last word.
     rest: Option<&'a [u8]>,
     // How many bytes stand before the rest.

@@ -13,7 +13,7 @@ use Rattle.config_lists.specs.Subsystem.{is_discovery, is_serial}
 use Rattle.config_edits.specs.declared.edit.Edit.{Edit}
 use Rattle.config_edits.specs.declared.edit.Edit.TheVariants.{SubsystemAdd, SubsystemSet, SubsystemDel, NamespaceAdd, NamespaceSize, NamespaceGroup, NamespaceDel, PortAdd, PortSet, PortDel, LinkAdd, LinkDel, HostAdd, HostDel, AllowAdd, AllowDel, AnaSet, ReferralAdd, ReferralSet, ReferralDel}
 use Rattle.config_edits.specs.declared.edit.NewNamespace.{NewNamespace}
-use Rattle.config_rules.specs.Configuration.{Configuration, are_disks, has_subsystem, with_subsystem, with_access, without_subsystem, has_namespace, has_namespaces, has_uuid, is_disk_used, with_namespace, with_namespace_set, without_namespace, has_port, with_port, with_port_set, without_port, has_link, is_port_linked, is_subsystem_linked, with_link, without_link, has_host, has_live_host, with_live, with_new_host, with_host, without_host, has_allow, is_subsystem_allowing, is_host_allowed, with_allow, without_allow, has_state, with_new_state, with_state_set, without_state, with_ana_state, with_referral, with_referral_set, without_referral}
+use Rattle.config_rules.specs.Configuration.{Configuration, has_subsystem, with_subsystem, with_access, without_subsystem, has_namespace, has_namespaces, has_uuid, is_disk_used, with_namespace, with_namespace_set, without_namespace, has_port, with_port, with_port_set, without_port, has_link, is_port_linked, is_subsystem_linked, with_link, without_link, has_host, has_live_host, with_live, with_new_host, with_host, without_host, has_allow, is_subsystem_allowing, is_host_allowed, with_allow, without_allow, has_state, with_new_state, with_state_set, without_state, with_ana_state, with_referral, with_referral_set, without_referral}
 use Rattle.config_rules.specs.Accept.{accept, are_bad_blocks, are_bad_blocks_of, namespace_of, port_of, refuse}
 use Rattle.config_rules.specs.Valid.{IsValid}
 use Rattle.config_rules.proofs.Valid.{IsValid-accept}

@@ -45,3 +45,6 @@ connect_controller_busy = command_specific 0x81
 
 abbrev pub connect_invalid_parameters : Status
 connect_invalid_parameters = command_specific 0x82
+
+abbrev pub connect_invalid_host : Status
+connect_invalid_host = command_specific 0x84

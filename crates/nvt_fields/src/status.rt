@@ -83,6 +83,13 @@ impl Status {
         dnr: true,
     };
 
+    /// Connect: the host may not use the subsystem.
+    pub const CONNECT_INVALID_HOST: Status = Status {
+        sct: 1,
+        sc: 0x84,
+        dnr: true,
+    };
+
     /// The last 16 bits of a completion: the code in 8:1, the low three bits of its type in 11:9, and
     /// DNR in 15. The phase bit and the bits between are 0.
     pub fn word(self) -> u16

@@ -19,6 +19,7 @@ const WORDS: &[(Status, u16)] = &[
     (Status::INCOMPATIBLE_FORMAT, 0x8300),
     (Status::CONNECT_CONTROLLER_BUSY, 0x8302),
     (Status::CONNECT_INVALID_PARAMETERS, 0x8304),
+    (Status::CONNECT_INVALID_HOST, 0x8308),
 ];
 
 #[test]

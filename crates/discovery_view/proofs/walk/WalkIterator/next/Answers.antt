@@ -1,4 +1,4 @@
-use Rattle.std.proofs.Common.{All, IsTrue, drop, sym, subst}
+use Rattle.std.proofs.Common.{All, IsTrue, sym, subst}
 use Rattle.config_lists.specs.Port.{is_port}
 use Rattle.discovery_view.specs.Walk.{entries_of}
 use Rattle.discovery_view.proofs.Walks.{entries_behind, rest_of}

@@ -1,0 +1,6 @@
+pub mod Free
+pub mod Admitted
+pub mod Admissible
+pub mod Consequences
+pub mod Queues
+pub mod Rows
