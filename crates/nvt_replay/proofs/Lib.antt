@@ -1,3 +1,4 @@
+pub mod Closing
 pub mod Marks
 pub mod PduLemmas
 pub mod Pieces

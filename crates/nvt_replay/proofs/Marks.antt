@@ -1,17 +1,17 @@
 -- Which connections are open, through the calls of a target.
-use Rattle.std.proofs.Common.{◌≡◌, ◌⊎◌, ℕ, ◌<◌, ◌≤◌, Bool, true, false, List, length, replicate, set, get_or, drop, Option, Some, None, is_some, refl, sym, ap, ◌∙◌, inl, inr, arith}
-use Rattle.std.specs.Prelude.{◌==◌, if◌then◌else◌}
+use Rattle.std.proofs.Common.{◌≡◌, ◌≢◌, ◌⊎◌, ℕ, ◌<◌, ◌≤◌, Bool, true, false, List, length, replicate, set, get_or, drop, Option, Some, None, is_some, refl, sym, ap, ◌∙◌, inl, inr, arith}
+use Rattle.std.specs.Prelude.{◌==◌, MatchOption, if◌then◌else◌}
 use Rattle.std.specs.Option.{option_map}
 use Rattle.std.proofs.lemmas.Bool.{cases_eq, cases_lt, eqb-true}
 use Rattle.std.proofs.lemmas.Bool.Decides.{nat_tests}
-use Rattle.std.proofs.lemmas.List.{get_or_past, get_or-replicate, get_or-set_other, get_or-set_same, length-replicate}
+use Rattle.std.proofs.lemmas.List.{get_or_past, get_or-replicate, get_or-set_other, get_or-set_same, length-replicate, length-set}
 use Rattle.number_table.specs.Table.{place}
 use Rattle.number_table.proofs.Tables.{place-with_value_held}
 use Rattle.pdu_cut.specs.Front.{Front}
 use Rattle.target_core.specs.Connection.{ConnectionState, fresh_on}
 use Rattle.target_core.specs.Moves.{Moves, connection_moved}
 use Rattle.target_core.specs.Target.{TakenAt, TargetState, meets}
-use Rattle.target_history.specs.Event.{opened, stepped}
+use Rattle.target_history.specs.Event.{given_up, opened, stepped, ticked}
 use Rattle.target_history.specs.Happening.{Happening}
 use Rattle.nvt_replay.specs.Played.{HasNone}
 
@@ -61,6 +61,42 @@ pub stepped_marked : (old new : TargetState) (k : ℕ) (found : Front) (marks : 
     → Moves (stepped k found) old new → AreMarks marks new
 stepped_marked old new k found marks are moves = λ j.
     are j ∙ sym (stays_known (meets old (stepped k found)) j (place old.connections j)) ∙ sym (ap is_some (moves.connection j))
+
+left_at : (x : Happening) (j : ℕ) (o : Option ConnectionState) (mark same : Bool) → mark ≡ is_some o
+    → (if same then false else mark) ≡ is_some (if same then None else option_map (connection_moved x j) o)
+left_at x j o mark true is = refl
+left_at x j o mark false is = is ∙ sym (stays_known x j o)
+
+unmarked_at : (marks : List Bool) (k : ℕ) → get_or (set marks k false) k false ≡ false
+unmarked_at marks k = by (cases_lt k (length marks)) where
+  by : (k < length marks) ⊎ (length marks ≤ k) → get_or (set marks k false) k false ≡ false
+  by (inl within) = get_or-set_same marks k false false within
+  by (inr past) = get_or_past (set marks k false) k false (omega (arith, length-set marks k false))
+
+ended_at : (old new : TargetState) (k : ℕ) (o : Option ConnectionState) (marks : List Bool) → place old.connections k ≡ o
+    → MatchOption o (new ≡ old) (λ c. Moves (given_up k) old new) → AreMarks marks old → AreMarks (set marks k false) new
+ended_at old new k None marks known same are = λ j.
+    marked marks k false j (unmarked_at marks k) ∙ none_at j (cases_eq j k) ∙ are j ∙ sym (ap (λ (t : TargetState). is_some (place t.connections j)) same)
+  where
+    none_at : (j : ℕ) → (j ≡ k) ⊎ (j ≢ k) → (if j == k then false else get_or marks j false) ≡ get_or marks j false
+    none_at j (inl is) =
+        let equal : (j == k) ≡ true = grind (arith, nat_tests) in
+        rw equal (sym (are j ∙ ap (λ i. is_some (place old.connections i)) is ∙ ap is_some known))
+    none_at j (inr differs) =
+        let unequal : (j == k) ≡ false = grind (arith, nat_tests) in
+        rw unequal refl
+ended_at old new k (Some c) marks known moves are = λ j.
+    marked marks k false j (unmarked_at marks k)
+    ∙ left_at (meets old (given_up k)) j (place old.connections j) (get_or marks j false) (j == k) (are j)
+    ∙ sym (ap is_some (moves.connection j))
+
+pub ended_marked : (old new : TargetState) (k : ℕ) (marks : List Bool)
+    → MatchOption (place old.connections k) (new ≡ old) (λ c. Moves (given_up k) old new) → AreMarks marks old → AreMarks (set marks k false) new
+ended_marked old new k marks ends are = ended_at old new k (place old.connections k) marks refl ends are
+
+pub ticked_marked : (old new : TargetState) (ms : ℕ) (marks : List Bool) → AreMarks marks old → Moves (ticked ms) old new → AreMarks marks new
+ticked_marked old new ms marks are moves = λ j.
+    are j ∙ sym (stays_known (meets old (ticked ms)) j (place old.connections j)) ∙ sym (ap is_some (moves.connection j))
 
 written_at : (same : Bool) (c d : ConnectionState) (o : Option ConnectionState) → (same ≡ true → o ≡ Some c)
     → is_some o ≡ is_some (if same then Some d else o)

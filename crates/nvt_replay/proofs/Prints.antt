@@ -40,6 +40,14 @@ printed_lines k o a b output is lasts printed =
     subst (Appends a b) (sym (lines_are k o ∙ ap (λ e. output_lines k (output_at o) ++ (if e then event_line k (codes "closed") else [])) lasts
     ∙ append-nil (output_lines k (output_at o)) ∙ ap (output_lines k) (sym is))) printed
 
+-- .. and of one that is, before it is closed
+pub closed_lines : (k : ℕ) (o : Option ConnectionState) (a b c : Option (List ℕ)) (output : List ℕ) → output ≡ output_at o → is_ended_at o ≡ true
+    → Appends a b (output_lines k output) → Appends b c (event_line k (codes "closed")) → Appends a c (connection_lines k o)
+closed_lines k o a b c output is ended printed closed =
+    subst (Appends a c) (sym (lines_are k o ∙ ap (λ e. output_lines k (output_at o) ++ (if e then event_line k (codes "closed") else [])) ended
+    ∙ ap (λ (bytes : List ℕ). output_lines k bytes ++ event_line k (codes "closed")) (sym is)))
+    (Appends-trans a b c (output_lines k output) (event_line k (codes "closed")) printed closed)
+
 -- ---- what is left
 
 stream_stays : (same ended : Bool) (s : Option (List ℕ)) → (same ≡ true → ended ≡ false) → s ≡ (if same && ended then None else s)
@@ -64,18 +72,24 @@ left_at : (k : ℕ) (o : Option ConnectionState) (old new : TargetState) → pla
     → ArePrinted (λ j. j == k) old new
 left_at k None old new known takes lasts = rw takes (record {
   config = refl;
+  clock = refl;
   shown = refl;
   connection = λ j. same_at (j == k) (place old.connections j) (λ is. ap (place old.connections) (eqb-true j k is) ∙ known);
   stream = λ j. stream_stays (j == k) (is_ended_at (place old.connections j)) (place old.streams j) (ended_there k j old None false known lasts);
+  row = λ c. refl;
+  controller = λ c. refl;
 })
 left_at k (Some c) old new known takes lasts = rw takes (record {
   config = refl;
+  clock = refl;
   shown = refl;
   connection = λ j.
       let after : ConnectionState = record { conversation = c.conversation; output = [] } in
       place-with_value_held old.connections k after j c known
       ∙ taken_at (j == k) c (place old.connections j) (λ is. ap (place old.connections) (eqb-true j k is) ∙ known) lasts;
   stream = λ j. stream_stays (j == k) (is_ended_at (place old.connections j)) (place old.streams j) (ended_there k j old (Some c) false known lasts);
+  row = λ n. refl;
+  controller = λ n. refl;
 })
 
 -- a connection that is not ended has nothing to send when its lines are printed
@@ -107,7 +121,15 @@ before_more j k = by (cases_eq j k) where
           a ∙ sym b
 
 pub none_printed : (t : TargetState) → ArePrinted (λ j. nat_lt j 0) t t
-none_printed t = record { config = refl; shown = refl; connection = λ j. rw (none j) refl; stream = λ j. rw (none j) refl } where
+none_printed t = record {
+  config = refl;
+  clock = refl;
+  shown = refl;
+  connection = λ j. rw (none j) refl;
+  stream = λ j. rw (none j) refl;
+  row = λ c. refl;
+  controller = λ c. refl;
+} where
   none : (j : ℕ) → nat_lt j 0 ≡ false
   none j = grind (arith, nat_tests)
 
@@ -132,6 +154,7 @@ pub more_printed : (k : ℕ) (old mid new : TargetState) → ArePrinted (λ j. n
     → ArePrinted (λ j. nat_lt j (k + 1)) old new
 more_printed k old mid new first next = record {
   config = next.config ∙ first.config;
+  clock = next.clock ∙ first.clock;
   shown = next.shown ∙ first.shown;
   connection = λ j. rw (before_more j k)
       (more_at (j == k) (nat_lt j k) (place old.connections j) (place mid.connections j) (place new.connections j) (not_before j k) (first.connection j) (next.connection j));
@@ -140,6 +163,8 @@ more_printed k old mid new first next = record {
       (place old.streams j) (place mid.streams j) (place new.streams j) (not_before j k)
       (λ same. ap is_ended_at (first.connection j ∙ ap (λ b. if b then printed_out (place old.connections j) else place old.connections j) (not_before j k same)))
       (first.stream j) (next.stream j));
+  row = λ c. next.row c ∙ first.row c;
+  controller = λ c. next.controller c ∙ first.controller c;
 }
 
 none_is : (o : Option ConnectionState) → is_some o ≡ false → o ≡ None

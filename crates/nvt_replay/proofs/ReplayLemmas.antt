@@ -101,12 +101,13 @@ explained fault.Memory edits stream units h = tt
 explained fault.Io edits stream units h = absurd h
 explained fault.Disks edits stream units h = h
 
--- what a line says makes it one of the four forms
+-- what a line says makes it one of the five forms
 pub is_stream_line : (line : List ℕ) (says : StreamLine) → Says line says → IsStreamLine line
 is_stream_line line (stream.Open port) h = inl (port, h)
 is_stream_line line (stream.Receive k hex) h = inr (inl (k, hex.now, h))
 is_stream_line line (stream.End k) h = inr (inr (inl (k, h)))
-is_stream_line line (stream.Edit text) h = inr (inr (inr (text.now, h)))
+is_stream_line line (stream.Tick ms) h = inr (inr (inr (inl (ms, h))))
+is_stream_line line (stream.Edit text) h = inr (inr (inr (inr (text.now, h))))
 
 pub well_formed_more : (all : List (List ℕ)) (n : ℕ) (line : List ℕ) (rest : List (List ℕ)) → drop n all ≡ line ∷ rest → All IsStreamLine (take n all) → IsStreamLine line → All IsStreamLine (take (n + 1) all)
 well_formed_more all n line rest e before is =

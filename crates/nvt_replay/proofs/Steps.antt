@@ -15,11 +15,11 @@ use Rattle.target_core.specs.Target.{TargetState, is_idle, is_incomplete, meets}
 use Rattle.target_decision.specs.declared.decision.Decision.{Decision}
 use Rattle.target_decision.specs.declared.session.Session.{Session}
 use Rattle.target_decision.specs.declared.session.Session.TheVariants as session
-use Rattle.target_decision.specs.Decision.{consumed_of, host_in, terminate}
+use Rattle.target_decision.specs.Decision.{consumed_of, terminate}
 use Rattle.target_decision.specs.Session.{is_ended, session_after}
-use Rattle.target_history.specs.Ending.{ending_in, ends_by}
+use Rattle.target_history.specs.Ending.{ends_by}
 use Rattle.target_history.specs.Event.{stepped}
-use Rattle.target_history.specs.Happening.{decided, session_decided}
+use Rattle.target_history.specs.Happening.{decided, ending_of, ends_live, session_decided}
 use Rattle.nvt_replay.specs.Played.{StepBelow, Steps, StepsUntilIdle, is_idle_at}
 
 -- what a connection may still consume: nothing once it is ended
@@ -67,16 +67,16 @@ neither false b h = (refl, h)
 -- a step that finds a fault ends the connection
 decided_end : (t : TargetState) (k : ℕ) (c : ConnectionState) (found : Front) → (k == k) ≡ true → place t.connections k ≡ Some c
     → is_ended c.conversation.session ≡ false → is_whole found ≡ false → is_incomplete found ≡ false
-    → (d : Decision) × (decided (meets t (stepped k found)) k ≡ Some d) × ((s : Session) (host : List ℕ) → is_ended (session_after s d host) ≡ true)
+    → (d : Decision) × (decided (meets t (stepped k found)) k ≡ Some d) × ((s : Session) → is_ended (session_after s d) ≡ true)
 decided_end t k c incomplete same known lasts not here = absurd (true≢false here)
 decided_end t k c (whole pdu) same known lasts not here = absurd (true≢false not)
-decided_end t k c (faulty fault head) same known lasts not here = (terminate fault.fes fault.fei, rw (same, known, lasts) refl, λ s host. refl)
+decided_end t k c (faulty fault head) same known lasts not here = (terminate fault.fes fault.fei, rw (same, known, lasts) refl, λ s. refl)
 
-ends_there : (by_others : Bool) (s : Session) (o : Option Decision) (d : Decision) (found : Front) → o ≡ Some d
-    → ((before : Session) (host : List ℕ) → is_ended (session_after before d host) ≡ true)
-    → is_ended (if by_others then session.Ended else session_decided s o found) ≡ true
-ends_there true s o d found decides ends = refl
-ends_there false s o d found decides ends = rw decides (ends s (host_in found))
+ends_there : (by_others : Bool) (s : Session) (o : Option Decision) (d : Decision) → o ≡ Some d
+    → ((before : Session) → is_ended (session_after before d) ≡ true)
+    → is_ended (if by_others then session.Ended else session_decided s o) ≡ true
+ends_there true s o d decides ends = refl
+ends_there false s o d decides ends = rw decides (ends s)
 
 faulty_ends : (t : TargetState) (k : ℕ) (c : ConnectionState) (found : Front) → (k == k) ≡ true → place t.connections k ≡ Some c
     → is_ended c.conversation.session ≡ false → is_whole found ≡ false → is_incomplete found ≡ false
@@ -84,7 +84,7 @@ faulty_ends : (t : TargetState) (k : ℕ) (c : ConnectionState) (found : Front) 
 faulty_ends t k c found same known lasts not here =
     let x = meets t (stepped k found) in
     let d = decided_end t k c found same known lasts not here in
-    ends_there (ends_by (ending_in x.event) c.conversation) c.conversation.session (decided x k) d.0 found d.1 d.2
+    ends_there (ends_by (ending_of x) (ends_live x) c.conversation) c.conversation.session (decided x k) d.0 d.1 d.2
 
 shorter : (ended : Bool) (len held : ℕ) → len < held → (if ended then 0 else suc len) < suc held
 shorter true len held h = omega arith

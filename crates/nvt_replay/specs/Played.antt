@@ -6,10 +6,10 @@ use Rattle.number_table.specs.Table.{place}
 use Rattle.target_core.specs.Agreement.{front_of}
 use Rattle.target_core.specs.Connection.{ConnectionState}
 use Rattle.target_core.specs.Moves.{Moves}
-use Rattle.target_core.specs.Target.{TargetState, free_number, is_ended_at, is_idle, open_fault, room_at, with_connection, with_stream, without_connection}
+use Rattle.target_core.specs.Target.{TargetState, free_number, is_ended_at, is_idle, open_fault, room_at, with_connection, with_stream}
 use Rattle.target_decision.specs.Session.{is_ended}
 use Rattle.target_decision.specs.World.{connections_max}
-use Rattle.target_history.specs.Event.{opened, stepped}
+use Rattle.target_history.specs.Event.{given_up, opened, stepped, ticked}
 use Rattle.nvt_replay.specs.declared.stream_line.StreamLine.{StreamLine}
 use Rattle.nvt_replay.specs.declared.stream_line.StreamLine.TheVariants as line
 use Rattle.nvt_replay.specs.declared.reply.Reply.{Reply}
@@ -98,11 +98,14 @@ lines_below (suc k) t = lines_below k t ++ connection_lines k (place t.connectio
 -- and nothing else changed
 pub record ArePrinted (these : ℕ → Bool) (old new : TargetState) : Type 0 where
   pub config : new.config ≡ old.config
+  pub clock : new.clock ≡ old.clock
   pub shown : new.shown ≡ old.shown
   pub connection : (k : ℕ) → place new.connections k
       ≡ (if these k then printed_out (place old.connections k) else place old.connections k)
   pub stream : (k : ℕ) → place new.streams k
       ≡ (if these k && is_ended_at (place old.connections k) then None else place old.streams k)
+  pub row : (c : ℕ) → place new.rows c ≡ place old.rows c
+  pub controller : (c : ℕ) → place new.controllers c ≡ place old.controllers c
 
 -- all connections step until they are idle, and then the lines of all are printed
 pub record Settles (old : TargetState) (printed : List ℕ) (new : TargetState) : Type 0 where
@@ -138,10 +141,14 @@ abbrev pub PlaysReceive : ℕ → List ℕ → TargetState → List ℕ → Targ
 PlaysReceive k hex old printed new = MatchOption (place old.connections k) (PrintsNone k old printed new)
     (λ c. (bytes : List ℕ) × (decode_of hex ≡ Ok bytes) × (n : ℕ) × HandsOut n k bytes old printed new)
 
--- `end K`
+-- `end K`: the connection is given up, and the target settles; K is not open then, so nothing is printed of it
 abbrev pub PlaysEnd : ℕ → TargetState → List ℕ → TargetState → Type 0
 PlaysEnd k old printed new = MatchOption (place old.connections k) (PrintsNone k old printed new)
-    (λ c. (printed ≡ []) × (new ≡ without_connection old k))
+    (λ c. (mid : TargetState) × Moves (given_up k) old mid × Settles mid printed new)
+
+-- `tick MS`: the clock is set, and the target settles
+abbrev pub PlaysTick : ℕ → TargetState → List ℕ → TargetState → Type 0
+PlaysTick ms old printed new = (mid : TargetState) × Moves (ticked ms) old mid × Settles mid printed new
 
 -- `edit LINE`: the edit is made and the target settles, or it is refused
 abbrev pub PlaysEdit : List ℕ → TargetState → List ℕ → TargetState → Type 0
@@ -154,6 +161,7 @@ abbrev pub Plays : StreamLine → TargetState → List ℕ → TargetState → T
 Plays (line.Open port) old printed new = PlaysOpen port old printed new
 Plays (line.Receive k hex) old printed new = PlaysReceive k hex.now old printed new
 Plays (line.End k) old printed new = PlaysEnd k old printed new
+Plays (line.Tick ms) old printed new = PlaysTick ms old printed new
 Plays (line.Edit text) old printed new = PlaysEdit text.now old printed new
 
 -- the lines of a script, one after the other

@@ -1,5 +1,5 @@
 -- What the end of a replay says of its files.
-use Rattle.std.specs.Prelude.{◌≡◌, ℕ, ◌-◌, ◌≤◌, true, false, List, [], ◌∷◌, length, take, slice_index_or, All, Option, Some, Result, Ok, Err}
+use Rattle.std.specs.Prelude.{◌≡◌, ℕ, ◌-◌, ◌≤◌, true, false, List, [], ◌∷◌, length, take, slice_index_or, All, Option, Result, Ok, Err}
 use Rattle.config_edits.specs.declared.edit.Edit.{Edit}
 use Rattle.config_rules.specs.Accept.{accept}
 use Rattle.config_rules.specs.Configuration.{Configuration, are_disks, disks_alone}

@@ -1,7 +1,6 @@
 -- Lines of edits that are made on a target, and the replies to those that are refused.
 use Rattle.std.specs.Prelude.{◌≡◌, ℕ, List, Some, Ok, Err}
 use Rattle.config_edits.specs.declared.edit.Edit.{Edit}
-use Rattle.config_edits.specs.declared.fault.EditFault.{EditFault}
 use Rattle.config_edits.specs.Fault.{reply_of}
 use Rattle.config_rules.specs.Accept.{accept}
 use Rattle.config_rules.specs.Configuration.{Configuration}

@@ -3,7 +3,7 @@ use Rattle.std.specs.Prelude.{◌≡◌, ℕ, ◌^◌, ◌%◌, ◌<◌, ◌⊎�
 use Rattle.std.specs.List.{AllPass}
 use Rattle.hex.specs.Hex.{is_hex_digit}
 use Rattle.nvt_replay.specs.declared.stream_line.StreamLine.{StreamLine}
-use Rattle.nvt_replay.specs.declared.stream_line.StreamLine.TheVariants.{Open, Receive, End, Edit}
+use Rattle.nvt_replay.specs.declared.stream_line.StreamLine.TheVariants.{Open, Receive, End, Tick, Edit}
 use Rattle.line_words.specs.Number.{IsNumber}
 
 -- pairs of hex digits of either case, at least one
@@ -24,6 +24,10 @@ Receives line k hex = (word : List ℕ) × (line ≡ codes "rx " ++ (word ++ 32 
 abbrev pub Ends : List ℕ → ℕ → Type 0
 Ends line k = (word : List ℕ) × (line ≡ codes "end " ++ word) × IsNumber word k
 
+-- `tick MS`
+abbrev pub Ticks : List ℕ → ℕ → Type 0
+Ticks line ms = (word : List ℕ) × (line ≡ codes "tick " ++ word) × IsNumber word ms
+
 -- `edit LINE`
 abbrev pub Edits : List ℕ → List ℕ → Type 0
 Edits line text = line ≡ codes "edit " ++ text
@@ -32,14 +36,16 @@ abbrev pub Says : List ℕ → StreamLine → Type 0
 Says line (Open port) = Opens line port
 Says line (Receive k hex) = Receives line k hex.now
 Says line (End k) = Ends line k
+Says line (Tick ms) = Ticks line ms
 Says line (Edit text) = Edits line text.now
 
--- a line of one of the four forms
+-- a line of one of the five forms
 abbrev pub IsStreamLine : List ℕ → Type 0
 IsStreamLine line =
     ((port : ℕ) × Opens line port)
     ⊎ ((k : ℕ) × (hex : List ℕ) × Receives line k hex)
     ⊎ ((k : ℕ) × Ends line k)
+    ⊎ ((ms : ℕ) × Ticks line ms)
     ⊎ ((text : List ℕ) × Edits line text)
 
 -- what an `rx` line brings is pairs of hex digits
@@ -47,4 +53,5 @@ abbrev pub HasHex : StreamLine → Type 0
 HasHex (Open port) = Unit {0}
 HasHex (Receive k hex) = IsHex hex.now
 HasHex (End k) = Unit {0}
+HasHex (Tick ms) = Unit {0}
 HasHex (Edit text) = Unit {0}

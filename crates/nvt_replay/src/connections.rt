@@ -5,8 +5,7 @@ ghost use Rattle.std.specs.Prelude.{OnOk, is_some, slice_set, take};
 ghost use Rattle.number_table.specs.Table.{place};
 ghost use Rattle.target_core.specs.Moves.{Moves};
 ghost use Rattle.target_core.specs.Target.{free_number, is_ended_at, open_fault, output_at};
-ghost use Rattle.target_core.specs.Target.{without_connection};
-ghost use Rattle.target_history.specs.Event.{opened};
+ghost use Rattle.target_history.specs.Event.{given_up, opened, ticked};
 ghost use Rattle.target_decision.specs.World.{connections_max};
 ghost use Rattle.nvt_replay.specs.Played.{Receives, StepBelow, StepsUntilIdle, TakesOutput};
 ghost use Rattle.nvt_replay.specs.Played.{HasNone, number_taken};
@@ -134,12 +133,21 @@ impl Connections {
         self.target.ended(k)
     }
 
-    /// Gives the connection up.
+    /// Gives the connection up, and ends those that end with it. A number that is not known changes
+    /// nothing.
     pub fn end(&mut self, k: usize)
-        ensures { self.new ≡ without_connection self.old k }
+        ensures { MatchOption (place self.old.connections k) (self.new ≡ self.old)
+            (λ c. Moves (given_up k) self.old self.new) }
     {
         self.target.end(k);
         mark(&mut self.marks, k, false);
+    }
+
+    /// Sets the clock, in ms, and ends the connections of each controller whose time has run out.
+    pub fn tick(&mut self, ms: u64)
+        ensures { Moves (ticked ms) self.old self.new }
+    {
+        self.target.tick(ms);
     }
 }
 

@@ -16,7 +16,7 @@ ghost use Rattle.nvt_replay.specs.Replay.{Replays, ReplaysBefore};
 ghost use Rattle.nvt_replay.specs.Replay.{RefusesEdits, RefusesLines, TakesLine};
 ghost use Rattle.nvt_replay.specs.Played.{ArePrinted, HandsOut, HasNone, Plays, PlaysAll};
 ghost use Rattle.nvt_replay.specs.Played.{PlaysEdit, PlaysEnd, PlaysOpen, PlaysReceive, Prints};
-ghost use Rattle.nvt_replay.specs.Played.{Settles};
+ghost use Rattle.nvt_replay.specs.Played.{PlaysTick, Settles};
 ghost use Rattle.nvt_replay.specs.Played.{connection_lines};
 ghost use Rattle.nvt_replay.specs.StreamLine.{HasHex, IsHex, IsStreamLine};
 
@@ -201,6 +201,7 @@ impl Playback {
             StreamLine::Open { port } => self.open(port, out),
             StreamLine::Receive { connection, hex } => self.receive(connection, hex, out),
             StreamLine::End { connection } => self.end(connection, out),
+            StreamLine::Tick { ms } => self.tick(ms, out),
             StreamLine::Edit { line } => self.edit(line, out),
         }
     }
@@ -258,6 +259,7 @@ impl Playback {
         )
     }
 
+    // Prints what ends with the connection, and nothing of itself.
     fn end<W: Write>(&mut self, connection: u64, out: &mut W) -> Result<(), ReplayFault>
         ensures fault { IfErr result IsOfRun }
         ensures played { OnOk result (Prints (W.contents out.old) (W.contents out.new)
@@ -268,7 +270,16 @@ impl Playback {
             return self.printer.event(out, connection, "none");
         }
         self.connections.end(k);
-        Ok(())
+        settle(&mut self.connections, &mut self.printer, out)
+    }
+
+    fn tick<W: Write>(&mut self, ms: u64, out: &mut W) -> Result<(), ReplayFault>
+        ensures fault { IfErr result IsOfRun }
+        ensures played { OnOk result (Prints (W.contents out.old) (W.contents out.new)
+            (λ text. PlaysTick ms self.old.connections text self.new.connections)) }
+    {
+        self.connections.tick(ms);
+        settle(&mut self.connections, &mut self.printer, out)
     }
 }
 

@@ -18,6 +18,8 @@ pub enum StreamLine<'a> {
     Receive { connection: u64, hex: &'a [u8] },
     /// `end K`: the host's end of connection K goes away.
     End { connection: u64 },
+    /// `tick MS`: the clock is set, in ms.
+    Tick { ms: u64 },
     /// `edit LINE`: an edit is made.
     Edit { line: &'a [u8] },
 }
@@ -32,6 +34,10 @@ pub fn read_stream_line(line: &[u8]) -> Option<StreamLine<'_>>
     }
     if let Some(rest) = after(line, b"rx ") {
         return read_receive(rest);
+    }
+    if let Some(word) = after(line, b"tick ") {
+        let ms = read_number(word)?;
+        return Some(StreamLine::Tick { ms });
     }
     if let Some(text) = after(line, b"edit ") {
         return Some(StreamLine::Edit { line: text });

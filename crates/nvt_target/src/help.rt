@@ -50,7 +50,11 @@ STREAM has these lines:
   rx K HEX    bytes come on connection K; prints `K pdu HEX` for each PDU that is sent, and
               `K closed` where the target ends the connection
   end K       the host ends connection K
+  tick MS     the clock is set, in ms; it never goes back
   edit LINE   an edit while the target runs; prints `edit ok`, or why there is none
+After each line `J closed` is printed for each connection J that the target ended by then: a
+controller's I/O queues end with its admin queue and by its reset, and all of its queues where
+its Keep Alive Timer runs out or an edit takes its host's permission or its port away.
 A line on a connection that is not open prints `K none`.
 
 Example:

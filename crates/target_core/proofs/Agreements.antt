@@ -4,7 +4,8 @@ use Rattle.std.proofs.Math.Path.{fun_ext}
 use Rattle.std.proofs.lemmas.Bool.{eqb-true}
 use Rattle.std.specs.Prelude.{if◌then◌else◌, ◌==◌}
 use Rattle.std.specs.Option.{option_map}
-use Rattle.config_rules.specs.Configuration.{disks_alone}
+use Rattle.config_rules.specs.Configuration.{Configuration, disks_alone}
+use Rattle.fabrics_connect.specs.declared.row.Row.{Row}
 use Rattle.number_table.specs.Table.{place}
 use Rattle.number_table.proofs.Tables.{place-replicate}
 use Rattle.pdu_cut.specs.declared.side.Side.TheVariants.{Target}
@@ -15,28 +16,44 @@ use Rattle.target_core.specs.Agreement.{Agrees, AgreesAfter, AgreesStill, Agrees
 use Rattle.target_core.specs.Connection.{ConnectionState, fresh_on}
 use Rattle.target_decision.specs.Session.{opened_on}
 use Rattle.target_core.specs.Moves.{Moves, Stands, StandsIn, connection_after, connection_moved}
-use Rattle.target_core.specs.Target.{TargetState, meets, IsNewTarget, world_at}
+use Rattle.target_core.specs.Controllers.{controller_places}
+use Rattle.target_core.specs.Target.{TargetState, conversation_at, meets, IsNewTarget, world_at}
+use Rattle.target_decision.specs.declared.controller.Controller.{Controller}
 use Rattle.target_decision.specs.declared.session.Conversation.{Conversation}
 use Rattle.target_decision.specs.Decision.{consumed_of}
 use Rattle.target_decision.specs.World.{Pages, World, connections_max}
-use Rattle.target_history.specs.Event.{Event, edited, port_in, front_in, gives_up, opened, opens, steps, stepped, given_up}
-use Rattle.target_history.specs.Happening.{Happening, conversation_after, conversation_moved, sends}
-use Rattle.target_history.specs.History.{config_after, config_of, happened, last_front, pdus_of, sent, with_pdu, world_of}
+use Rattle.target_history.specs.Event.{Event, edited, port_in, front_in, gives_up, opened, opens, steps, stepped, given_up, ticked}
+use Rattle.target_history.specs.Happening.{Happening, clock_after, config_after, controller_after, conversation_after, conversation_moved, row_after, sends}
+use Rattle.target_history.specs.History.{config_of, conversation_of, happened, last_front, meets_after, pdus_of, sent, with_pdu, world_of}
+use Rattle.target_history.proofs.Lives.{controller_step, row_step}
 use Rattle.target_history.proofs.Steps.{conversation_step}
 use Rattle.target_core.proofs.Shows.{new_show, pages_agree, views_step}
 
--- ---- the world
+-- ---- what an event meets
 
-worlds_same : (v w : World) → v.pages ≡ w.pages → ((k : ℕ) → v.conversation k ≡ w.conversation k) → v ≡ w
-worlds_same v w pages conversations =
-    ap (λ (a : Pages). let u : World = record { pages = a; conversation = v.conversation } in u) pages
-    ∙ ap (λ (a : ℕ → Option Conversation). let u : World = record { pages = w.pages; conversation = a } in u) (fun_ext conversations)
+worlds_same : (v w : World) → v.pages ≡ w.pages → v.config ≡ w.config → ((c : ℕ) → v.row c ≡ w.row c) → ((c : ℕ) → v.controller c ≡ w.controller c) → v ≡ w
+worlds_same v w pages config rows controllers =
+    ap (λ (a : Pages). let u : World = record { pages = a; config = v.config; row = v.row; controller = v.controller } in u) pages
+    ∙ ap (λ (a : Configuration). let u : World = record { pages = w.pages; config = a; row = v.row; controller = v.controller } in u) config
+    ∙ ap (λ (a : ℕ → Option Row). let u : World = record { pages = w.pages; config = w.config; row = a; controller = v.controller } in u) (fun_ext rows)
+    ∙ ap (λ (a : ℕ → Option Controller). let u : World = record { pages = w.pages; config = w.config; row = w.row; controller = a } in u) (fun_ext controllers)
 
 -- what a decision may look at is what the history says
-pub world_agrees : (t : TargetState) (units : List ℕ) (before : List Happening) (received taken : ℕ → List ℕ)
+world_agrees : (t : TargetState) (units : List ℕ) (before : List Happening) (received taken : ℕ → List ℕ)
     → AgreesWith t units before received taken → world_at t ≡ world_of units before
 world_agrees t units before received taken agrees =
-    worlds_same (world_at t) (world_of units before) (pages_agree t.shown units before agrees.shown) agrees.conversation
+    worlds_same (world_at t) (world_of units before) (pages_agree t.shown units before agrees.shown) agrees.config agrees.row agrees.controller
+
+-- .. and so is all that an event meets
+meets_agree : (t : TargetState) (event : Event) (units : List ℕ) (before : List Happening) (received taken : ℕ → List ℕ)
+    → AgreesWith t units before received taken → meets t event ≡ meets_after units before event
+meets_agree t event units before received taken agrees =
+    ap (λ (w : World). let x : Happening = record { event = event; world = w; conversation = conversation_at t; clock = t.clock } in x)
+    (world_agrees t units before received taken agrees)
+    ∙ ap (λ (f : ℕ → Option Conversation). let x : Happening = record { event = event; world = world_of units before; conversation = f; clock = t.clock } in x)
+    (fun_ext agrees.conversation)
+    ∙ ap (λ (n : ℕ). let x : Happening = record { event = event; world = world_of units before; conversation = conversation_of before; clock = n } in x)
+    agrees.clock
 
 -- ---- connections
 
@@ -55,11 +72,11 @@ moved_here x k o = by (opens x.event k) (gives_up x.event k) o where
   by false false (Some c) = refl
 
 output_step : (x : Happening) (before : List Happening) (k : ℕ) (o : Option ConnectionState) (t : List ℕ)
-    → x.world.conversation k ≡ option_map (λ (c : ConnectionState). c.conversation) o → OutputAgrees o (sent before k) t
+    → x.conversation k ≡ option_map (λ (c : ConnectionState). c.conversation) o → OutputAgrees o (sent before k) t
     → OutputAgrees (connection_after x k o) (sent (x ∷ before) k) (if opens x.event k || gives_up x.event k then [] else t)
 output_step x before k o t met agrees = by (opens x.event k) (gives_up x.event k) o met agrees where
   by : (opening giving : Bool) (o : Option ConnectionState)
-      → x.world.conversation k ≡ option_map (λ (c : ConnectionState). c.conversation) o → OutputAgrees o (sent before k) t
+      → x.conversation k ≡ option_map (λ (c : ConnectionState). c.conversation) o → OutputAgrees o (sent before k) t
       → OutputAgrees (if opening then Some (fresh_on (port_in x.event)) else if giving then None else option_map (connection_moved x k) o)
       (if opening || giving then [] else sent before k ++ sends x k) (if opening || giving then [] else t)
   by true giving o met agrees = refl
@@ -101,6 +118,7 @@ stands_here : (event : Event) (t : TargetState) (k : ℕ) → Stands event t →
 stands_here (edited edit) t k stands = tt
 stands_here (opened port n) t k stands = tt
 stands_here (given_up n) t k stands = tt
+stands_here (ticked now) t k stands = tt
 stands_here (stepped n found) t k stands = by (k == n) refl where
   by : (same : Bool) → (k == n) ≡ same → stands_at same found (place t.streams k)
   by true is = rw (eqb-true k n is) stands
@@ -112,17 +130,21 @@ pub moves_agree : (event : Event) (old new : TargetState) → Moves event old ne
 moves_agree event old new moves = record {
   keeps = λ units events received taken agrees.
       let before = happened units events in
-      let x : Happening = record { event = event; world = world_of units before } in
-      let met : meets old event ≡ x = ap (λ (w : World). let y : Happening = record { event = event; world = w } in y)
-      (world_agrees old units before received taken agrees) in
+      let x : Happening = meets_after units before event in
+      let met : meets old event ≡ x = meets_agree old event units before received taken agrees in
       let config : new.config ≡ config_after event (config_of units before) = moves.config ∙ ap (config_after event) agrees.config in
       record {
         config = config;
+        clock = moves.clock ∙ ap (clock_after event) agrees.clock;
         shown = views_step x old.shown new.shown units before (rw config at moves.shown) agrees.shown;
         conversation = λ k. ap (option_map (λ (c : ConnectionState). c.conversation))
             (moves.connection k ∙ ap (λ (y : Happening). connection_after y k (place old.connections k)) met)
             ∙ moved_here x k (place old.connections k) ∙ ap (conversation_after x k) (agrees.conversation k)
             ∙ sym (conversation_step x before k refl);
+        row = λ c. moves.row c ∙ ap (λ (y : Happening). row_after y c (place old.rows c)) met ∙ ap (row_after x c) (agrees.row c)
+            ∙ sym (row_step x before c refl);
+        controller = λ c. moves.controller c ∙ ap (λ (y : Happening). controller_after y c (place old.controllers c)) met
+            ∙ ap (controller_after x c) (agrees.controller c) ∙ sym (controller_step x before c);
         stream = λ k. rw (moves.stream k)
             (stream_by event k (place old.streams k) (pdus_of before k) (last_front before k) (received k) (opens event k) (gives_up event k)
             (steps event k) (stands_here event old k moves.stands) (agrees.stream k));
@@ -138,8 +160,11 @@ same_agrees old new same = record { keeps = λ units events received taken agree
 pub new_agrees : (target : TargetState) (units : List ℕ) → IsNewTarget (disks_alone units) target → Agrees target units [] nothing nothing
 new_agrees target units fresh = record {
   config = fresh.config;
+  clock = fresh.clock;
   shown = new_show target.shown units fresh.shown;
   conversation = λ k. rw (fresh.connections, place-replicate connections_max k) refl;
+  row = λ c. rw (fresh.rows, place-replicate controller_places c) refl;
+  controller = λ c. rw (fresh.controllers, place-replicate controller_places c) refl;
   stream = λ k. rw (fresh.streams, place-replicate connections_max k) refl;
   output = λ k. rw (fresh.connections, place-replicate connections_max k) (refl, refl);
 }

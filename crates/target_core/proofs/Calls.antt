@@ -3,8 +3,8 @@ use Rattle.std.proofs.Common.{◌≡◌, ℕ, Bool, true, false, ◌&&◌, List,
 use Rattle.std.specs.Prelude.{if◌then◌else◌, ◌==◌, is_none}
 use Rattle.std.specs.Option.{option_map}
 use Rattle.std.proofs.lemmas.Bool.{eqb-true}
-use Rattle.number_table.specs.Table.{place, without}
-use Rattle.number_table.proofs.Tables.{place_within, place-with_value, without_None}
+use Rattle.number_table.specs.Table.{place}
+use Rattle.number_table.proofs.Tables.{place_within, place-with_value}
 use Rattle.config_edits.specs.declared.edit.Edit.{Edit}
 use Rattle.config_edits.specs.declared.fault.EditFault.{EditFault}
 use Rattle.pdu_cut.specs.declared.side.Side.TheVariants.{Target}
@@ -20,15 +20,14 @@ use Rattle.target_core.specs.declared.fault.Stepped.TheVariants.{Idle, One, Ende
 use Rattle.target_core.specs.Agreement.{AgreesAfter, AgreesByStep, AgreesStill, AgreesWithReceived, AgreesWithTaken, EditAgrees, EndAgrees, EndedAgrees, OpenAgrees, OutputAgrees, ReceiveAgrees, StandsAt, StepAgrees, StreamAgrees, TakenAgrees}
 use Rattle.target_core.specs.Connection.{ConnectionState}
 use Rattle.target_core.specs.Moves.{Moves, StepsAt, StepsBy}
-use Rattle.target_core.specs.Target.{IsTarget, ReceivesAt, TakenAt, TargetState, free_number, is_ended_at, room_of, with_connection, with_stream, without_connection}
+use Rattle.target_core.specs.Target.{ReceivesAt, TakenAt, TargetState, free_number, is_ended_at, room_of, with_connection, with_stream}
 use Rattle.target_decision.specs.declared.session.Conversation.{Conversation}
 use Rattle.target_decision.specs.declared.session.Session.TheVariants as session
 use Rattle.target_decision.specs.Session.{is_ended}
 use Rattle.target_history.specs.Event.{edited, given_up, opened, stepped}
 use Rattle.target_history.specs.Happening.{Happening}
-use Rattle.target_history.specs.History.{Beginning, beginning_of, conversation_of, happened, has_ended, is_initialized, is_known, last_front, pdus_of, port_of, registers_of, responses_since, sent, session_of, session_with}
+use Rattle.target_history.specs.History.{Admission, admission_of, conversation_of, happened, has_ended, is_initialized, is_known, last_front, pdus_of, port_of, responses_since, sent, session_of, session_with}
 use Rattle.target_core.proofs.Agreements.{moves_agree, same_agrees}
-use Rattle.target_core.proofs.Moving.{end_moves}
 
 -- ---- events
 
@@ -59,30 +58,6 @@ step_keeps_at old new k (Some held) (Some c) (Err fault) known h = same_agrees o
 pub step_keeps : (old new : TargetState) (k : ℕ) (result : Result Stepped StepFault)
     → StepsAt k (place old.streams k) (place old.connections k) old result new → StepAgrees k old result new
 step_keeps old new k result h = step_keeps_at old new k (place old.streams k) (place old.connections k) result refl h
-
--- what is given up and was not known leaves all as it was
-without_unknown : (t : TargetState) (k : ℕ) → place t.streams k ≡ None → place t.connections k ≡ None → without_connection t k ≡ t
-without_unknown t k stream known =
-    ap (λ (x : List (Option (List ℕ))). let s : TargetState = record t { streams = x; connections = without t.connections k } in s)
-    (without_None t.streams k stream)
-    ∙ ap (λ (x : List (Option ConnectionState)). let s : TargetState = record t { connections = x } in s) (without_None t.connections k known)
-
-none_alike : (s : Option (List ℕ)) → is_none s ≡ true → s ≡ None
-none_alike None h = refl
-none_alike (Some held) h = cc
-
-gives_up_at : (old new : TargetState) (k : ℕ) (o : Option ConnectionState) → IsTarget old → place old.connections k ≡ o
-    → new ≡ without_connection old k → MatchOption o (new ≡ old) (λ c. Moves (given_up k) old new)
-gives_up_at old new k None is known h =
-    let stream : place old.streams k ≡ None = none_alike (place old.streams k) (is.alike k ∙ ap is_none known) in
-    h ∙ without_unknown old k stream known
-gives_up_at old new k (Some c) is known h =
-    end_moves old new k (ap (λ (t : TargetState). t.config) h) (ap (λ (t : TargetState). t.shown) h)
-    (ap (λ (t : TargetState). t.streams) h) (ap (λ (t : TargetState). t.connections) h)
-
-pub gives_up : (old new : TargetState) (k : ℕ) → IsTarget old → new ≡ without_connection old k
-    → MatchOption (place old.connections k) (new ≡ old) (λ c. Moves (given_up k) old new)
-gives_up old new k is h = gives_up_at old new k (place old.connections k) is refl h
 
 end_keeps_at : (old new : TargetState) (k : ℕ) (o : Option ConnectionState) → MatchOption o (new ≡ old) (λ c. Moves (given_up k) old new)
     → MatchOption o (AgreesStill old new) (λ c. AgreesAfter (given_up k) old new)
@@ -118,7 +93,10 @@ receive_agrees old new k held bytes known receives =
     record {
       keeps = λ units events received taken agrees. rw receives (record {
         config = agrees.config;
+        clock = agrees.clock;
         shown = agrees.shown;
+        row = agrees.row;
+        controller = agrees.controller;
         conversation = agrees.conversation;
         stream = λ j. rw (place-with_value old.streams k (held ++ bytes) j within)
             (received_at (j == k) held bytes (place old.streams j) (pdus_of (happened units events) j) (last_front (happened units events) j) (received j)
@@ -171,7 +149,10 @@ taken_agrees old new k c n known takes =
     record {
       keeps = λ units events received taken agrees. rw takes (record {
         config = agrees.config;
+        clock = agrees.clock;
         shown = agrees.shown;
+        row = agrees.row;
+        controller = agrees.controller;
         conversation = λ j. rw (place-with_value old.connections k after j within)
             (conversation_stays (j == k) c n (place old.connections j) (λ is. ap (place old.connections) (eqb-true j k is) ∙ known)
             ∙ agrees.conversation j);
@@ -192,17 +173,17 @@ taken_keeps old new k len h = taken_keeps_at old new k len (place old.connection
 
 -- ---- whether a connection is ended
 
-lasts_with : (b : Option Beginning) (i : Bool) (h : List Happening) (k : ℕ) → is_ended (session_with b i (registers_of h k) (responses_since h k)) ≡ false
-lasts_with None false h k = refl
-lasts_with None true h k = refl
-lasts_with (Some b) i h k = refl
+lasts_with : (a : Option Admission) (i : Bool) (n : ℕ) → is_ended (session_with a i n) ≡ false
+lasts_with None false n = refl
+lasts_with None true n = refl
+lasts_with (Some a) i n = refl
 
 ended_of : (h : List Happening) (k : ℕ) → is_ended (session_of h k) ≡ has_ended h k
 ended_of h k = by (has_ended h k) where
   by : (ended : Bool) → is_ended (if ended then session.Ended else
-      session_with (beginning_of h k) (is_initialized h k) (registers_of h k) (responses_since h k)) ≡ ended
+      session_with (admission_of h k) (is_initialized h k) (responses_since h k)) ≡ ended
   by true = refl
-  by false = lasts_with (beginning_of h k) (is_initialized h k) h k
+  by false = lasts_with (admission_of h k) (is_initialized h k) (responses_since h k)
 
 ended_at : (h : List Happening) (k : ℕ) (o : Option ConnectionState)
     → option_map (λ (c : ConnectionState). c.conversation) o ≡ conversation_of h k → is_ended_at o ≡ (is_known h k && has_ended h k)

@@ -1,7 +1,10 @@
 pub mod Agreements
 pub mod Calls
+pub mod Changing
 pub mod Fronts
 pub mod Moving
 pub mod Places
-pub mod Stepping
+pub mod Removing
+pub mod Settling
 pub mod Shows
+pub mod Stepping

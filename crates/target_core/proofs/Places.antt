@@ -5,25 +5,28 @@ use Rattle.std.specs.Option.{option_map}
 use Rattle.std.proofs.lemmas.Bool.{eqb-true}
 use Rattle.number_table.specs.Table.{place, with_value, without}
 use Rattle.number_table.proofs.Tables.{least_free-Some, length-with_value, length-without, place_within, place-map, place-replicate, place-with_value, place-without}
-use Rattle.config_rules.specs.Configuration.{Configuration}
 use Rattle.std.proofs.lemmas.List.{length-map}
 use Rattle.target_core.specs.Connection.{ConnectionState}
 use Rattle.target_decision.specs.World.{connections_max}
-use Rattle.target_core.specs.Target.{IsTarget, TargetState}
-use Rattle.target_core.specs.Views.{ViewsShown}
+use Rattle.target_core.specs.Target.{IsTarget}
+
+abbrev Streams : Type 0
+Streams = List (Option (List ℕ))
+
+abbrev Connections : Type 0
+Connections = List (Option ConnectionState)
 
 -- the fact of the tables alone
 abbrev pub Alike : {A B : Type 0} → List (Option A) → List (Option B) → Type 0
 Alike streams connections = (k : ℕ) → is_none (place streams k) ≡ is_none (place connections k)
 
-pub new_is_target : (config : Configuration) (shown : ViewsShown) (streams : List (Option (List ℕ))) (connections : List (Option ConnectionState))
-    → streams ≡ replicate connections_max None → connections ≡ replicate connections_max None
-    → IsTarget (record { config = config; shown = shown; streams = streams; connections = connections })
-new_is_target config shown streams connections no_stream no_connection = record {
+pub new_is_target : (streams : Streams) (connections : Connections) → streams ≡ replicate connections_max None
+    → connections ≡ replicate connections_max None → IsTarget streams connections
+new_is_target streams connections no_stream no_connection = record {
   places = rw no_connection refl;
-  alike = λ k. ap (λ (l : List (Option (List ℕ))). is_none (place l k)) no_stream ∙ ap is_none (place-replicate connections_max k)
-      ∙ sym (ap (λ (l : List (Option ConnectionState)). is_none (place l k)) no_connection ∙ ap is_none (place-replicate connections_max k));
-  streams = rw no_stream refl;
+  alike = λ k. ap (λ (l : Streams). is_none (place l k)) no_stream ∙ ap is_none (place-replicate connections_max k)
+      ∙ sym (ap (λ (l : Connections). is_none (place l k)) no_connection ∙ ap is_none (place-replicate connections_max k));
+  within = rw no_stream refl;
 }
 
 none_alike : {A : Type 0} (o : Option A) → is_none o ≡ true → o ≡ None
@@ -31,11 +34,11 @@ none_alike None h = refl
 none_alike (Some held) h = cc
 
 -- the least number that is free for a connection is free for its stream
-pub stream_free : (t : TargetState) (k : ℕ) → IsTarget t → position is_none t.connections ≡ Some k
-    → (place t.streams k ≡ None) × (k < length t.streams)
-stream_free t k is free =
-    let empty = least_free-Some t.connections k free in
-    (none_alike (place t.streams k) (is.alike k ∙ ap is_none empty.0), omega (arith, is.streams, is.places, empty.1))
+pub stream_free : (streams : Streams) (connections : Connections) (k : ℕ) → IsTarget streams connections → position is_none connections ≡ Some k
+    → (place streams k ≡ None) × (k < length streams)
+stream_free streams connections k is free =
+    let empty = least_free-Some connections k free in
+    (none_alike (place streams k) (is.alike k ∙ ap is_none empty.0), omega (arith, is.within, is.places, empty.1))
 
 -- ---- what keeps it
 
@@ -48,25 +51,25 @@ put_alike streams connections k a b within_streams within alike j =
     here true = refl
     here false = alike j
 
-pub open_is_target : (t : TargetState) (k : ℕ) (held : List ℕ) (c : ConnectionState) → IsTarget t → position is_none t.connections ≡ Some k
-    → IsTarget (record { config = t.config; shown = t.shown; streams = with_value t.streams k held; connections = with_value t.connections k c })
-open_is_target t k held c is free =
-    let empty = least_free-Some t.connections k free in
+pub open_is_target : (streams : Streams) (connections : Connections) (k : ℕ) (held : List ℕ) (c : ConnectionState) → IsTarget streams connections
+    → position is_none connections ≡ Some k → IsTarget (with_value streams k held) (with_value connections k c)
+open_is_target streams connections k held c is free =
+    let empty = least_free-Some connections k free in
     record {
-      places = length-with_value t.connections k c ∙ is.places;
-      alike = put_alike t.streams t.connections k held c (stream_free t k is free).1 empty.1 is.alike;
-      streams = length-with_value t.streams k held ∙ is.streams;
+      places = length-with_value connections k c ∙ is.places;
+      alike = put_alike streams connections k held c (stream_free streams connections k is free).1 empty.1 is.alike;
+      within = length-with_value streams k held ∙ is.within;
     }
 
-pub end_is_target : (t : TargetState) (k : ℕ) → IsTarget t
-    → IsTarget (record { config = t.config; shown = t.shown; streams = without t.streams k; connections = without t.connections k })
-end_is_target t k is = record {
-  places = length-without t.connections k ∙ is.places;
-  alike = λ j. ap is_none (place-without t.streams k j) ∙ here j (j == k) ∙ sym (ap is_none (place-without t.connections k j));
-  streams = length-without t.streams k ∙ is.streams;
+pub end_is_target : (streams : Streams) (connections : Connections) (k : ℕ) → IsTarget streams connections
+    → IsTarget (without streams k) (without connections k)
+end_is_target streams connections k is = record {
+  places = length-without connections k ∙ is.places;
+  alike = λ j. ap is_none (place-without streams k j) ∙ here j (j == k) ∙ sym (ap is_none (place-without connections k j));
+  within = length-without streams k ∙ is.within;
 }
   where
-    here : (j : ℕ) (same : Bool) → is_none (if same then None else place t.streams j) ≡ is_none (if same then None else place t.connections j)
+    here : (j : ℕ) (same : Bool) → is_none (if same then None else place streams j) ≡ is_none (if same then None else place connections j)
     here j true = refl
     here j false = is.alike j
 
@@ -79,21 +82,21 @@ value_alike l k j a b known =
     here false is = refl
 
 -- a stream that is known changes
-pub stream_is_target : (t : TargetState) (k : ℕ) (held after : List ℕ) → IsTarget t → place t.streams k ≡ Some held
-    → IsTarget (record { config = t.config; shown = t.shown; streams = with_value t.streams k after; connections = t.connections })
-stream_is_target t k held after is known = record {
+pub stream_is_target : (streams : Streams) (connections : Connections) (k : ℕ) (held after : List ℕ) → IsTarget streams connections
+    → place streams k ≡ Some held → IsTarget (with_value streams k after) connections
+stream_is_target streams connections k held after is known = record {
   places = is.places;
-  alike = λ j. value_alike t.streams k j after held known ∙ is.alike j;
-  streams = length-with_value t.streams k after ∙ is.streams;
+  alike = λ j. value_alike streams k j after held known ∙ is.alike j;
+  within = length-with_value streams k after ∙ is.within;
 }
 
 -- a connection that is known changes
-pub connection_is_target : (t : TargetState) (k : ℕ) (c after : ConnectionState) → IsTarget t → place t.connections k ≡ Some c
-    → IsTarget (record { config = t.config; shown = t.shown; streams = t.streams; connections = with_value t.connections k after })
-connection_is_target t k c after is known = record {
-  places = length-with_value t.connections k after ∙ is.places;
-  alike = λ j. is.alike j ∙ sym (value_alike t.connections k j after c known);
-  streams = is.streams;
+pub connection_is_target : (streams : Streams) (connections : Connections) (k : ℕ) (c after : ConnectionState) → IsTarget streams connections
+    → place connections k ≡ Some c → IsTarget streams (with_value connections k after)
+connection_is_target streams connections k c after is known = record {
+  places = length-with_value connections k after ∙ is.places;
+  alike = λ j. is.alike j ∙ sym (value_alike connections k j after c known);
+  within = is.within;
 }
 
 mapped_none : {A : Type 0} (f : A → A) (o : Option A) → is_none (option_map f o) ≡ is_none o
@@ -101,10 +104,10 @@ mapped_none f None = refl
 mapped_none f (Some a) = refl
 
 -- all connections change
-pub map_is_target : (t : TargetState) (config : Configuration) (shown : ViewsShown) (f : ConnectionState → ConnectionState) → IsTarget t
-    → IsTarget (record { config = config; shown = shown; streams = t.streams; connections = map (option_map f) t.connections })
-map_is_target t config shown f is = record {
-  places = length-map t.connections (option_map f) ∙ is.places;
-  alike = λ k. is.alike k ∙ sym (ap is_none (place-map f t.connections k) ∙ mapped_none f (place t.connections k));
-  streams = is.streams;
+pub map_is_target : (streams : Streams) (connections : Connections) (f : ConnectionState → ConnectionState) → IsTarget streams connections
+    → IsTarget streams (map (option_map f) connections)
+map_is_target streams connections f is = record {
+  places = length-map connections (option_map f) ∙ is.places;
+  alike = λ k. is.alike k ∙ sym (ap is_none (place-map f connections k) ∙ mapped_none f (place connections k));
+  within = is.within;
 }

@@ -7,9 +7,9 @@ use Rattle.config_edits.specs.declared.fault.EditFault.{EditFault}
 use Rattle.target_core.specs.declared.views.Plans.{Plans}
 use Rattle.target_core.specs.Views.{ArePlansOf, ShowAfter, ShowFirst, ShowHistory, ShowNext, ShowPlanned, ViewsShown, pages_shown}
 use Rattle.target_decision.specs.World.{Pages}
-use Rattle.target_history.specs.Event.{Event, edited, opened, stepped, given_up}
-use Rattle.target_history.specs.Happening.{Happening}
-use Rattle.target_history.specs.History.{config_after, config_of, generation_of, pages_of}
+use Rattle.target_history.specs.Event.{Event, edited, opened, stepped, given_up, ticked}
+use Rattle.target_history.specs.Happening.{Happening, config_after}
+use Rattle.target_history.specs.History.{config_of, generation_of, pages_of}
 
 -- what was planned is what the edit makes
 pub planned_next : (made : Result Configuration EditFault) (plans : Plans) (c : Configuration) (old new : ViewsShown)
@@ -32,21 +32,26 @@ stays old new units before after config generation same show =
       counts = λ host. rw generation (show.counts host);
     })
 
+-- what an event would have been
+abbrev over : Happening → Event → Happening
+over x event = record { event = event; world = x.world; conversation = x.conversation; clock = x.clock }
+
 -- one more event
 pub views_step : (x : Happening) (old new : ViewsShown) (units : List ℕ) (before : List Happening)
     → ShowAfter x.event (config_of units (x ∷ before)) old new → ShowHistory old units before → ShowHistory new units (x ∷ before)
 views_step x old new units before after show = by x.event after where
   by : (event : Event) → ShowAfter event (config_after event (config_of units before)) old new
-      → ShowHistory new units (record { event = event; world = x.world } ∷ before)
+      → ShowHistory new units (over x event ∷ before)
   by (edited edit) after = record {
     records = λ host. after.discovery.records host;
     counts = λ host. after.discovery.counts host
         ∙ rw (after.discovery.records host, show.records host, show.counts host)
         (sym (count_goes_on (config_of units before) (config_after (edited edit) (config_of units before)) host (generation_of units before host)));
   }
-  by (opened port k) after = stays old new units before (record { event = opened port k; world = x.world } ∷ before) refl refl after show
-  by (stepped k found) after = stays old new units before (record { event = stepped k found; world = x.world } ∷ before) refl refl after show
-  by (given_up k) after = stays old new units before (record { event = given_up k; world = x.world } ∷ before) refl refl after show
+  by (opened port k) after = stays old new units before (over x (opened port k) ∷ before) refl refl after show
+  by (stepped k found) after = stays old new units before (over x (stepped k found) ∷ before) refl refl after show
+  by (given_up k) after = stays old new units before (over x (given_up k) ∷ before) refl refl after show
+  by (ticked now) after = stays old new units before (over x (ticked now) ∷ before) refl refl after show
 
 pub new_show : (v : ViewsShown) (units : List ℕ) → ShowFirst (disks_alone units) v → ShowHistory v units []
 new_show v units first = record { records = first.discovery.records; counts = first.discovery.counts }

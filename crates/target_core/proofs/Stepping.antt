@@ -1,19 +1,186 @@
 -- What a step has done to the target.
-use Rattle.std.proofs.Common.{◌≡◌, ℕ, Bool, true, false, List, drop, Option, Some, None, refl, ap, ◌∙◌}
+use Rattle.std.proofs.Common.{◌≡◌, ℕ, ◌<◌, Bool, true, false, List, length, map, drop, ◌++◌, Option, Some, None, MatchOption, refl, sym, ap, ◌∙◌}
+use Rattle.std.specs.Prelude.{if◌then◌else◌, ◌==◌}
+use Rattle.std.specs.Option.{option_map}
+use Rattle.std.proofs.Math.Dec.{T, eqb_refl}
+use Rattle.std.proofs.lemmas.Bool.{eqb-true}
 use Rattle.number_table.specs.Table.{place, with_value}
+use Rattle.number_table.proofs.Tables.{place_within, place-map, place-with_value}
+use Rattle.fabrics_connect.specs.declared.row.Row.{Row}
 use Rattle.pdu_cut.specs.declared.side.Side.TheVariants.{Target}
 use Rattle.pdu_cut.specs.Front.{Front, front}
 use Rattle.target_core.specs.declared.fault.Stepped.{Stepped}
-use Rattle.target_core.specs.Connection.{ConnectionState, acted}
-use Rattle.target_core.specs.Moves.{ActedAt, Moves, StepsBy, stepped_by}
-use Rattle.target_core.specs.Target.{IsTarget, TargetState, is_idle, is_incomplete, meets, pages_at, world_at}
+use Rattle.target_core.specs.Connection.{ConnectionState, acted, settled}
+use Rattle.target_core.specs.Controllers.{gone_by}
+use Rattle.target_core.specs.Moves.{ActedAt, Moves, StepsBy, connection_moved, stepped_by}
+use Rattle.target_core.specs.Target.{IsTarget, TargetState, is_idle, is_incomplete, meets, world_at}
+use Rattle.target_decision.specs.declared.controller.Controller.{Controller}
+use Rattle.target_decision.specs.declared.decision.Change.{Change}
 use Rattle.target_decision.specs.declared.decision.Decision.{Decision}
-use Rattle.target_decision.specs.Decision.{decide, is_end, consumed_of}
-use Rattle.target_decision.specs.Session.{is_ended}
+use Rattle.target_decision.specs.declared.decision.Decision.TheVariants as decision
+use Rattle.target_decision.specs.declared.session.Conversation.{Conversation}
+use Rattle.target_decision.specs.declared.session.Session.{Session}
+use Rattle.target_decision.specs.declared.session.Session.TheVariants.{Ended}
+use Rattle.target_decision.specs.Begin.{row_by, row_decided}
+use Rattle.target_decision.specs.Decision.{consumed_of, decide, is_end, sent_by}
+use Rattle.target_decision.specs.Session.{is_ended, session_after}
+use Rattle.target_decision.specs.World.{World}
+use Rattle.target_history.specs.declared.ending.Ending.{Ending}
+use Rattle.target_history.specs.declared.ending.Ending.TheVariants as ending
+use Rattle.target_history.specs.Ending.{ending_decided, ends_by}
 use Rattle.target_history.specs.Event.{stepped}
-use Rattle.target_history.specs.Happening.{terminates}
-use Rattle.target_core.proofs.Moving.{step_ends, step_moves}
-use Rattle.target_core.proofs.Places.{connection_is_target, stream_is_target}
+use Rattle.target_history.specs.Happening.{Happening, change_decided, change_of, controller_changed, decided, decision_of, ending_of, ends_live, is_end_decided, port_met, row_changed, row_kept, terminates}
+use Rattle.target_core.proofs.Moving.{moved_is, silent_at, stream_stays, tables_of, turned}
+use Rattle.target_core.proofs.Places.{connection_is_target, map_is_target, stream_is_target}
+use Rattle.target_core.proofs.Settling.{QuietWhere, changed_alike, decision_settles, nothing_gone}
+
+-- ---- what is decided
+
+-- on the connection that a step is of, and on the others
+decides_here : (old : TargetState) (k : ℕ) (found : Front) (c : ConnectionState) (d : Decision) (j : ℕ) → (j == k) ≡ true
+    → place old.connections j ≡ Some c → is_ended c.conversation.session ≡ false → d ≡ decide (world_at old) c.conversation found
+    → decided (meets old (stepped k found)) j ≡ Some d
+decides_here old k found c d j same there lasts decides = rw (same, there, lasts, decides) refl
+
+decides_none : (old : TargetState) (k : ℕ) (found : Front) (j : ℕ) → (j == k) ≡ false → decided (meets old (stepped k found)) j ≡ None
+decides_none old k found j same = rw same refl
+
+-- .. by the event
+decides_so : (old : TargetState) (k : ℕ) (found : Front) (c : ConnectionState) (d : Decision) → place old.connections k ≡ Some c
+    → is_ended c.conversation.session ≡ false → d ≡ decide (world_at old) c.conversation found
+    → decision_of (meets old (stepped k found)) ≡ Some d
+decides_so old k found c d known lasts decides = rw (known, lasts, decides) refl
+
+-- .. and what that ends
+ends_so : (old : TargetState) (k : ℕ) (found : Front) (c : ConnectionState) (d : Decision) → place old.connections k ≡ Some c
+    → is_ended c.conversation.session ≡ false → d ≡ decide (world_at old) c.conversation found
+    → ending_of (meets old (stepped k found)) ≡ ending_decided c.conversation.session d
+ends_so old k found c d known lasts decides = rw (known, lasts, decides) refl
+
+-- ---- connections
+
+-- what a decision makes of its own connection, and what else it ends then, is what its event makes of it
+acts : (w : World) (d : Decision) (found : Front) (gone : ℕ → Bool) (c : ConnectionState) → QuietWhere (ending_decided c.conversation.session d) gone
+    → settled (ending_decided c.conversation.session d) gone (acted w d found c)
+    ≡ turned w (Some d) found (ending_decided c.conversation.session d) gone c
+acts w d found gone c quiet =
+    by (ends_by (ending_decided c.conversation.session d) gone (record { port = c.conversation.port; session = session_after c.conversation.session d }))
+    ∙ ap (λ (s : Session). let r : ConnectionState = record {
+      conversation = record { port = c.conversation.port; session = s };
+      output = c.output ++ sent_by w c.conversation.session d found;
+    } in r) (decision_settles d gone c.conversation.port c.conversation.session quiet)
+  where
+    by : (ended : Bool)
+        → (if ended then record { conversation = record { port = c.conversation.port; session = Ended }; output = c.output ++ sent_by w c.conversation.session d found }
+        else acted w d found c)
+        ≡ (let r : ConnectionState = record {
+          conversation = record { port = c.conversation.port; session = if ended then Ended else session_after c.conversation.session d };
+          output = c.output ++ sent_by w c.conversation.session d found;
+        } in r)
+    by true = refl
+    by false = refl
+
+quiet_here : (old : TargetState) (e : Ending) → QuietWhere e (gone_by e old.config (tables_of old))
+quiet_here old e is c =
+    ap (λ (f : Ending). gone_by f old.config (tables_of old) c) is ∙ nothing_gone old.config c (place old.rows c) (place old.controllers c)
+
+step_at : (old : TargetState) (k : ℕ) (found : Front) (c : ConnectionState) (d : Decision) (e : Ending) (j : ℕ)
+    → place old.connections k ≡ Some c → is_ended c.conversation.session ≡ false → d ≡ decide (world_at old) c.conversation found
+    → e ≡ ending_decided c.conversation.session d → ending_of (meets old (stepped k found)) ≡ e
+    → (same : Bool) → (j == k) ≡ same
+    → option_map (settled e (gone_by e old.config (tables_of old))) (if same then Some (acted (world_at old) d found c) else place old.connections j)
+    ≡ option_map (connection_moved (meets old (stepped k found)) j) (place old.connections j)
+step_at old k found c d e j known lasts decides ends met true same =
+    let x = meets old (stepped k found) in
+    let there : place old.connections j ≡ Some c = ap (place old.connections) (eqb-true j k same) ∙ known in
+    let seen : x.conversation j ≡ Some c.conversation = ap (option_map (λ (a : ConnectionState). a.conversation)) there in
+    let moves : connection_moved x j c ≡ turned (world_at old) (Some d) found e (gone_by e old.config (tables_of old)) c =
+    moved_is x j c seen
+    ∙ ap (λ (b : Option Decision). turned x.world b found (ending_of x) (ends_live x) c) (decides_here old k found c d j same there lasts decides)
+    ∙ ap (λ (f : Ending). turned x.world (Some d) found f (gone_by f old.config (tables_of old)) c) met in
+    ap (λ (f : Ending). Some (settled f (gone_by f old.config (tables_of old)) (acted (world_at old) d found c))) ends
+    ∙ ap Some (acts (world_at old) d found (gone_by (ending_decided c.conversation.session d) old.config (tables_of old)) c
+    (quiet_here old (ending_decided c.conversation.session d)))
+    ∙ ap (λ (f : Ending). Some (turned (world_at old) (Some d) found f (gone_by f old.config (tables_of old)) c)) (sym ends)
+    ∙ ap Some (sym moves) ∙ ap (option_map (connection_moved x j)) (sym there)
+step_at old k found c d e j known lasts decides ends met false same =
+    let x = meets old (stepped k found) in
+    ap (λ (f : Ending). option_map (settled f (gone_by f old.config (tables_of old))) (place old.connections j)) (sym met)
+    ∙ silent_at x j (place old.connections j) refl (decides_none old k found j same)
+
+stream_at : (found : Front) (held : List ℕ) (o : Option (List ℕ)) (same : Bool) → (same ≡ true → o ≡ Some held)
+    → (if same then Some (drop (consumed_of found) held) else o) ≡ option_map (λ held. if same then drop (consumed_of found) held else held) o
+stream_at found held o true here = rw (here refl) refl
+stream_at found held o false here = stream_stays o
+
+-- ---- the target
+
+-- the row that a decision makes is the one that its event makes
+row_so : (d : Decision) (port : ℕ) (found : Front) → row_decided d port found ≡ row_by (change_decided (Some d)) port found
+row_so (decision.Reply r) port found = refl
+row_so decision.Initialize port found = refl
+row_so (decision.Terminate t) port found = refl
+row_so decision.Close port found = refl
+
+pub step_moves : (old new : TargetState) (k : ℕ) (held : List ℕ) (c : ConnectionState) (d : Decision) (e : Ending) (ch : Change) (begun : Option Row)
+    → place old.streams k ≡ Some held → place old.connections k ≡ Some c
+    → is_ended c.conversation.session ≡ false → is_incomplete (front Target held) ≡ false
+    → d ≡ decide (world_at old) c.conversation (front Target held)
+    → e ≡ ending_decided c.conversation.session d → ch ≡ change_decided (Some d)
+    → begun ≡ row_decided d c.conversation.port (front Target held)
+    → new.config ≡ old.config → new.shown ≡ old.shown → new.clock ≡ old.clock
+    → new.connections ≡ map (option_map (settled e (gone_by e old.config (tables_of old)))) (with_value old.connections k (acted (world_at old) d (front Target held) c))
+    → new.streams ≡ with_value old.streams k (drop (consumed_of (front Target held)) held)
+    → ((n : ℕ) → place new.rows n ≡ row_changed ch begun (if gone_by e old.config (tables_of old) n then None else place old.controllers n) n
+    (if gone_by e old.config (tables_of old) n then None else option_map (row_kept e n) (place old.rows n)))
+    → ((n : ℕ) → place new.controllers n ≡ controller_changed ch old.clock n (if gone_by e old.config (tables_of old) n then None else place old.controllers n))
+    → Moves (stepped k (front Target held)) old new
+step_moves old new k held c d e ch begun stream known lasts complete decides ends changes begins config shown clock connections streams rows controllers =
+    let found = front Target held in
+    let x = meets old (stepped k found) in
+    let within : k < length old.connections = place_within old.connections k c known in
+    let stream_within : k < length old.streams = place_within old.streams k held stream in
+    let met : ending_of x ≡ e = ends_so old k found c d known lasts decides ∙ sym ends in
+    let so : change_of x ≡ ch = ap change_decided (decides_so old k found c d known lasts decides) ∙ sym changes in
+    let port : port_met x ≡ c.conversation.port = rw known refl in
+    let row : row_by (change_of x) (port_met x) found ≡ begun =
+    ap (λ (b : Change). row_by b (port_met x) found) (so ∙ changes)
+    ∙ ap (λ (p : ℕ). row_by (change_decided (Some d)) p found) port ∙ sym (row_so d c.conversation.port found) ∙ sym begins in
+    record {
+      stands = rw stream (refl, complete);
+      config = config;
+      clock = clock;
+      shown = shown;
+      connection = λ j. ap (λ (l : List (Option ConnectionState)). place l j) connections
+          ∙ place-map (settled e (gone_by e old.config (tables_of old))) (with_value old.connections k (acted (world_at old) d found c)) j
+          ∙ ap (option_map (settled e (gone_by e old.config (tables_of old)))) (place-with_value old.connections k (acted (world_at old) d found c) j within)
+          ∙ step_at old k found c d e j known lasts decides ends met (j == k) refl;
+      stream = λ j. rw (streams, place-with_value old.streams k (drop (consumed_of found) held) j stream_within)
+          (stream_at found held (place old.streams j) (j == k) (λ is. ap (place old.streams) (eqb-true j k is) ∙ stream));
+      row = λ n. rows n ∙ changed_alike ch begun (gone_by e old.config (tables_of old) n) n (place old.controllers n) (option_map (row_kept e n) (place old.rows n))
+          ∙ ap (λ (f : Ending). row_changed ch begun (place old.controllers n) n
+          (if gone_by f old.config (tables_of old) n then None else option_map (row_kept f n) (place old.rows n))) (sym met)
+          ∙ ap (λ (b : Change). row_changed b begun (place old.controllers n) n
+          (if ends_live x n then None else option_map (row_kept (ending_of x) n) (place old.rows n))) (sym so)
+          ∙ ap (λ (r : Option Row). row_changed (change_of x) r (place old.controllers n) n
+          (if ends_live x n then None else option_map (row_kept (ending_of x) n) (place old.rows n))) (sym row);
+      controller = λ n. controllers n
+          ∙ ap (λ (f : Ending). controller_changed ch old.clock n (if gone_by f old.config (tables_of old) n then None else place old.controllers n)) (sym met)
+          ∙ ap (λ (b : Change). controller_changed b old.clock n (if ends_live x n then None else place old.controllers n)) (sym so);
+    }
+
+same_here : (k : ℕ) → (k == k) ≡ true
+same_here k = T_true (k == k) (eqb_refl k) where
+  T_true : (b : Bool) → T b → b ≡ true
+  T_true true h = refl
+  T_true false h = absurd h
+
+-- .. and whether it ends the connection
+step_ends : (old : TargetState) (k : ℕ) (found : Front) (c : ConnectionState) (d : Decision)
+    → place old.connections k ≡ Some c → is_ended c.conversation.session ≡ false → d ≡ decide (world_at old) c.conversation found
+    → terminates (meets old (stepped k found)) k ≡ is_end d
+step_ends old k found c d known lasts decides =
+    ap is_end_decided (decides_here old k found c d k (same_here k) known lasts decides)
 
 -- the connections and streams after a step of one that is known
 pub acted_known : {T : Type 0} (k : ℕ) (f : T → T) (o : Option T) (c : T) (old new : List (Option T)) → o ≡ Some c → ActedAt k f o old new
@@ -23,30 +190,49 @@ acted_known k f (Some d) c old new known acts =
     let same : d ≡ c = cc in
     acts ∙ ap (λ x. with_value old k (f x)) same
 
-pub step_is_target : (t : TargetState) (k : ℕ) (held after : List ℕ) (c turned : ConnectionState) → IsTarget t
-    → place t.streams k ≡ Some held → place t.connections k ≡ Some c
-    → IsTarget (record { config = t.config; shown = t.shown; streams = with_value t.streams k after; connections = with_value t.connections k turned })
-step_is_target t k held after c turned is stream known =
-    let mid : TargetState = record { config = t.config; shown = t.shown; streams = t.streams; connections = with_value t.connections k turned } in
-    stream_is_target mid k held after (connection_is_target t k c turned is known) stream
+pub step_is_target : (streams : List (Option (List ℕ))) (connections : List (Option ConnectionState)) (k : ℕ) (held after : List ℕ) (c turned : ConnectionState)
+    (f : ConnectionState → ConnectionState) → IsTarget streams connections → place streams k ≡ Some held → place connections k ≡ Some c
+    → IsTarget (with_value streams k after) (map (option_map f) (with_value connections k turned))
+step_is_target streams connections k held after c turned f is stream known =
+    map_is_target (with_value streams k after) (with_value connections k turned) f
+    (stream_is_target streams (with_value connections k turned) k held after (connection_is_target streams connections k c turned is known) stream)
 
-steps_by : (old new : TargetState) (k : ℕ) (held : List ℕ) (c : ConnectionState) (ended : Bool) → is_idle held c ≡ false
-    → Moves (stepped k (front Target held)) old new → terminates (meets old (stepped k (front Target held))) k ≡ ended
-    → StepsBy k held c (stepped_by ended) old new
-steps_by old new k held c true idle moves ends = (idle, moves, ends)
-steps_by old new k held c false idle moves ends = (idle, moves, ends)
+pub steps_by : (old new : TargetState) (k : ℕ) (held : List ℕ) (c : ConnectionState) (d : Decision) (s : Stepped) → place old.connections k ≡ Some c
+    → is_ended c.conversation.session ≡ false → is_incomplete (front Target held) ≡ false → d ≡ decide (world_at old) c.conversation (front Target held)
+    → Moves (stepped k (front Target held)) old new → s ≡ stepped_by (is_end d) → StepsBy k held c s old new
+steps_by old new k held c d s known lasts complete decides moves is =
+    rw is (by (is_end d) (step_ends old k (front Target held) c d known lasts decides))
+  where
+    idle : is_idle held c ≡ false
+    idle = rw (lasts, complete) refl
 
-pub step_done : (old new : TargetState) (k : ℕ) (held : List ℕ) (c : ConnectionState) (found : Front) (d : Decision) (s : Stepped)
+    by : (ended : Bool) → terminates (meets old (stepped k (front Target held))) k ≡ ended → StepsBy k held c (stepped_by ended) old new
+    by true ends = (idle, moves, ends)
+    by false ends = (idle, moves, ends)
+
+-- .. and the row that was made
+pub row_known : (o : Option ConnectionState) (c : ConnectionState) (row : Option Row) (d : Decision) (found : Front) → o ≡ Some c
+    → MatchOption o (row ≡ None) (λ b. row ≡ row_decided d b.conversation.port found) → row ≡ row_decided d c.conversation.port found
+row_known None c row d found known made = cc
+row_known (Some b) c row d found known made =
+    let same : b ≡ c = cc in
+    made ∙ ap (λ (a : ConnectionState). row_decided d a.conversation.port found) same
+
+pub step_done : (old new : TargetState) (k : ℕ) (held : List ℕ) (c : ConnectionState) (found : Front) (d : Decision) (e : Ending) (ch : Change) (begun : Option Row) (s : Stepped)
     → place old.streams k ≡ Some held → place old.connections k ≡ Some c
     → is_ended c.conversation.session ≡ false → found ≡ front Target held → is_incomplete found ≡ false
     → d ≡ decide (world_at old) c.conversation found
-    → new.config ≡ old.config → new.shown ≡ old.shown
-    → new.connections ≡ with_value old.connections k (acted (pages_at old) d found c)
+    → e ≡ ending_decided c.conversation.session d → ch ≡ change_decided (Some d) → begun ≡ row_decided d c.conversation.port found
+    → new.config ≡ old.config → new.shown ≡ old.shown → new.clock ≡ old.clock
+    → new.connections ≡ map (option_map (settled e (gone_by e old.config (tables_of old)))) (with_value old.connections k (acted (world_at old) d found c))
     → new.streams ≡ with_value old.streams k (drop (consumed_of found) held)
+    → ((n : ℕ) → place new.rows n ≡ row_changed ch begun (if gone_by e old.config (tables_of old) n then None else place old.controllers n) n
+    (if gone_by e old.config (tables_of old) n then None else option_map (row_kept e n) (place old.rows n)))
+    → ((n : ℕ) → place new.controllers n ≡ controller_changed ch old.clock n (if gone_by e old.config (tables_of old) n then None else place old.controllers n))
     → s ≡ stepped_by (is_end d) → StepsBy k held c s old new
-step_done old new k held c found d s stream known lasts stands complete decides config shown connections streams steps =
+step_done old new k held c found d e ch begun s stream known lasts stands complete decides ends changes begins config shown clock connections streams rows controllers steps =
     let here : is_incomplete (front Target held) ≡ false = rw stands at complete in
     let decided : d ≡ decide (world_at old) c.conversation (front Target held) = rw stands at decides in
-    rw steps (steps_by old new k held c (is_end d) (rw (lasts, here) refl)
-    (step_moves old new k held c d stream known lasts here decided config shown (rw stands at connections) (rw stands at streams))
-    (step_ends old k (front Target held) c d known lasts decided))
+    steps_by old new k held c d s known lasts here decided
+    (step_moves old new k held c d e ch begun stream known lasts here decided ends changes (rw stands at begins) config shown clock
+    (rw stands at connections) (rw stands at streams) rows controllers) steps

@@ -18,7 +18,7 @@ use Rattle.target_core.specs.Target.{TargetState, conversation_at}
 use Rattle.target_core.specs.Views.{ShowHistory}
 use Rattle.target_history.specs.Event.{Event, edited, gives_up, opened, opens, stepped, given_up}
 use Rattle.target_history.specs.Happening.{Happening}
-use Rattle.target_history.specs.History.{config_of, conversation_of, happened, has_ended, is_known, last_front, pdus_of, sent}
+use Rattle.target_history.specs.History.{clock_of, config_of, controller_of, conversation_of, happened, has_ended, is_known, last_front, pdus_of, row_of, sent}
 
 -- what was found last, where it is a fault, stands at the front of the bytes that are held
 abbrev pub StandsAt : Front → List ℕ → Type 0
@@ -40,11 +40,14 @@ OutputAgrees (Some c) was_sent taken = was_sent ≡ taken ++ c.output
 -- A target agrees with what happened to it, with what each connection received since it was opened, and
 -- with what was taken from it since. Its discovery view shows each host the records of the configuration,
 -- and counts the edits that changed them; each connection is known where the history says so, and has come
--- as far as it says.
+-- as far as it says; each controller lives where the history says so, and is as it says.
 pub record AgreesWith (t : TargetState) (units : List ℕ) (happened : List Happening) (received taken : ℕ → List ℕ) : Type 0 where
   pub config : t.config ≡ config_of units happened
+  pub clock : t.clock ≡ clock_of happened
   pub shown : ShowHistory t.shown units happened
   pub conversation : (k : ℕ) → conversation_at t k ≡ conversation_of happened k
+  pub row : (c : ℕ) → place t.rows c ≡ row_of happened c
+  pub controller : (c : ℕ) → place t.controllers c ≡ controller_of happened c
   pub stream : (k : ℕ) → StreamAgrees (place t.streams k) (pdus_of happened k) (last_front happened k) (received k)
   pub output : (k : ℕ) → OutputAgrees (place t.connections k) (sent happened k) (taken k)
 

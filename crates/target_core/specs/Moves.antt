@@ -12,9 +12,8 @@ use Rattle.target_core.specs.Connection.{ConnectionState, fresh_on}
 use Rattle.target_core.specs.Target.{TargetState, is_idle, is_incomplete, meets}
 use Rattle.target_core.specs.Views.{ShowAfter}
 use Rattle.target_decision.specs.Decision.{consumed_of}
-use Rattle.target_history.specs.Event.{Event, edited, front_in, gives_up, opened, opens, port_in, steps, stepped, given_up}
-use Rattle.target_history.specs.Happening.{Happening, conversation_moved, sends, terminates}
-use Rattle.target_history.specs.History.{config_after}
+use Rattle.target_history.specs.Event.{Event, edited, front_in, gives_up, opened, opens, port_in, steps, stepped, given_up, ticked}
+use Rattle.target_history.specs.Happening.{Happening, clock_after, config_after, controller_after, conversation_moved, row_after, sends, terminates}
 
 abbrev pub connection_moved : Happening → ℕ → ConnectionState → ConnectionState
 connection_moved x k c = record { conversation = conversation_moved x k c.conversation; output = c.output ++ sends x k }
@@ -42,13 +41,17 @@ Stands (stepped n found) t = StandsIn found (place t.streams n)
 Stands (edited edit) t = Unit {0}
 Stands (opened port n) t = Unit {0}
 Stands (given_up n) t = Unit {0}
+Stands (ticked now) t = Unit {0}
 
 pub record Moves (event : Event) (old new : TargetState) : Type 0 where
   pub stands : Stands event old
   pub config : new.config ≡ config_after event old.config
+  pub clock : new.clock ≡ clock_after event old.clock
   pub shown : ShowAfter event new.config old.shown new.shown
   pub connection : (k : ℕ) → place new.connections k ≡ connection_after (meets old event) k (place old.connections k)
   pub stream : (k : ℕ) → place new.streams k ≡ stream_after event k (place old.streams k)
+  pub row : (c : ℕ) → place new.rows c ≡ row_after (meets old event) c (place old.rows c)
+  pub controller : (c : ℕ) → place new.controllers c ≡ controller_after (meets old event) c (place old.controllers c)
 
 -- ---- the parts of a step
 

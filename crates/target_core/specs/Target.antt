@@ -7,58 +7,67 @@ use Rattle.config_lists.specs.declared.port.Port.{Port}
 use Rattle.pdu_cut.specs.declared.side.Side.TheVariants.{Target}
 use Rattle.pdu_cut.specs.Side.{capacity_of}
 use Rattle.pdu_cut.specs.Front.{Front, incomplete, whole, faulty, front}
+use Rattle.fabrics_connect.specs.declared.row.Row.{Row}
+use Rattle.fabrics_connect.specs.Controllers.{no_controllers}
 use Rattle.target_core.specs.declared.fault.NoConn.{NoConn}
 use Rattle.target_core.specs.declared.fault.OpenFault.{OpenFault}
 use Rattle.target_core.specs.declared.fault.OpenFault.TheVariants.{NoSuchPort, Full}
 use Rattle.target_core.specs.Connection.{ConnectionState}
+use Rattle.target_core.specs.Controllers.{controller_places}
 use Rattle.target_core.specs.Views.{ShowFirst, ViewsShown, pages_shown}
+use Rattle.target_decision.specs.declared.controller.Controller.{Controller}
 use Rattle.target_decision.specs.declared.session.Conversation.{Conversation}
 use Rattle.target_decision.specs.Session.{is_ended}
 use Rattle.target_decision.specs.World.{Pages, World, connections_max}
 use Rattle.target_history.specs.Event.{Event}
 use Rattle.target_history.specs.Happening.{Happening}
 
--- the configuration, what the views of it show, and of each connection that is known the bytes
--- received and not consumed, and what else is known of it
+-- the configuration, what the views of it show, and the clock, in ms; of each connection that is known the
+-- bytes received and not consumed, and what else is known of it; and of each controller that lives what all
+-- connections may see of it, and what its own admin queue alone uses
 pub record TargetState : Type 0 where
   pub config : Configuration
   pub shown : ViewsShown
+  pub clock : ℕ
   pub streams : List (Option (List ℕ))
   pub connections : List (Option ConnectionState)
+  pub rows : List (Option Row)
+  pub controllers : List (Option Controller)
 
--- this configuration, unchanged so far, and no connection of those that there may be
+-- this configuration, unchanged so far, and no connection and no controller of those that there may be
 pub record IsNewTarget (c : Configuration) (t : TargetState) : Type 0 where
   pub config : t.config ≡ c
   pub shown : ShowFirst c t.shown
+  pub clock : t.clock ≡ 0
   pub streams : t.streams ≡ replicate connections_max None
   pub connections : t.connections ≡ replicate connections_max None
+  pub rows : t.rows ≡ no_controllers
+  pub controllers : t.controllers ≡ replicate controller_places None
 
 -- what holds of each target: it has a stream for each connection that is known, of those that there may be
-pub record IsTarget (t : TargetState) : Type 0 where
-  pub places : length t.connections ≡ connections_max
-  pub alike : (k : ℕ) → is_none (place t.streams k) ≡ is_none (place t.connections k)
-  pub streams : length t.streams ≡ connections_max
+pub record IsTarget (streams : List (Option (List ℕ))) (connections : List (Option ConnectionState)) : Type 0 where
+  pub places : length connections ≡ connections_max
+  pub alike : (k : ℕ) → is_none (place streams k) ≡ is_none (place connections k)
+  pub within : length streams ≡ connections_max
 
 -- ---- what a decision may look at
 
 abbrev pub conversation_at : TargetState → ℕ → Option Conversation
 conversation_at t k = option_map (λ (c : ConnectionState). c.conversation) (place t.connections k)
 
--- .. of a target with these pages and connections
-abbrev pub world_of : Pages → List (Option ConnectionState) → World
-world_of pages connections = record {
-  pages = pages;
-  conversation = λ k. option_map (λ (c : ConnectionState). c.conversation) (place connections k);
-}
-
 abbrev pub pages_at : TargetState → Pages
 pages_at t = pages_shown t.shown
 
 abbrev pub world_at : TargetState → World
-world_at t = record { pages = pages_at t; conversation = conversation_at t }
+world_at t = record {
+  pages = pages_at t;
+  config = t.config;
+  row = λ c. place t.rows c;
+  controller = λ c. place t.controllers c;
+}
 
 abbrev pub meets : TargetState → Event → Happening
-meets t event = record { event = event; world = world_at t }
+meets t event = record { event = event; world = world_at t; conversation = conversation_at t; clock = t.clock }
 
 -- ---- the calls
 
@@ -67,9 +76,6 @@ with_stream t k held = record t { streams = with_value t.streams k held }
 
 abbrev pub with_connection : TargetState → ℕ → ConnectionState → TargetState
 with_connection t k c = record t { connections = with_value t.connections k c }
-
-abbrev pub without_connection : TargetState → ℕ → TargetState
-without_connection t k = record t { streams = without t.streams k; connections = without t.connections k }
 
 -- the configuration's port of this number
 abbrev pub port_of : Configuration → ℕ → Option Port

@@ -7,7 +7,7 @@ use Rattle.config_edits.specs.declared.fault.EditFault.{EditFault}
 use Rattle.target_core.specs.declared.views.Plans.{Plans}
 use Rattle.target_core.specs.declared.views.Views.{Views}
 use Rattle.target_decision.specs.World.{Pages}
-use Rattle.target_history.specs.Event.{Event, edited, opened, stepped, given_up}
+use Rattle.target_history.specs.Event.{Event, edited, opened, stepped, given_up, ticked}
 use Rattle.target_history.specs.Happening.{Happening}
 use Rattle.target_history.specs.History.{config_of, generation_of}
 
@@ -48,6 +48,7 @@ ShowAfter (edited edit) c old new = ShowNext c old new
 ShowAfter (opened port n) c old new = new ≡ old
 ShowAfter (stepped n found) c old new = new ≡ old
 ShowAfter (given_up n) c old new = new ≡ old
+ShowAfter (ticked now) c old new = new ≡ old
 
 -- they show what a history says: the discovery view each host the records of the configuration, and the
 -- number of the edits that changed them

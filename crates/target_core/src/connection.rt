@@ -2,15 +2,16 @@
 ghost use Rattle.std.specs.Prelude.{◌≡◌, ◌≤◌, OnErr, OnOk, drop, length};
 ghost use Rattle.pdu_cut.specs.Cut.{front_shown};
 ghost use Rattle.target_core.specs.Connection.{acted, fresh_on, settled};
-ghost use Rattle.target_decision.specs.Decision.{head_of, host_in};
-ghost use Rattle.target_decision.specs.Session.{NamesHost, is_ended};
-ghost use Rattle.target_decision.specs.World.{pages_in};
+ghost use Rattle.target_core.specs.Controllers.{is_gone};
+ghost use Rattle.target_decision.specs.Decision.{head_of};
+ghost use Rattle.target_decision.specs.Session.{is_ended};
+ghost use Rattle.target_decision.specs.World.{world_in};
 
 use bytes::BytesMut;
 use pdu_cut::Cut;
 use std::alloc::{AllocError, Global};
 use std::marker::Model;
-use target_decision::{Conversation, Converses, Decision, Pages, Session, perform};
+use target_decision::{Conversation, Decision, Session, World, perform};
 use target_history::Ending;
 
 /// A connection that is known.
@@ -28,14 +29,6 @@ impl Model for Connection {
     ghost view = { λ c. record { conversation = c.conversation; output = c.output.items } };
 }
 
-impl Converses for Connection {
-    ghost conversation_of = { λ c. c.conversation };
-
-    fn conversation(&self) -> &Conversation {
-        &self.conversation
-    }
-}
-
 impl Connection {
     /// A connection on which nothing has come yet.
     pub(crate) fn new(alloc: Global, port: u16) -> Connection
@@ -45,6 +38,12 @@ impl Connection {
             conversation: Conversation::opened_on(port),
             output: BytesMut::new(alloc),
         }
+    }
+
+    pub(crate) fn conversation(&self) -> &Conversation
+        ensures { result.now ≡ self.now.conversation }
+    {
+        &self.conversation
     }
 
     pub(crate) fn is_ended(&self) -> bool
@@ -75,19 +74,18 @@ impl Connection {
     pub(crate) fn act(
         &mut self,
         alloc: Global,
-        pages: &Pages<'_>,
+        world: &World<'_>,
         decision: &Decision,
         front: &Cut<'_>,
     ) -> Result<(), AllocError>
-        requires head { length (head_of (front_shown front.now)) ≤ 128 }
-        requires named { NamesHost decision.now (host_in (front_shown front.now)) }
+        requires { length (head_of (front_shown front.now)) ≤ 128 }
         ensures acted { let found = front_shown front.now in
-            OnOk result (self.new ≡ acted (pages_in pages.now) decision.now found self.old) }
+            OnOk result (self.new ≡ acted (world_in world.now) decision.now found self.old) }
         ensures err { OnErr result (self.new ≡ self.old) }
     {
         perform(
             alloc,
-            pages,
+            world,
             &mut self.conversation.session,
             &mut self.output,
             decision,
@@ -95,11 +93,11 @@ impl Connection {
         )
     }
 
-    /// Ends it where this ends it.
-    pub(crate) fn settle(&mut self, ending: &Ending)
-        ensures { self.new ≡ settled ending.now self.old }
+    /// Ends it where this ends it, with these controllers, by their identifiers.
+    pub(crate) fn settle(&mut self, ending: &Ending, gone: &[bool])
+        ensures { self.new ≡ settled ending.now (is_gone gone.now) self.old }
     {
-        if ending.ends(&self.conversation) {
+        if ending.ends(gone, &self.conversation) {
             self.conversation.session = Session::Ended;
         }
     }

@@ -1,6 +1,7 @@
 //! The state machine of an NVMe over TCP target: bytes and edits come in by calls, and the PDUs
-//! that it owes go out by `output` and `taken`. Nothing in it waits, reads a clock or a socket. It
-//! serves discovery controllers on up to 64 connections, with edits between their PDUs.
+//! that it owes go out by `output` and `taken`. Nothing in it waits, reads a clock or a socket: the
+//! caller hands in the time by `tick`. It serves discovery and I/O controllers on up to 64
+//! connections, with edits between their PDUs.
 //!
 //! A caller with a connection's bytes does this:
 //!
@@ -18,6 +19,7 @@
 #![tactic(auto)]
 
 mod connection;
+mod controllers;
 mod fault;
 mod settle;
 mod stream;

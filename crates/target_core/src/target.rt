@@ -5,38 +5,42 @@ ghost use Rattle.std.specs.Option.{option_copied};
 ghost use Rattle.number_table.specs.Table.{place};
 ghost use Rattle.config_rules.specs.Accept.{accept};
 ghost use Rattle.config_rules.specs.Configuration.{are_disks, disks_alone};
-ghost use Rattle.target_core.specs.Agreement.{Agrees, EditAgrees, EndAgrees, EndedAgrees, OpenAgrees, ReceiveAgrees, StepAgrees, TakenAgrees, nothing};
+ghost use Rattle.target_core.specs.Agreement.{Agrees, AgreesAfter, EditAgrees, EndAgrees, EndedAgrees, OpenAgrees, ReceiveAgrees, StepAgrees, TakenAgrees, nothing};
 ghost use Rattle.pdu_cut.specs.Cut.{front_shown};
 ghost use Rattle.target_core.specs.Connection.{acted};
 ghost use Rattle.target_core.specs.Moves.{ActedAt, CanConsume, Moves, StepsAt, stepped_by};
-ghost use Rattle.target_decision.specs.Decision.{decide, head_of, host_in, is_end};
-ghost use Rattle.target_decision.specs.Session.{NamesHost};
-ghost use Rattle.target_decision.specs.World.{connections_max, pages_in};
-ghost use Rattle.target_core.specs.Target.{free_number, is_ended_at, is_incomplete, open_fault, output_at, room_at, without_connection, world_of, IsNewTarget, ReceivesAt, TakenAt};
-ghost use Rattle.target_history.specs.Event.{edited, given_up, opened};
+ghost use Rattle.target_decision.specs.Begin.{NamesWell, row_decided};
+ghost use Rattle.target_decision.specs.Decision.{head_of, is_end};
+ghost use Rattle.target_decision.specs.World.{connections_max, world_in};
+ghost use Rattle.target_core.specs.Target.{free_number, is_ended_at, is_incomplete, open_fault, output_at, room_at, IsNewTarget, ReceivesAt, TakenAt};
+ghost use Rattle.target_history.specs.Event.{edited, given_up, opened, ticked};
 
 use crate::connection::Connection;
+use crate::controllers::{ControllerTables, change_of};
 use crate::fault::{NoConn, OpenFault, StepFault, Stepped};
-use crate::settle::end_connections;
+use crate::settle::settle;
 use crate::stream::Stream;
 use crate::views::Views;
+use fabrics_connect::Row;
 use number_table::NumberTable;
 use nvt_config::{Config, Edit, EditFault, NewFault};
 use pdu_cut::Cut;
 use std::alloc::{AllocError, Global};
 use std::marker::Model;
-use target_decision::{CONNECTIONS_MAX, Converses, Decision, Pages, World, consumed_of, decide};
+use target_decision::{CONNECTIONS_MAX, Decision, World, consumed_of, decide, new_row};
 use target_history::Ending;
 
 /// A target. It serves up to 64 connections, each by the least number that was free when it was
-/// opened.
+/// opened, and up to 32 controllers.
 #[derive(Drop)]
 pub struct Target {
     alloc: Global,
     config: Config,
     views: Views,
+    clock: u64,
     streams: NumberTable<Stream>,
     connections: NumberTable<Connection>,
+    controllers: ControllerTables,
 }
 
 impl Model for Target {
@@ -48,16 +52,14 @@ impl Model for Target {
     ghost view = { λ t. record {
       config = t.config;
       shown = shown_by t.views;
+      clock = t.clock;
       streams = t.streams;
       connections = t.connections;
+      rows = t.controllers.rows;
+      controllers = t.controllers.own;
     } };
 
-    ghost invariant = { λ t. IsTarget (record {
-      config = t.config;
-      shown = shown_by t.views;
-      streams = t.streams;
-      connections = t.connections;
-    }) };
+    ghost invariant = { λ t. IsTarget t.streams t.connections };
 }
 
 // What each call promises is in two parts: what becomes of the target's own state, exactly, and that
@@ -168,16 +170,25 @@ impl Target {
         self.is_ended(k)
     }
 
-    /// Gives the connection up, with all that is its own. Its number is free again. A number that is
-    /// not known changes nothing.
+    /// Gives the connection up, with all that is its own: as an admin queue its controller too, whose
+    /// I/O connections end. Its number is free again. A number that is not known changes nothing.
     #[tactic(auto, using(crate::proofs::Calls::end_keeps))]
     pub fn end(&mut self, k: usize)
-        ensures without { self.new ≡ without_connection self.old k }
         ensures moves { MatchOption (place self.old.connections k) (self.new ≡ self.old)
             (λ c. Moves (given_up k) self.old self.new) }
         ensures agrees { EndAgrees k self.old self.new }
     {
         self.give_up(k);
+    }
+
+    /// Sets the clock, in ms, which never goes back, and ends each controller whose Keep Alive Timer
+    /// has run out.
+    #[tactic(auto, using(crate::proofs::Agreements::moves_agree))]
+    pub fn tick(&mut self, now_ms: u64)
+        ensures moves { Moves (ticked now_ms) self.old self.new }
+        ensures agrees { AgreesAfter (ticked now_ms) self.old self.new }
+    {
+        self.set_clock(now_ms);
     }
 
     fn over(alloc: Global, config: Config) -> Result<Target, AllocError>
@@ -186,8 +197,10 @@ impl Target {
         Ok(Target {
             alloc,
             views: Views::new(alloc, &config)?,
+            clock: 0,
             streams: NumberTable::new(alloc, CONNECTIONS_MAX)?,
             connections: NumberTable::new(alloc, CONNECTIONS_MAX)?,
+            controllers: ControllerTables::new(alloc)?,
             config,
         })
     }
@@ -205,7 +218,12 @@ impl Target {
         let change = self.config.prepare(edit)?;
         self.config.commit(change);
         self.views.commit(plans);
-        end_connections(&mut self.connections, &Ending::of_edit(edit));
+        settle(
+            &mut self.connections,
+            &mut self.controllers,
+            &self.config,
+            &Ending::of_edit(edit),
+        );
         Ok(())
     }
 
@@ -277,19 +295,29 @@ impl Target {
         if is_incomplete(&front) {
             return Ok(Stepped::Idle);
         }
+        let before = *connection.conversation();
         let pages = self.views.pages();
-        let decision = decide_on(&pages, &self.connections, connection, &front);
+        let world = self.controllers.world(&pages, &self.config);
+        let decision = decide(&world, &before, &front);
         let len = consumed_of(&front);
         match act(
             &mut self.connections,
             k,
             self.alloc,
-            &pages,
+            &world,
             &decision,
             &front,
         ) {
-            Ok(()) => {
+            Ok(row) => {
                 consume(&mut self.streams, k, len);
+                settle(
+                    &mut self.connections,
+                    &mut self.controllers,
+                    &self.config,
+                    &Ending::of_decision(&before.session, &decision),
+                );
+                self.controllers
+                    .change(self.clock, &change_of(&decision), row);
                 Ok(stepped(&decision))
             }
             Err(AllocError) => Err(StepFault::Memory),
@@ -306,14 +334,34 @@ impl Target {
         }
     }
 
-    #[tactic(auto, using(crate::proofs::Places::end_is_target, crate::proofs::Calls::gives_up))]
     fn give_up(&mut self, k: usize)
-        ensures without { self.new ≡ without_connection self.old k }
-        ensures moves { MatchOption (place self.old.connections k) (self.new ≡ self.old)
+        ensures { MatchOption (place self.old.connections k) (self.new ≡ self.old)
             (λ c. Moves (given_up k) self.old self.new) }
     {
+        let Some(connection) = self.connections.get(k) else {
+            return;
+        };
+        let ending = Ending::of_loss(&connection.conversation().session);
+        settle(
+            &mut self.connections,
+            &mut self.controllers,
+            &self.config,
+            &ending,
+        );
         drop(self.streams.remove(k));
         drop(self.connections.remove(k));
+    }
+
+    fn set_clock(&mut self, now_ms: u64)
+        ensures { Moves (ticked now_ms) self.old self.new }
+    {
+        self.clock = self.clock.max(now_ms);
+        settle(
+            &mut self.connections,
+            &mut self.controllers,
+            &self.config,
+            &Ending::Clock(self.clock),
+        );
     }
 }
 
@@ -332,40 +380,30 @@ fn is_incomplete(front: &Cut<'_>) -> bool
     matches!(front, Cut::More)
 }
 
-// What is owed to this front of a connection's stream, in the world of these pages and connections.
-fn decide_on(
-    pages: &Pages<'_>,
-    connections: &NumberTable<Connection>,
-    connection: &Connection,
-    front: &Cut<'_>,
-) -> Decision
-    ensures decision { let w = world_of (pages_in pages.now) connections.now in
-        result ≡ decide w connection.now.conversation (front_shown front.now) }
-    ensures named { NamesHost result (host_in (front_shown front.now)) }
-{
-    let world = World { pages, connections };
-    decide(&world, connection.conversation(), front)
-}
-
-// Does what was decided to its own connection, where that is known.
+// Does what was decided to its own connection, where that is known, and makes the row of the
+// controller that it begins.
 fn act(
     connections: &mut NumberTable<Connection>,
     k: usize,
     alloc: Global,
-    pages: &Pages<'_>,
+    world: &World<'_>,
     decision: &Decision,
     front: &Cut<'_>,
-) -> Result<(), AllocError>
+) -> Result<Option<Row>, AllocError>
     requires head { length (head_of (front_shown front.now)) ≤ 128 }
-    requires named { NamesHost decision.now (host_in (front_shown front.now)) }
-    ensures acted { let f = acted (pages_in pages.now) decision.now (front_shown front.now) in
+    requires named { NamesWell decision.now (front_shown front.now) }
+    ensures acted { let f = acted (world_in world.now) decision.now (front_shown front.now) in
         OnOk result (ActedAt k f (place connections.old k) connections.old connections.new) }
+    ensures row { IfOk result (λ row. MatchOption (place connections.old k) (row ≡ None)
+        (λ c. row ≡ row_decided decision.now c.conversation.port (front_shown front.now))) }
     ensures err { OnErr result (connections.new ≡ connections.old) }
 {
-    match connections.get_mut(k) {
-        Some(connection) => connection.act(alloc, pages, decision, front),
-        None => Ok(()),
-    }
+    let Some(connection) = connections.get_mut(k) else {
+        return Ok(None);
+    };
+    let row = new_row(alloc, connection.conversation().port, decision, front)?;
+    connection.act(alloc, world, decision, front)?;
+    Ok(row)
 }
 
 // Takes the first `len` bytes of its own stream, where that is known.

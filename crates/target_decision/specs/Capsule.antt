@@ -1,86 +1,136 @@
 -- A command capsule, by its submission queue entry and the data that it brings (Base 2.0, sections 5
 -- and 6).
-use Rattle.std.specs.Prelude.{ℕ, not, ◌==◌, ◌&&◌, List, None, Result, Ok, Err, if◌then◌else◌}
+use Rattle.std.specs.Prelude.{ℕ, Bool, false, not, ◌==◌, ◌&&◌, List, Option, Some, None, Result, Ok, Err, if◌then◌else◌}
+use Rattle.fabrics_connect.specs.declared.row.Row.{Row}
 use Rattle.nvt_fields.specs.declared.status.Status.{Status}
 use Rattle.nvt_fields.specs.Status.{success, invalid_opcode, invalid_field, command_sequence_error}
+use Rattle.pdu_codec.specs.declared.command.Property.{Property}
 use Rattle.pdu_codec.specs.Sqe.{opcode_of, fuse_of, fctype_of, property_of}
-use Rattle.target_decision.specs.declared.controller.Controller.{Controller}
+use Rattle.property_regs.specs.declared.regs.InvalidField.{InvalidField}
+use Rattle.property_regs.specs.declared.regs.Regs.{Regs}
+use Rattle.property_regs.specs.declared.regs.Change.{Change as RegsChange}
+use Rattle.property_regs.specs.Regs.{property_get, property_set}
 use Rattle.target_decision.specs.declared.decision.Change.{Change}
 use Rattle.target_decision.specs.declared.decision.Change.TheVariants as change
 use Rattle.target_decision.specs.declared.decision.Reply.{Reply}
-use Rattle.target_decision.specs.declared.registers.Registers.{Registers}
+use Rattle.target_decision.specs.declared.session.Conversation.{Conversation}
+use Rattle.target_decision.specs.declared.session.Role.{Role}
+use Rattle.target_decision.specs.declared.session.Role.TheVariants.{Admin, Io}
 use Rattle.target_decision.specs.declared.session.Session.{Session}
-use Rattle.target_decision.specs.declared.session.Session.TheVariants.{Opened, Initialized, Admin, Ended}
-use Rattle.target_decision.specs.Connect.{connect}
-use Rattle.target_decision.specs.Controllers.{free_cntlid}
+use Rattle.target_decision.specs.declared.session.Session.TheVariants.{Opened, Initialized, Connected, Ended}
+use Rattle.target_decision.specs.Connect.{connect_on}
+use Rattle.target_decision.specs.Controller.{registers_at}
 use Rattle.target_decision.specs.LogPage.{get_log_page}
 use Rattle.target_decision.specs.Outcome.{Outcome, done, refuse, refused}
 use Rattle.target_decision.specs.Queue.{next_head, next_head_of}
-use Rattle.target_decision.specs.Registers.{is_ready, property_get, property_set}
 use Rattle.target_decision.specs.World.{Pages, World}
 
--- the opcode of all Fabrics commands, and the type of a Connect
+-- the opcode of all Fabrics commands, and their types
 abbrev pub fabrics_opcode : ℕ
 fabrics_opcode = 0x7F
+
+abbrev pub property_set_type : ℕ
+property_set_type = 0x00
 
 abbrev pub connect_type : ℕ
 connect_type = 0x01
 
--- what a command comes to that gives this value, or has this status
-abbrev pub given_by : Result ℕ Status → Outcome
+abbrev pub property_get_type : ℕ
+property_get_type = 0x04
+
+-- ---- on an admin queue
+
+-- what a Property Get comes to that gives this value, or is refused
+abbrev pub given_by : Result ℕ InvalidField → Outcome
 given_by (Ok value) = done value change.Stay
-given_by (Err status) = refused status
+given_by (Err fault) = refused invalid_field
 
-abbrev pub set_by : Result ℕ Status → Outcome
-set_by (Ok cc) = done 0 (change.Configure cc)
-set_by (Err status) = refused status
+-- .. and a Property Set that has this effect
+abbrev pub set_by : Result RegsChange InvalidField → ℕ → Property → Outcome
+set_by (Ok effect) cntlid property = done 0 (change.Configure (record { cntlid = cntlid; property = property; effect = effect }))
+set_by (Err fault) cntlid property = refused invalid_field
 
--- Fabrics commands on an admin queue, by their type: a second Connect is out of sequence
-abbrev pub fabrics_command : Registers → List ℕ → Outcome
-fabrics_command registers entry =
-    if fctype_of entry == 0x00 then set_by (property_set (property_of entry)) else
+abbrev pub property_get_of : Regs → Property → Outcome
+property_get_of registers p = given_by (property_get registers p.ofst p.attrib)
+
+abbrev pub property_set_of : Regs → ℕ → Property → Outcome
+property_set_of registers cntlid p = set_by (property_set registers p.ofst p.attrib p.value) cntlid p
+
+-- Fabrics commands on the admin queue of a controller with these properties, by their type: a second
+-- Connect is out of sequence
+abbrev pub fabrics_command : Regs → ℕ → List ℕ → Outcome
+fabrics_command registers cntlid entry =
+    if fctype_of entry == property_set_type then property_set_of registers cntlid (property_of entry) else
     if fctype_of entry == connect_type then refused command_sequence_error else
-    if fctype_of entry == 0x04 then given_by (property_get registers (property_of entry)) else
+    if fctype_of entry == property_get_type then property_get_of registers (property_of entry) else
     refused invalid_field
 
--- admin commands of a ready controller, by their opcode
-abbrev pub admin_command : Pages → List ℕ → List ℕ → Outcome
-admin_command pages host entry =
-    if opcode_of entry == 0x02 then get_log_page pages host entry else refused invalid_opcode
+-- admin commands of a ready controller, by their opcode: Get Log Page and Keep Alive
+abbrev pub admin_command : Pages → Row → ℕ → List ℕ → Outcome
+admin_command pages row cntlid entry =
+    if opcode_of entry == 0x02 then get_log_page pages row entry else
+    if opcode_of entry == 0x18 then done 0 (change.KeepAlive cntlid) else refused invalid_opcode
 
--- a command on a controller's admin queue
-abbrev pub queue_command : Pages → Controller → List ℕ → Outcome
-queue_command pages controller entry =
-    if opcode_of entry == fabrics_opcode then fabrics_command controller.registers entry else
-    refuse (not (is_ready controller.registers)) command_sequence_error (admin_command pages controller.host entry)
+-- .. of any controller
+abbrev pub admin_at : Pages → Option Row → ℕ → List ℕ → Outcome
+admin_at pages None cntlid entry = refused command_sequence_error
+admin_at pages (Some row) cntlid entry =
+    refuse (not row.ready) command_sequence_error (admin_command pages row cntlid entry)
+
+abbrev pub on_admin_queue : World → ℕ → List ℕ → Outcome
+on_admin_queue w cntlid entry =
+    if opcode_of entry == fabrics_opcode then fabrics_command (registers_at (w.controller cntlid)) cntlid entry else
+    admin_at w.pages (w.row cntlid) cntlid entry
+
+-- ---- on an I/O queue
+
+abbrev pub is_ready_at : Option Row → Bool
+is_ready_at None = false
+is_ready_at (Some row) = row.ready
+
+-- a second Connect is out of sequence, and no other Fabrics command is for an I/O queue; until disks are
+-- built no I/O command is known
+abbrev pub on_io_queue : World → ℕ → List ℕ → Outcome
+on_io_queue w cntlid entry =
+    if opcode_of entry == fabrics_opcode
+    then (if fctype_of entry == connect_type then refused command_sequence_error else refused invalid_field)
+    else refuse (not (is_ready_at (w.row cntlid))) command_sequence_error (refused invalid_opcode)
+
+-- ---- on any connection
 
 -- a command on a connection that has no queue yet
-abbrev pub first_command : World → List ℕ → List ℕ → Outcome
-first_command w entry bytes =
+abbrev pub first_command : World → ℕ → List ℕ → List ℕ → Outcome
+first_command w port entry bytes =
     if (opcode_of entry == fabrics_opcode) && (fctype_of entry == connect_type)
-    then connect (free_cntlid w.conversation) entry bytes else refused command_sequence_error
+    then connect_on w port entry bytes else refused command_sequence_error
 
-abbrev pub command_in : World → Session → List ℕ → List ℕ → Outcome
-command_in w (Admin controller queue) entry bytes = queue_command w.pages controller entry
-command_in w Opened entry bytes = first_command w entry bytes
-command_in w Initialized entry bytes = first_command w entry bytes
-command_in w Ended entry bytes = first_command w entry bytes
+abbrev pub queue_command : World → Role → List ℕ → Outcome
+queue_command w (Admin cntlid) entry = on_admin_queue w cntlid entry
+queue_command w (Io cntlid qid) entry = on_io_queue w cntlid entry
+
+abbrev pub command_in : World → ℕ → Session → List ℕ → List ℕ → Outcome
+command_in w port (Connected role queue) entry bytes = queue_command w role entry
+command_in w port Opened entry bytes = first_command w port entry bytes
+command_in w port Initialized entry bytes = first_command w port entry bytes
+command_in w port Ended entry bytes = first_command w port entry bytes
 
 -- what a command comes to, by its entry and the data in its capsule
-abbrev pub command : World → Session → List ℕ → List ℕ → Outcome
-command w session entry bytes = refuse (not (fuse_of entry == 0)) invalid_field (command_in w session entry bytes)
+abbrev pub command : World → Conversation → List ℕ → List ℕ → Outcome
+command w v entry bytes = refuse (not (fuse_of entry == 0)) invalid_field (command_in w v.port v.session entry bytes)
 
 abbrev pub head_counted : Session → ℕ
 head_counted Opened = 0
 head_counted Initialized = 0
-head_counted (Admin controller queue) = next_head_of queue
+head_counted (Connected role queue) = next_head_of queue
 head_counted Ended = 0
 
 -- the submission queue head that a response carries: a connection without a queue has none, and 0 is sent
 abbrev pub head_after : Session → Change → ℕ
-head_after session (change.Begin a) = next_head a.sqsize 0
+head_after session (change.Begin b) = next_head b.sqsize 0
+head_after session (change.Join j) = next_head j.sqsize 0
 head_after session change.Stay = head_counted session
-head_after session (change.Configure cc) = head_counted session
+head_after session (change.Configure s) = head_counted session
+head_after session (change.KeepAlive cntlid) = head_counted session
 
 abbrev pub reply_of : Session → ℕ → Outcome → Reply
 reply_of session cid (Ok s) =

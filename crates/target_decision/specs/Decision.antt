@@ -1,5 +1,6 @@
 -- What is owed to a PDU, and what a decision sends.
 use Rattle.std.specs.Prelude.{ℕ, ◌*◌, nat_lt, not, ◌==◌, List, [], ◌++◌, length, Option, Some, None, Bool, true, false, if◌then◌else◌}
+use Rattle.fabrics_connect.specs.declared.row.Row.{Row}
 use Rattle.nvt_fields.specs.FatalErrorStatus.{fatal_code_of}
 use Rattle.nvt_fields.specs.declared.pdu_type.PduType.{PduType}
 use Rattle.nvt_fields.specs.declared.pdu_type.PduType.TheVariants.{IcReq, H2cTermReq, CapsuleCmd, H2cData}
@@ -19,11 +20,11 @@ use Rattle.target_decision.specs.declared.decision.Decision.TheVariants as decis
 use Rattle.target_decision.specs.declared.decision.Reply.{Reply}
 use Rattle.target_decision.specs.declared.page.PagePart.{PagePart}
 use Rattle.target_decision.specs.declared.session.Conversation.{Conversation}
+use Rattle.target_decision.specs.declared.session.Role.{Role}
+use Rattle.target_decision.specs.declared.session.Role.TheVariants.{Admin, Io}
 use Rattle.target_decision.specs.declared.session.Session.{Session}
-use Rattle.target_decision.specs.declared.session.Session.TheVariants.{Opened, Initialized, Admin, Ended}
+use Rattle.target_decision.specs.declared.session.Session.TheVariants.{Opened, Initialized, Connected, Ended}
 use Rattle.target_decision.specs.Capsule.{command, reply_of}
-use Rattle.target_decision.specs.Connect.{host_named}
-use Rattle.target_decision.specs.Session.{host_of}
 use Rattle.target_decision.specs.World.{Pages, World, page_named}
 
 -- ---- what is owed to a PDU (TCP Transport 1.0, section 3.6; Base 2.0, sections 5 and 6)
@@ -48,29 +49,32 @@ abbrev pub entry_of : Pdu → List ℕ
 entry_of pdu = entry_in (header_part pdu)
 
 -- a capsule, with at most 8,192 bytes of data
-abbrev pub capsule : World → Session → Pdu → Decision
-capsule w session pdu =
+abbrev pub capsule : World → Conversation → Pdu → Decision
+capsule w v pdu =
     if nat_lt 8192 (length (data_part pdu)) then terminate LimitExceeded 0 else
-    decision.Reply (reply_of session (cid_of (entry_of pdu)) (command w session (entry_of pdu) (data_part pdu)))
+    decision.Reply (reply_of v.session (cid_of (entry_of pdu)) (command w v (entry_of pdu) (data_part pdu)))
 
 -- a PDU after the first; no command that is built asks for data, so no H2CData has a known TTAG
-abbrev pub next_by : PduType → World → Session → Pdu → Decision
-next_by H2cTermReq w session pdu = decision.Close
-next_by CapsuleCmd w session pdu = capsule w session pdu
-next_by H2cData w session pdu = terminate InvalidHeaderField 10
-next_by _ w session pdu = terminate SequenceError 0
+abbrev pub next_by : PduType → World → Conversation → Pdu → Decision
+next_by H2cTermReq w v pdu = decision.Close
+next_by CapsuleCmd w v pdu = capsule w v pdu
+next_by H2cData w v pdu = terminate InvalidHeaderField 10
+next_by _ w v pdu = terminate SequenceError 0
 
--- a whole PDU
-abbrev pub decide_pdu : World → Session → Pdu → Decision
-decide_pdu w Opened pdu = first_by pdu.kind pdu
-decide_pdu w Initialized pdu = next_by pdu.kind w Initialized pdu
-decide_pdu w (Admin controller queue) pdu = next_by pdu.kind w (Admin controller queue) pdu
-decide_pdu w Ended pdu = decision.Close
+-- a whole PDU, in a session
+abbrev pub decide_in : Session → World → Conversation → Pdu → Decision
+decide_in Opened w v pdu = first_by pdu.kind pdu
+decide_in Initialized w v pdu = next_by pdu.kind w v pdu
+decide_in (Connected role queue) w v pdu = next_by pdu.kind w v pdu
+decide_in Ended w v pdu = decision.Close
+
+abbrev pub decide_pdu : World → Conversation → Pdu → Decision
+decide_pdu w v pdu = decide_in v.session w v pdu
 
 -- what stands at the front of a connection's stream
 abbrev pub decide : World → Conversation → Front → Decision
 decide w v incomplete = decision.Close
-decide w v (whole pdu) = decide_pdu w v.session pdu
+decide w v (whole pdu) = decide_pdu w v pdu
 decide w v (faulty fault head) = terminate fault.fes fault.fei
 
 -- whether a decision ends the connection
@@ -87,12 +91,28 @@ abbrev pub part_of : Pages → List ℕ → Option PagePart → List ℕ
 part_of pages host None = []
 part_of pages host (Some part) = window (page_named part.page pages host) part.offset (4 * part.dwords)
 
+-- the name of a controller's host
+abbrev pub host_at : Option Row → List ℕ
+host_at None = []
+host_at (Some row) = row.host
+
+abbrev pub host_of_role : World → Role → List ℕ
+host_of_role w (Admin cntlid) = host_at (w.row cntlid)
+host_of_role w (Io cntlid qid) = host_at (w.row cntlid)
+
+-- the name of the host that has a controller here
+abbrev pub host_of : World → Session → List ℕ
+host_of w Opened = []
+host_of w Initialized = []
+host_of w (Connected role queue) = host_of_role w role
+host_of w Ended = []
+
 -- the data that a decision returns in a session
-abbrev pub data_of : Pages → Session → Decision → List ℕ
-data_of pages session (decision.Reply r) = part_of pages (host_of session) r.«data»
-data_of pages session decision.Initialize = []
-data_of pages session (decision.Terminate t) = []
-data_of pages session decision.Close = []
+abbrev pub data_of : World → Session → Decision → List ℕ
+data_of w session (decision.Reply r) = part_of w.pages (host_of w session) r.«data»
+data_of w session decision.Initialize = []
+data_of w session (decision.Terminate t) = []
+data_of w session decision.Close = []
 
 -- the data of a reply, whole in one PDU, where it has data
 abbrev pub data_pdu : ℕ → Option PagePart → List ℕ → List ℕ
@@ -117,20 +137,10 @@ head_of (whole pdu) = header_part pdu
 head_of (faulty fault head) = head
 
 -- the bytes that a decision sends in a session, on what stands at the front
-abbrev pub sent_by : Pages → Session → Decision → Front → List ℕ
-sent_by pages session d front = wire_of d (head_of front) (data_of pages session d)
+abbrev pub sent_by : World → Session → Decision → Front → List ℕ
+sent_by w session d front = wire_of d (head_of front) (data_of w session d)
 
 -- ---- what else a step does with the front
-
-abbrev pub is_command : PduType → Bool
-is_command CapsuleCmd = true
-is_command _ = false
-
--- the host that a capsule names, where it is a Connect
-abbrev pub host_in : Front → List ℕ
-host_in (whole pdu) = if is_command pdu.kind then host_named (entry_of pdu) (data_part pdu) else []
-host_in incomplete = []
-host_in (faulty fault head) = []
 
 -- how many bytes a step consumes: the PDU at the front
 abbrev pub consumed_of : Front → ℕ

@@ -1,11 +1,10 @@
+pub mod Begin
 pub mod Capsule
 pub mod Connect
 pub mod Controller
-pub mod Controllers
 pub mod Decision
 pub mod LogPage
 pub mod Outcome
 pub mod Queue
-pub mod Registers
 pub mod Session
 pub mod World

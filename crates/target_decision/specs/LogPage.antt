@@ -1,5 +1,6 @@
 -- Get Log Page (Base 2.0, section 5.16).
 use Rattle.std.specs.Prelude.{ℕ, ◌+◌, ◌*◌, ◌%◌, Bool, true, false, not, ◌==◌, ◌||◌, nat_lt, List, length, Option, Some, None, Ok, if◌then◌else◌}
+use Rattle.fabrics_connect.specs.declared.row.Row.{Row}
 use Rattle.nvt_fields.specs.Status.{invalid_field, invalid_log_page, sgl_type_invalid, data_sgl_length_invalid}
 use Rattle.pdu_codec.specs.declared.sgl.SglType.{SglType}
 use Rattle.pdu_codec.specs.declared.sgl.SglType.TheVariants.{CapsuleOffset, Transport, Other}
@@ -15,9 +16,11 @@ is_transport CapsuleOffset = false
 is_transport Transport = true
 is_transport Other = false
 
--- the page that a log identifier names
-abbrev pub page_of_lid : ℕ → Option Page
-page_of_lid lid = if lid == 0x70 then Some Discovery else None
+-- the page that a log identifier names on a discovery controller, which has no subsystem; no page of an I/O
+-- controller is built
+abbrev pub page_of_lid : Option (List ℕ) → ℕ → Option Page
+page_of_lid None lid = if lid == 0x70 then Some Discovery else None
+page_of_lid (Some subsystem) lid = None
 
 -- what a read of this page comes to, where these are its bytes: it may begin up to the page's end
 abbrev pub read_page : Page → List ℕ → List ℕ → Outcome
@@ -38,6 +41,6 @@ abbrev pub read_known : Option Page → Pages → List ℕ → List ℕ → Outc
 read_known None pages host entry = refused invalid_log_page
 read_known (Some page) pages host entry = read_page page (page_named page pages host) entry
 
--- what a read of a log page of this host comes to
-abbrev pub get_log_page : Pages → List ℕ → List ℕ → Outcome
-get_log_page pages host entry = read_known (page_of_lid (get_log_page_of entry).lid) pages host entry
+-- what a read of a log page of the controller of this row comes to
+abbrev pub get_log_page : Pages → Row → List ℕ → Outcome
+get_log_page pages row entry = read_known (page_of_lid row.subsystem (get_log_page_of entry).lid) pages row.host entry

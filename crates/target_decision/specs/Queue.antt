@@ -1,11 +1,10 @@
--- The submission queue that a Connect made (Base 2.0, section 3.3.3.2).
+-- A submission queue (Base 2.0, section 3.3.3.2).
 use Rattle.std.specs.Prelude.{ℕ, ◌+◌, nat_le, if◌then◌else◌}
-use Rattle.target_decision.specs.declared.decision.Admission.{Admission}
 use Rattle.target_decision.specs.declared.queue.Queue.{Queue}
 
 -- the queue before the response to its Connect
-abbrev pub new_queue : Admission → Queue
-new_queue a = record { sqsize = a.sqsize; head = 0 }
+abbrev pub new_queue : ℕ → Queue
+new_queue sqsize = record { sqsize = sqsize; head = 0 }
 
 -- the submission queue head after one more response: it goes round behind the queue's size
 abbrev pub next_head : ℕ → ℕ → ℕ

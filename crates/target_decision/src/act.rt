@@ -1,54 +1,92 @@
 //! What follows from a decision on its own connection: its PDUs are sent, and the session moves.
 ghost use Rattle.std.specs.Prelude.{◌≡◌, ◌≤◌, ◌++◌, IfOk, OnErr, OnOk, length};
-ghost use Rattle.nvt_fields.specs.Name.{IsName};
 ghost use Rattle.pdu_cut.specs.Cut.{front_shown};
-ghost use Rattle.target_decision.specs.Decision.{head_of, host_in, sent_by, consumed_of};
-ghost use Rattle.target_decision.specs.Session.{NamesHost, move_begun, move_of, session_after};
-ghost use Rattle.target_decision.specs.World.{pages_in};
+ghost use Rattle.pdu_cut.specs.Front.{whole};
+ghost use Rattle.fabrics_connect.specs.Row.{row_begun};
+ghost use Rattle.pdu_cut.specs.Pdu.{data_part};
+ghost use Rattle.target_decision.specs.Begin.{NamesIn, NamesWell, row_decided};
+ghost use Rattle.target_decision.specs.Decision.{consumed_of, entry_of, head_of, host_of, host_of_role, sent_by};
+ghost use Rattle.target_decision.specs.Session.{session_after};
+ghost use Rattle.target_decision.specs.World.{world_in};
 
-use crate::capsule::host_name;
-use crate::controller::Controller;
-use crate::decision::{Admission, Change, Decision};
+use crate::decision::{Change, Decision};
 use crate::page;
-use crate::queue::Queue;
-use crate::session::{Session, SessionMove};
+use crate::session::{Role, Session};
 use crate::wire::{self, WIRE_MAX};
-use crate::world::Pages;
+use crate::world::World;
 use bytes::BytesMut;
-use nvt_fields::{Nqn, NqnFault};
-use pdu_cut::Cut;
+use fabrics_connect::{Connect, NewController, Row};
+use pdu_codec::Sqe;
+use pdu_cut::{Cut, PduView};
 use std::alloc::{AllocError, Global};
 
 /// Sends what the decision on this front owes in the session, and moves the session. All growth
 /// comes first: want of memory changes nothing.
 pub fn perform(
     alloc: Global,
-    pages: &Pages<'_>,
+    world: &World<'_>,
     session: &mut Session,
     output: &mut BytesMut,
     decision: &Decision,
     front: &Cut<'_>,
 ) -> Result<(), AllocError>
-    requires head { length (head_of (front_shown front.now)) ≤ 128 }
-    requires named { NamesHost decision.now (host_in (front_shown front.now)) }
-    ensures session { let host = host_in (front_shown front.now) in
-        OnOk result (session.new ≡ session_after session.old decision.now host) }
+    requires { length (head_of (front_shown front.now)) ≤ 128 }
+    ensures session { OnOk result (session.new ≡ session_after session.old decision.now) }
     ensures output { let found = front_shown front.now in
-        let sent = sent_by (pages_in pages.now) session.old decision.now found in
+        let sent = sent_by (world_in world.now) session.old decision.now found in
         OnOk result (output.new.items ≡ output.old.items ++ sent) }
     ensures err { OnErr result
         ((session.new ≡ session.old) × (output.new.items ≡ output.old.items)) }
 {
     let head = head_of(front);
     let data = match decision {
-        Decision::Reply(reply) => page::data(alloc, pages, session.host(), &reply.data)?,
+        Decision::Reply(reply) => {
+            page::data(alloc, world.pages, host_of(world, session), &reply.data)?
+        }
         _ => BytesMut::new(alloc),
     };
-    let move_made = move_of(alloc, decision, host_in(front))?;
     output.reserve(WIRE_MAX + head.len() + data.len())?;
     wire::write(output, decision, head, data.as_slice());
-    session.go(move_made);
+    session.turn(decision);
     Ok(())
+}
+
+/// The row of the controller that a decision on this front, on this port, begins, where it begins
+/// one.
+pub fn new_row(
+    alloc: Global,
+    port: u16,
+    decision: &Decision,
+    front: &Cut<'_>,
+) -> Result<Option<Row>, AllocError>
+    requires { NamesWell decision.now (front_shown front.now) }
+    ensures { IfOk result (λ row. row ≡ row_decided decision.now port (front_shown front.now)) }
+{
+    let Decision::Reply(reply) = decision else {
+        return Ok(None);
+    };
+    match (&reply.change, front) {
+        (Change::Begin(beginning), Cut::Pdu(pdu)) => {
+            let row = row_in(alloc, port, &beginning.controller, pdu)?;
+            Ok(Some(row))
+        }
+        _ => Ok(None),
+    }
+}
+
+fn row_in(
+    alloc: Global,
+    port: u16,
+    controller: &NewController,
+    pdu: &PduView<'_>,
+) -> Result<Row, AllocError>
+    requires { NamesIn (whole pdu.now) }
+    ensures { IfOk result (λ row.
+        row ≡ row_begun controller.now port (entry_of pdu.now) (data_part pdu.now)) }
+{
+    let header = <&[u8; 72]>::try_from(pdu.header()).unwrap();
+    let sqe = Sqe::read(header);
+    Row::new(alloc, port, &Connect::new(&sqe, pdu.data()), *controller)
 }
 
 /// How many bytes a step consumes of this front: the whole PDU.
@@ -72,46 +110,22 @@ fn head_of<'a>(front: &Cut<'a>) -> &'a [u8]
     }
 }
 
-// The host that a Connect names; of another front no byte.
-fn host_in<'a>(front: &Cut<'a>) -> &'a [u8]
-    ensures { result.now ≡ host_in (front_shown front.now) }
+// The name of the host that has a controller here; no byte where none has.
+fn host_of<'a>(world: &World<'a>, session: &Session) -> &'a [u8]
+    ensures { result.now ≡ host_of (world_in world.now) session.now }
 {
-    match front {
-        Cut::Pdu(pdu) => host_name(pdu),
-        Cut::More | Cut::Fault { .. } => &[],
+    match session {
+        Session::Connected { role, .. } => host_of_role(world, *role),
+        Session::Opened | Session::Initialized | Session::Ended => &[],
     }
 }
 
-// Where a decision leads the session, where the PDU names this host.
-fn move_of(alloc: Global, decision: &Decision, host: &[u8]) -> Result<SessionMove, AllocError>
-    requires { NamesHost decision.now host.now }
-    ensures { IfOk result (λ move. move ≡ move_of decision.now host.now) }
+fn host_of_role<'a>(world: &World<'a>, role: Role) -> &'a [u8]
+    ensures { result.now ≡ host_of_role (world_in world.now) role }
 {
-    match decision {
-        Decision::Initialize => Ok(SessionMove::Initialize),
-        Decision::Reply(reply) => match reply.change {
-            Change::Stay => Ok(SessionMove::Respond),
-            Change::Begin(admission) => begin(alloc, &admission, host),
-            Change::Configure(cc) => Ok(SessionMove::Configure(cc)),
-        },
-        Decision::Terminate(_) | Decision::Close => Ok(SessionMove::End),
-    }
-}
-
-fn begin(alloc: Global, admission: &Admission, host: &[u8]) -> Result<SessionMove, AllocError>
-    requires { IsName host.now }
-    ensures { IfOk result (λ move. move ≡ move_begun admission.now host.now) }
-{
-    match Nqn::read(alloc, host) {
-        Ok(host) => {
-            let mut queue = Queue::new(admission);
-            queue.responded();
-            Ok(SessionMove::Begin {
-                controller: Controller::new(admission, host),
-                queue,
-            })
-        }
-        Err(NqnFault::Memory) => Err(AllocError),
-        Err(NqnFault::TooLong | NqnFault::BadNqn) => unreachable!(),
+    let (Role::Admin { cntlid } | Role::Io { cntlid, .. }) = role;
+    match world.rows.get(cntlid) {
+        Some(row) => row.host.as_bytes(),
+        None => &[],
     }
 }

@@ -1,20 +1,21 @@
 //! A command capsule: the checks that come before its command is looked at.
 ghost use Rattle.std.specs.Prelude.{◌≡◌};
-ghost use Rattle.pdu_cut.specs.Front.{whole};
+ghost use Rattle.std.specs.Option.{option_copied};
 ghost use Rattle.target_decision.specs.Capsule.{command, first_command, queue_command};
+ghost use Rattle.target_decision.specs.Capsule.{is_ready_at, on_admin_queue, on_io_queue};
 ghost use Rattle.target_decision.specs.Capsule.{head_after, reply_of};
-ghost use Rattle.target_decision.specs.Decision.{capsule, host_in};
+ghost use Rattle.target_decision.specs.Decision.{capsule};
 ghost use Rattle.target_decision.specs.Outcome.{done, refused};
-ghost use Rattle.target_decision.specs.World.{pages_in, world_in};
+ghost use Rattle.target_decision.specs.World.{world_in};
 
-use crate::controller::Controller;
 use crate::decision::{Change, Decision, Reply, terminate};
 use crate::fabrics::{CONNECT, FABRICS};
 use crate::page::PagePart;
 use crate::queue::next_head;
-use crate::session::Session;
-use crate::world::{Converses, Pages, World};
+use crate::session::{Conversation, Role, Session};
+use crate::world::World;
 use crate::{admin, connect, fabrics};
+use fabrics_connect::Row;
 use nvt_fields::{FatalErrorStatus, PduType, Status};
 use pdu_codec::Sqe;
 use pdu_cut::PduView;
@@ -41,13 +42,9 @@ pub(crate) struct Refusal {
 }
 
 /// What is owed to a capsule.
-pub(crate) fn decide<T: Converses>(
-    world: &World<'_, T>,
-    session: &Session,
-    pdu: &PduView<'_>,
-) -> Decision
+pub(crate) fn decide(world: &World<'_>, v: &Conversation, pdu: &PduView<'_>) -> Decision
     requires { pdu.now.kind ≡ PduType.CapsuleCmd }
-    ensures { result ≡ capsule (world_in T.conversation_of world.now) session.now pdu.now }
+    ensures { result ≡ capsule (world_in world.now) v.now pdu.now }
 {
     let payload = pdu.data();
     if payload.len() > IN_CAPSULE_MAX {
@@ -55,59 +52,74 @@ pub(crate) fn decide<T: Converses>(
     }
     let header = <&[u8; 72]>::try_from(pdu.header()).unwrap();
     let sqe = Sqe::read(header);
-    let outcome = command(world, session, &sqe, payload);
-    Decision::Reply(reply(session, sqe.cid(), outcome))
+    let outcome = command(world, v, &sqe, payload);
+    Decision::Reply(reply(&v.session, sqe.cid(), outcome))
 }
 
-/// The host that a capsule names, where it is a Connect; of another PDU no byte.
-pub(crate) fn host_name<'a>(pdu: &PduView<'a>) -> &'a [u8]
-    ensures { result.now ≡ host_in (whole pdu.now) }
-{
-    if pdu.kind() != PduType::CapsuleCmd {
-        return &[];
-    }
-    let header = <&[u8; 72]>::try_from(pdu.header()).unwrap();
-    connect::host_name(&Sqe::read(header), pdu.data())
-}
-
-fn command<T: Converses>(
-    world: &World<'_, T>,
-    session: &Session,
-    sqe: &Sqe<'_>,
-    payload: &[u8],
-) -> Outcome
-    ensures { let w = world_in T.conversation_of world.now in
-        result ≡ command w session.now sqe.now.entry.now payload.now }
+fn command(world: &World<'_>, v: &Conversation, sqe: &Sqe<'_>, payload: &[u8]) -> Outcome
+    ensures { result ≡ command (world_in world.now) v.now sqe.now.entry.now payload.now }
 {
     if sqe.fuse() != 0 {
         return refused(Status::INVALID_FIELD);
     }
-    match session {
-        Session::Admin { controller, .. } => on_admin_queue(world.pages, controller, sqe),
-        _ => before_connect(world, sqe, payload),
+    match v.session {
+        Session::Connected { role, .. } => on_queue(world, role, sqe),
+        _ => before_connect(world, v.port, sqe, payload),
     }
 }
 
-fn before_connect<T: Converses>(world: &World<'_, T>, sqe: &Sqe<'_>, payload: &[u8]) -> Outcome
-    ensures { let w = world_in T.conversation_of world.now in
-        result ≡ first_command w sqe.now.entry.now payload.now }
+fn before_connect(world: &World<'_>, port: u16, sqe: &Sqe<'_>, payload: &[u8]) -> Outcome
+    ensures { result ≡ first_command (world_in world.now) port sqe.now.entry.now payload.now }
 {
     if sqe.opcode() == FABRICS && sqe.fctype() == CONNECT {
-        connect::command(world, sqe, payload)
+        connect::command(world, port, sqe, payload)
     } else {
         refused(Status::COMMAND_SEQUENCE_ERROR)
     }
 }
 
-fn on_admin_queue(pages: &Pages<'_>, controller: &Controller, sqe: &Sqe<'_>) -> Outcome
-    ensures { result ≡ queue_command (pages_in pages.now) controller.now sqe.now.entry.now }
+fn on_queue(world: &World<'_>, role: Role, sqe: &Sqe<'_>) -> Outcome
+    ensures { result ≡ queue_command (world_in world.now) role sqe.now.entry.now }
+{
+    match role {
+        Role::Admin { cntlid } => on_admin_queue(world, cntlid, sqe),
+        Role::Io { cntlid, .. } => on_io_queue(world, cntlid, sqe),
+    }
+}
+
+fn on_admin_queue(world: &World<'_>, cntlid: u16, sqe: &Sqe<'_>) -> Outcome
+    ensures { result ≡ on_admin_queue (world_in world.now) cntlid sqe.now.entry.now }
 {
     if sqe.opcode() == FABRICS {
-        fabrics::command(&controller.registers, sqe)
-    } else if controller.registers.is_ready() {
-        admin::command(pages, &controller.host, sqe)
+        fabrics::command(&world.registers(cntlid), cntlid, sqe)
+    } else {
+        admin::command(world.pages, world.rows.get(cntlid), cntlid, sqe)
+    }
+}
+
+// Until disks are built, no I/O command is known.
+fn on_io_queue(world: &World<'_>, cntlid: u16, sqe: &Sqe<'_>) -> Outcome
+    ensures { result ≡ on_io_queue (world_in world.now) cntlid sqe.now.entry.now }
+{
+    if sqe.opcode() == FABRICS {
+        return match sqe.fctype() {
+            CONNECT => refused(Status::COMMAND_SEQUENCE_ERROR),
+            _ => refused(Status::INVALID_FIELD),
+        };
+    }
+    if is_ready(world.rows.get(cntlid)) {
+        refused(Status::INVALID_OPCODE)
     } else {
         refused(Status::COMMAND_SEQUENCE_ERROR)
+    }
+}
+
+fn is_ready(row: Option<&Row>) -> bool
+    ensures { result ≡ is_ready_at (option_copied row.entry) }
+{
+    match row {
+        Some(row) => row.ready,
+        None => false,
     }
 }
 
@@ -139,8 +151,9 @@ fn head_after(session: &Session, change: &Change) -> u16
     ensures { result ≡ head_after session.now change.now }
 {
     match (session, change) {
-        (_, Change::Begin(admission)) => next_head(admission.sqsize, 0),
-        (Session::Admin { queue, .. }, _) => queue.next_head(),
+        (_, Change::Begin(beginning)) => next_head(beginning.sqsize, 0),
+        (_, Change::Join(joining)) => next_head(joining.sqsize, 0),
+        (Session::Connected { queue, .. }, _) => queue.next_head(),
         _ => 0,
     }
 }

@@ -1,36 +1,45 @@
-//! A controller.
+//! A controller, as far as its own admin queue alone uses it.
 ghost use Rattle.std.specs.Prelude.{◌≡◌};
-ghost use Rattle.target_decision.specs.Controller.{new_controller, with_configuration};
+ghost use Rattle.target_decision.specs.Controller.{new_controller, with_property, with_mark};
 
-use crate::decision::Admission;
-use crate::registers::Registers;
-use nvt_fields::Nqn;
+use pdu_codec::Property;
+use property_regs::{ControllerKind, Regs};
 
-/// The controller that a Connect made.
+/// What a controller has beside what other connections may see of it.
 #[derive(Drop)]
 pub struct Controller {
-    /// Its identifier, from 1 to 32.
-    pub cntlid: u16,
-    /// The host that connected.
-    pub host: Nqn,
-    pub registers: Registers,
+    pub registers: Regs,
+    /// Keep alive timeout, in ms, as the host set it (Base 2.0, section 3.9). At 0 it never runs out.
+    pub kato: u32,
+    /// The clock, in ms, when its Keep Alive Timer was last started.
+    pub mark: u64,
 }
 
 impl Controller {
-    pub(crate) fn new(admission: &Admission, host: Nqn) -> Controller
-        ensures { result ≡ new_controller admission.now host }
+    /// The controller that a Connect makes when the clock shows `now`.
+    pub fn new(kind: ControllerKind, kato: u32, now: u64) -> Controller
+        ensures { result ≡ new_controller kind kato now }
     {
         Controller {
-            cntlid: admission.cntlid,
-            host,
-            registers: Registers::new(),
+            registers: Regs::new(kind),
+            kato,
+            mark: now,
         }
     }
 
-    /// Sets Controller Configuration.
-    pub(crate) fn configure(&mut self, cc: u32)
-        ensures { self.new ≡ with_configuration cc self.old }
+    /// Sets a property.
+    pub fn set(&mut self, property: &Property)
+        ensures { self.new ≡ with_property property.now self.old }
     {
-        self.registers = self.registers.configured(cc);
+        let _ = self
+            .registers
+            .set(property.ofst, property.attrib, property.value);
+    }
+
+    /// Starts its Keep Alive Timer again.
+    pub fn keep_alive(&mut self, now: u64)
+        ensures { self.new ≡ with_mark now self.old }
+    {
+        self.mark = now;
     }
 }

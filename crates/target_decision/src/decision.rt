@@ -1,17 +1,18 @@
 //! What a PDU leads to, as a value: decided by looking alone, before anything changes.
 ghost use Rattle.std.specs.Prelude.{◌≡◌};
 ghost use Rattle.pdu_cut.specs.Cut.{front_shown};
-ghost use Rattle.target_decision.specs.Decision.{decide, decide_pdu, first_by, host_in, initialize};
+ghost use Rattle.target_decision.specs.Begin.{BeginsFree, NamesWell};
+ghost use Rattle.target_decision.specs.Decision.{decide, decide_pdu, first_by, initialize};
 ghost use Rattle.target_decision.specs.Decision.{is_end, next_by, terminate};
-ghost use Rattle.target_decision.specs.Session.{NamesHost};
 ghost use Rattle.target_decision.specs.World.{world_in};
 
 use crate::capsule;
 use crate::page::PagePart;
 use crate::session::{Conversation, Session};
-use crate::world::{Converses, World};
+use crate::world::World;
+use fabrics_connect::NewController;
 use nvt_fields::{FatalErrorStatus, PduType, Status};
-use pdu_codec::IcReq;
+use pdu_codec::{IcReq, Property};
 use pdu_cut::{Cut, PduView};
 
 /// The offset of the transfer tag in an H2CData.
@@ -63,54 +64,71 @@ pub struct Reply {
 #[derive(Clone, Copy)]
 pub enum Change {
     Stay,
-    /// A Connect makes a controller and its queue.
-    Begin(Admission),
-    /// A Property Set gives this value to Controller Configuration.
-    Configure(u32),
+    /// A Connect makes a controller, and the connection its admin queue.
+    Begin(Beginning),
+    /// A Connect makes the connection an I/O queue.
+    Join(Joining),
+    /// A Property Set sets Controller Configuration.
+    Configure(Setting),
+    /// A Keep Alive starts the Keep Alive Timer of this controller again.
+    KeepAlive(u16),
 }
 
-/// The controller and the queue that a Connect gets.
+/// The controller that a Connect makes, and its admin queue.
 #[derive(Clone, Copy)]
-pub struct Admission {
+pub struct Beginning {
+    pub controller: NewController,
+    /// The size of the submission queue, 0's based: 1 to 63.
+    pub sqsize: u16,
+    /// Keep alive timeout, in ms.
+    pub kato: u32,
+}
+
+/// The I/O queue that a Connect makes.
+#[derive(Clone, Copy)]
+pub struct Joining {
     pub cntlid: u16,
+    /// The queue's identifier, 1 to 8.
+    pub qid: u16,
     /// The size of the submission queue, 0's based: 1 to 63.
     pub sqsize: u16,
 }
 
-/// What is owed to what stands at the front of a connection's stream.
-pub fn decide<T: Converses>(
-    world: &World<'_, T>,
-    conversation: &Conversation,
-    front: &Cut<'_>,
-) -> Decision
-    ensures decision { let w = world_in T.conversation_of world.now in
-        result ≡ decide w conversation.now (front_shown front.now) }
-    ensures named { NamesHost result (host_in (front_shown front.now)) }
-{
-    decide_front(world, conversation, front)
+/// What a Property Set does to a controller.
+#[derive(Clone, Copy)]
+pub struct Setting {
+    pub cntlid: u16,
+    /// The property that it sets.
+    pub property: Property,
+    /// What that does to the controller.
+    pub effect: property_regs::Change,
 }
 
-fn decide_front<T: Converses>(
-    world: &World<'_, T>,
-    conversation: &Conversation,
-    front: &Cut<'_>,
-) -> Decision
-    ensures { let w = world_in T.conversation_of world.now in
-        result ≡ decide w conversation.now (front_shown front.now) }
+/// What is owed to what stands at the front of a connection's stream.
+pub fn decide(world: &World<'_>, v: &Conversation, front: &Cut<'_>) -> Decision
+    ensures decision { result ≡ decide (world_in world.now) v.now (front_shown front.now) }
+    ensures begins { BeginsFree (world_in world.now).row result }
+    ensures named { NamesWell result (front_shown front.now) }
+{
+    decide_front(world, v, front)
+}
+
+fn decide_front(world: &World<'_>, v: &Conversation, front: &Cut<'_>) -> Decision
+    ensures { result ≡ decide (world_in world.now) v.now (front_shown front.now) }
 {
     match front {
         Cut::More => Decision::Close,
-        Cut::Pdu(pdu) => decide_pdu(world, &conversation.session, pdu),
+        Cut::Pdu(pdu) => decide_pdu(world, v, pdu),
         Cut::Fault { fes, fei, .. } => terminate(*fes, *fei),
     }
 }
 
-fn decide_pdu<T: Converses>(world: &World<'_, T>, session: &Session, pdu: &PduView<'_>) -> Decision
-    ensures { result ≡ decide_pdu (world_in T.conversation_of world.now) session.now pdu.now }
+fn decide_pdu(world: &World<'_>, v: &Conversation, pdu: &PduView<'_>) -> Decision
+    ensures { result ≡ decide_pdu (world_in world.now) v.now pdu.now }
 {
-    match session {
+    match v.session {
         Session::Opened => first(pdu),
-        Session::Initialized | Session::Admin { .. } => next(world, session, pdu),
+        Session::Initialized | Session::Connected { .. } => next(world, v, pdu),
         Session::Ended => Decision::Close,
     }
 }
@@ -126,14 +144,13 @@ fn first(pdu: &PduView<'_>) -> Decision
     }
 }
 
-fn next<T: Converses>(world: &World<'_, T>, session: &Session, pdu: &PduView<'_>) -> Decision
-    ensures { let w = world_in T.conversation_of world.now in
-        result ≡ next_by pdu.now.kind w session.now pdu.now }
+fn next(world: &World<'_>, v: &Conversation, pdu: &PduView<'_>) -> Decision
+    ensures { result ≡ next_by pdu.now.kind (world_in world.now) v.now pdu.now }
 {
     match pdu.kind() {
         PduType::H2cTermReq => Decision::Close,
-        PduType::CapsuleCmd => capsule::decide(world, session, pdu),
-        // No command of an admin queue asks for data by R2T, so no TTAG is known.
+        PduType::CapsuleCmd => capsule::decide(world, v, pdu),
+        // No command that is built asks for data by R2T, so no TTAG is known.
         PduType::H2cData => terminate(FatalErrorStatus::InvalidHeaderField, TTAG_AT),
         _ => terminate(FatalErrorStatus::SequenceError, 0),
     }

@@ -1,12 +1,12 @@
-//! Fabrics commands on an admin queue (Base 2.0, section 6), by their type.
+//! Fabrics commands on a queue (Base 2.0, section 6), by their type.
 ghost use Rattle.std.specs.Prelude.{◌≡◌};
-ghost use Rattle.target_decision.specs.Capsule.{fabrics_command};
+ghost use Rattle.target_decision.specs.Capsule.{fabrics_command, property_get_of, property_set_of};
 
 use crate::capsule::{Outcome, done, refused};
-use crate::decision::Change;
-use crate::registers::{self, Registers};
+use crate::decision::{Change, Setting};
 use nvt_fields::Status;
 use pdu_codec::{Property, Sqe};
+use property_regs::{InvalidField, Regs};
 
 /// The opcode of all Fabrics commands.
 pub(crate) const FABRICS: u8 = 0x7F;
@@ -19,19 +19,39 @@ pub(crate) const CONNECT: u8 = 0x01;
 const PROPERTY_GET: u8 = 0x04;
 
 /// Answers a Fabrics command on the admin queue of a controller with these properties.
-pub(crate) fn command(registers: &Registers, sqe: &Sqe<'_>) -> Outcome
-    ensures { result ≡ fabrics_command registers.now sqe.now.entry.now }
+pub(crate) fn command(registers: &Regs, cntlid: u16, sqe: &Sqe<'_>) -> Outcome
+    ensures { result ≡ fabrics_command registers.now cntlid sqe.now.entry.now }
 {
     match sqe.fctype() {
-        PROPERTY_SET => match registers::property_set(&Property::read(sqe)) {
-            Ok(cc) => done(0, Change::Configure(cc)),
-            Err(status) => refused(status),
-        },
-        PROPERTY_GET => match registers.get(&Property::read(sqe)) {
-            Ok(value) => done(value, Change::Stay),
-            Err(status) => refused(status),
-        },
+        PROPERTY_SET => property_set(registers, cntlid, &Property::read(sqe)),
+        PROPERTY_GET => property_get(registers, &Property::read(sqe)),
         CONNECT => refused(Status::COMMAND_SEQUENCE_ERROR),
         _ => refused(Status::INVALID_FIELD),
+    }
+}
+
+fn property_get(registers: &Regs, property: &Property) -> Outcome
+    ensures { result ≡ property_get_of registers.now property.now }
+{
+    match registers.get(property.ofst, property.attrib) {
+        Ok(value) => done(value, Change::Stay),
+        Err(InvalidField) => refused(Status::INVALID_FIELD),
+    }
+}
+
+fn property_set(registers: &Regs, cntlid: u16, property: &Property) -> Outcome
+    ensures { result ≡ property_set_of registers.now cntlid property.now }
+{
+    let mut after = *registers;
+    match after.set(property.ofst, property.attrib, property.value) {
+        Ok(effect) => done(
+            0,
+            Change::Configure(Setting {
+                cntlid,
+                property: *property,
+                effect,
+            }),
+        ),
+        Err(InvalidField) => refused(Status::INVALID_FIELD),
     }
 }

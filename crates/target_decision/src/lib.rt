@@ -1,7 +1,8 @@
 //! What a target owes to a PDU. `decide` looks at what stands at the front of a connection's
 //! stream, and at what a decision may look at beside it, and answers a value: a reply with what it
-//! changes, or the connection's end. `perform` then makes room for all that this sends, writes it,
-//! and moves the session. Nothing here keeps anything.
+//! changes, or the connection's end. `new_row` makes what other connections will see of a controller
+//! that this begins. `perform` then makes room for all that it sends, writes it, and moves the
+//! session. Nothing here keeps anything.
 #![tactic(auto)]
 
 mod act;
@@ -14,16 +15,14 @@ mod fabrics;
 mod log_page;
 mod page;
 mod queue;
-mod registers;
 mod session;
 mod wire;
 mod world;
 
-pub use act::{consumed_of, perform};
+pub use act::{consumed_of, new_row, perform};
 pub use controller::Controller;
-pub use decision::{Admission, Change, Decision, Reply, Termination, decide};
+pub use decision::{Beginning, Change, Decision, Joining, Reply, Setting, Termination, decide};
 pub use page::{Page, PagePart};
 pub use queue::Queue;
-pub use registers::{Registers, ShutdownStatus};
-pub use session::{Conversation, Session};
-pub use world::{CONNECTIONS_MAX, Converses, Pages, World};
+pub use session::{Conversation, Role, Session};
+pub use world::{CONNECTIONS_MAX, Pages, World};

@@ -7,6 +7,7 @@ use crate::capsule::{Outcome, Success, refused};
 use crate::decision::Change;
 use crate::page::{Page, PagePart};
 use crate::world::Pages;
+use fabrics_connect::Row;
 use nvt_fields::{Nqn, Status};
 use pdu_codec::{GetLogPage, SglType, Sqe};
 
@@ -15,22 +16,23 @@ const DISCOVERY: u8 = 0x70;
 /// The most bytes of one read, until replies are split.
 const READ_MAX: u64 = 32_768;
 
-/// Answers Get Log Page of this host.
-pub(crate) fn command(pages: &Pages<'_>, host: &Nqn, sqe: &Sqe<'_>) -> Outcome
-    ensures { result ≡ get_log_page (pages_in pages.now) host.now sqe.now.entry.now }
+/// Answers Get Log Page of the controller of this row.
+pub(crate) fn command(pages: &Pages<'_>, row: &Row, sqe: &Sqe<'_>) -> Outcome
+    ensures { result ≡ get_log_page (pages_in pages.now) row.now sqe.now.entry.now }
 {
-    match page_of_lid(GetLogPage::read(sqe).lid) {
-        Some(page) => read_page(page, pages, host, sqe),
+    match page_of_lid(&row.subsystem, GetLogPage::read(sqe).lid) {
+        Some(page) => read_page(page, pages, &row.host, sqe),
         None => refused(Status::INVALID_LOG_PAGE),
     }
 }
 
-// The page that a log identifier names.
-fn page_of_lid(lid: u8) -> Option<Page>
-    ensures { result ≡ page_of_lid lid }
+// The page that a log identifier names on a controller, which has no subsystem where it is a
+// discovery controller.
+fn page_of_lid(subsystem: &Option<Nqn>, lid: u8) -> Option<Page>
+    ensures { result ≡ page_of_lid subsystem.now lid }
 {
-    match lid {
-        DISCOVERY => Some(Page::Discovery),
+    match (subsystem, lid) {
+        (None, DISCOVERY) => Some(Page::Discovery),
         _ => None,
     }
 }

@@ -2,8 +2,6 @@
 ghost use Rattle.std.specs.Prelude.{◌≡◌};
 ghost use Rattle.target_decision.specs.Queue.{new_queue, next_head, next_head_of, responded};
 
-use crate::decision::Admission;
-
 /// The submission queue that a Connect made.
 #[derive(Clone, Copy)]
 pub struct Queue {
@@ -15,13 +13,10 @@ pub struct Queue {
 
 impl Queue {
     /// The queue before the response to its Connect.
-    pub(crate) fn new(admission: &Admission) -> Queue
-        ensures { result ≡ new_queue admission.now }
+    pub(crate) fn new(sqsize: u16) -> Queue
+        ensures { result ≡ new_queue sqsize }
     {
-        Queue {
-            sqsize: admission.sqsize,
-            head: 0,
-        }
+        Queue { sqsize, head: 0 }
     }
 
     /// The submission queue head after one more response.

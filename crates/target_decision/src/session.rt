@@ -1,13 +1,13 @@
 //! How far target and host have come on a connection.
 ghost use Rattle.std.specs.Prelude.{◌≡◌};
-ghost use Rattle.target_decision.specs.Session.{has_controller, host_of, is_ended};
-ghost use Rattle.target_decision.specs.Session.{moved, opened_on};
+ghost use Rattle.target_decision.specs.Queue.{new_queue, responded};
+ghost use Rattle.target_decision.specs.Session.{is_ended, opened_on, replied, session_after};
 
-use crate::controller::Controller;
+use crate::decision::{Change, Decision};
 use crate::queue::Queue;
 
 /// A connection, as far as a decision may look at it.
-#[derive(Drop)]
+#[derive(Clone, Copy)]
 pub struct Conversation {
     /// The port that it was opened on.
     pub port: u16,
@@ -27,85 +27,71 @@ impl Conversation {
 }
 
 /// How far target and host have come.
-#[derive(Drop)]
+#[derive(Clone, Copy)]
 pub enum Session {
     /// Nothing has come yet: the host owes an ICReq.
     Opened,
     /// The ICResp is sent: the host owes a Connect.
     Initialized,
-    /// A Connect made this controller, and this is its admin queue.
-    Admin {
-        controller: Controller,
-        queue: Queue,
-    },
+    /// A Connect made it a queue of a controller.
+    Connected { role: Role, queue: Queue },
     /// It is ended: nothing more is consumed or sent.
     Ended,
 }
 
-/// Where a decision leads a session.
-#[derive(Drop)]
-pub(crate) enum SessionMove {
-    Initialize,
-    /// A Connect makes a controller, and its queue, the response to the Connect counted.
-    Begin {
-        controller: Controller,
-        queue: Queue,
-    },
-    /// A response is sent that changes nothing else.
-    Respond,
-    /// .. that gives this value to Controller Configuration.
-    Configure(u32),
-    End,
+/// Which queue a connection is (Base 2.0, section 3.3).
+#[derive(Clone, Copy)]
+pub enum Role {
+    /// The admin queue of the controller of this identifier.
+    Admin { cntlid: u16 },
+    /// The I/O queue of this identifier, 1 to 8, of that controller.
+    Io { cntlid: u16, qid: u16 },
 }
 
 impl Session {
-    /// Makes a move. On a connection that has no queue a response counts nothing.
-    pub(crate) fn go(&mut self, to: SessionMove)
-        ensures { self.new ≡ moved self.old to }
+    /// Goes where a decision leads it.
+    pub(crate) fn turn(&mut self, decision: &Decision)
+        ensures { self.new ≡ session_after self.old decision.now }
     {
-        match to {
-            SessionMove::Initialize => *self = Session::Initialized,
-            SessionMove::Begin { controller, queue } => {
-                *self = Session::Admin { controller, queue };
-            }
-            SessionMove::Respond => {
-                if let Session::Admin { queue, .. } = self {
-                    queue.responded();
-                }
-            }
-            SessionMove::Configure(cc) => {
-                if let Session::Admin { controller, queue } = self {
-                    controller.configure(cc);
-                    queue.responded();
-                }
-            }
-            SessionMove::End => *self = Session::Ended,
+        match decision {
+            Decision::Initialize => *self = Session::Initialized,
+            Decision::Reply(reply) => self.reply(&reply.change),
+            Decision::Terminate(_) | Decision::Close => *self = Session::Ended,
         }
+    }
+
+    // Counts a response, and changes as it says. On a connection that has no queue nothing counts it.
+    fn reply(&mut self, change: &Change)
+        ensures { self.new ≡ replied change.now self.old }
+    {
+        match change {
+            Change::Begin(beginning) => {
+                let cntlid = beginning.controller.cntlid;
+                self.connect(Role::Admin { cntlid }, beginning.sqsize);
+            }
+            Change::Join(joining) => {
+                let (cntlid, qid) = (joining.cntlid, joining.qid);
+                self.connect(Role::Io { cntlid, qid }, joining.sqsize);
+            }
+            Change::Stay | Change::Configure(_) | Change::KeepAlive(_) => {
+                if let Session::Connected { queue, .. } = self {
+                    queue.responded();
+                }
+            }
+        }
+    }
+
+    fn connect(&mut self, role: Role, sqsize: u16)
+        ensures { self.new ≡ Session.Connected role (responded (new_queue sqsize)) }
+    {
+        let mut queue = Queue::new(sqsize);
+        queue.responded();
+        *self = Session::Connected { role, queue };
     }
 
     pub fn is_ended(&self) -> bool
         ensures { result ≡ is_ended self.now }
     {
         matches!(self, Session::Ended)
-    }
-
-    /// The name of the host that has a controller here; no byte where none has.
-    pub(crate) fn host(&self) -> &[u8]
-        ensures { result.now ≡ host_of self.now }
-    {
-        match self {
-            Session::Admin { controller, .. } => controller.host.as_bytes(),
-            _ => &[],
-        }
-    }
-
-    /// Whether it is the admin queue of the controller of this identifier.
-    pub(crate) fn has_controller(&self, cntlid: u16) -> bool
-        ensures { result ≡ has_controller cntlid self.now }
-    {
-        match self {
-            Session::Admin { controller, .. } => controller.cntlid == cntlid,
-            _ => false,
-        }
     }
 }

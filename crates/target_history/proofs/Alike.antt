@@ -1,84 +1,238 @@
 -- What a connection is sent depends on what happened to it alone, and on what its worlds show it.
-use Rattle.std.proofs.Common.{◌≡◌, ℕ, ◌*◌, Bool, true, false, ◌||◌, List, [], ◌∷◌, ◌++◌, Option, Some, None, refl, sym, ap, ◌∙◌, append-nil}
-use Rattle.std.specs.Prelude.{if◌then◌else◌}
+use Rattle.std.proofs.Common.{◌≡◌, ℕ, ◌*◌, Bool, true, false, ◌||◌, ◌&&◌, List, [], ◌∷◌, ◌++◌, Option, Some, None, Ok, Err, refl, sym, ap, ◌∙◌, append-nil}
+use Rattle.std.specs.Prelude.{if◌then◌else◌, not, ◌==◌, nat_lt, length}
+use Rattle.std.specs.Option.{option_map}
+use Rattle.fabrics_connect.specs.declared.decision.AdmitAs.TheVariants as admit
+use Rattle.fabrics_connect.specs.declared.decision.Decision as connect_decision
+use Rattle.fabrics_connect.specs.declared.decision.Decision.TheVariants.{Admit, Deny}
+use Rattle.fabrics_connect.specs.declared.row.Row.{Row}
+use Rattle.fabrics_connect.specs.Command.{Parameters, parameters_of}
+use Rattle.fabrics_connect.specs.Connect.{admitted, begun, connect, joined_by, names_verdict, permission_verdict}
 use Rattle.nvt_fields.specs.declared.pdu_type.PduType.{PduType}
 use Rattle.nvt_fields.specs.declared.pdu_type.PduType.TheVariants.{IcReq, IcResp, H2cTermReq, C2hTermReq, CapsuleCmd, CapsuleResp, H2cData, C2hData, R2t}
-use Rattle.pdu_codec.specs.Sqe.{get_log_page_of}
+use Rattle.nvt_fields.specs.declared.termination.FatalErrorStatus.TheVariants.{InvalidHeaderField, LimitExceeded, UnsupportedParameter}
+use Rattle.nvt_fields.specs.Status.{command_sequence_error}
+use Rattle.nvt_fields.specs.Window.{window}
+use Rattle.pdu_codec.specs.Initialize.{ic_req_of}
+use Rattle.pdu_codec.specs.Sqe.{cid_of, fctype_of, get_log_page_of, opcode_of}
 use Rattle.pdu_cut.specs.Front.{Front, incomplete, whole, faulty}
-use Rattle.pdu_cut.specs.Pdu.{Pdu, data_part}
-use Rattle.target_decision.specs.declared.controller.Controller.{Controller}
+use Rattle.pdu_cut.specs.Pdu.{Pdu, data_part, header_part}
 use Rattle.target_decision.specs.declared.decision.Decision.{Decision}
 use Rattle.target_decision.specs.declared.decision.Decision.TheVariants as decision
 use Rattle.target_decision.specs.declared.page.Page.{Page}
 use Rattle.target_decision.specs.declared.page.PagePart.{PagePart}
+use Rattle.target_decision.specs.declared.queue.Queue.{Queue}
 use Rattle.target_decision.specs.declared.session.Conversation.{Conversation}
+use Rattle.target_decision.specs.declared.session.Role.{Role}
+use Rattle.target_decision.specs.declared.session.Role.TheVariants.{Admin, Io}
 use Rattle.target_decision.specs.declared.session.Session.{Session}
-use Rattle.target_decision.specs.declared.session.Session.TheVariants.{Opened, Initialized, Admin, Ended}
-use Rattle.target_decision.specs.Capsule.{admin_command, command_in, first_command, queue_command}
-use Rattle.target_decision.specs.Controllers.{free_cntlid}
-use Rattle.target_decision.specs.Decision.{data_of, decide, decide_pdu, entry_of, head_of, next_by, part_of, wire_of}
+use Rattle.target_decision.specs.declared.session.Session.TheVariants.{Opened, Initialized, Connected, Ended}
+use Rattle.target_decision.specs.Capsule.{admin_at, command, command_in, connect_type, fabrics_opcode, first_command, on_admin_queue, on_io_queue, queue_command, reply_of}
+use Rattle.target_decision.specs.Connect.{answered, connect_on}
+use Rattle.target_decision.specs.Decision.{data_of, decide, decide_in, entry_of, first_by, head_of, host_at, next_by, part_of, sent_by, terminate, wire_of}
 use Rattle.target_decision.specs.LogPage.{page_of_lid, read_known, read_page}
-use Rattle.target_decision.specs.Session.{host_of, is_ended}
+use Rattle.target_decision.specs.Outcome.{Outcome, refused}
+use Rattle.target_decision.specs.Session.{is_ended}
 use Rattle.target_decision.specs.World.{Pages, World}
-use Rattle.nvt_fields.specs.Window.{window}
 use Rattle.target_history.specs.Event.{Event, front_in, gives_up, opens, steps}
 use Rattle.target_history.specs.Happening.{Happening, decided_on, sends, sends_on}
 use Rattle.target_history.specs.History.{sent}
-use Rattle.target_history.specs.Laws.{AreAlikeFor, HappenedAlike, SentByOwnAlone, ShowAlike, host_at, is_of, own}
+use Rattle.target_history.specs.Laws.{AdminAlike, AreAlikeFor, ConnectAlike, HappenedAlike, RoleAlike, SameFor, SentByOwnAlone, SessionAlike, WorldAlike, is_command, is_of, own, without_queues}
 
--- ---- what is decided
+-- ---- a Connect
+
+last_alike : (admin : Bool) (v w : World) (port : ℕ) (p : Parameters) → (p.qid == 0) ≡ admin → ConnectAlike v w port p
+    → (if admin then begun v.row p else joined_by port p (v.row p.cntlid)) ≡ (if admin then begun w.row p else joined_by port p (w.row p.cntlid))
+unfolding begun
+last_alike true v w port p is h = rw (h.free is) refl
+last_alike false v w port p is h = rw (h.named is) refl
+
+names_alike : (v w : World) (port : ℕ) (p : Parameters) → ConnectAlike v w port p → names_verdict v.config port p ≡ names_verdict w.config port p
+unfolding names_verdict
+names_alike v w port p h = rw h.served refl
+
+permission_alike : (v w : World) (port : ℕ) (p : Parameters) → ConnectAlike v w port p → permission_verdict v.config port p ≡ permission_verdict w.config port p
+unfolding permission_verdict
+permission_alike v w port p h = rw h.used refl
+
+admitted_alike : (v w : World) (port : ℕ) (p : Parameters) → ConnectAlike v w port p → admitted v.config v.row port p ≡ admitted w.config w.row port p
+unfolding admitted
+admitted_alike v w port p h = rw (names_alike v w port p h, permission_alike v w port p h, last_alike (p.qid == 0) v w port p refl h) refl
+
+connect_alike : (v w : World) (port : ℕ) (entry bytes : List ℕ) → ConnectAlike v w port (parameters_of entry bytes)
+    → connect v.config v.row port entry bytes ≡ connect w.config w.row port entry bytes
+unfolding connect
+connect_alike v w port entry bytes h = rw (admitted_alike v w port (parameters_of entry bytes) h) refl
+
+first_alike : (v w : World) (port : ℕ) (entry bytes : List ℕ)
+    → (((opcode_of entry == fabrics_opcode) && (fctype_of entry == connect_type)) ≡ true → ConnectAlike v w port (parameters_of entry bytes))
+    → first_command v port entry bytes ≡ first_command w port entry bytes
+first_alike v w port entry bytes h = by ((opcode_of entry == fabrics_opcode) && (fctype_of entry == connect_type)) h where
+  by : (connects : Bool) → (connects ≡ true → ConnectAlike v w port (parameters_of entry bytes))
+      → (if connects then connect_on v port entry bytes else refused command_sequence_error)
+      ≡ (if connects then connect_on w port entry bytes else refused command_sequence_error)
+  by true h = ap (λ (d : connect_decision.Decision). answered d entry) (connect_alike v w port entry bytes (h refl))
+  by false h = refl
+
+-- ---- a command on a queue
 
 read_alike : (v w : Pages) (host entry : List ℕ) (page : Option Page) → AreAlikeFor host v w
     → read_known page v host entry ≡ read_known page w host entry
 read_alike v w host entry None h = refl
 read_alike v w host entry (Some page) h = ap (λ (bytes : List ℕ). read_page page bytes entry) (h page)
 
-admin_alike : (v w : Pages) (host entry : List ℕ) → AreAlikeFor host v w → admin_command v host entry ≡ admin_command w host entry
-admin_alike v w host entry h =
-    rw (read_alike v w host entry (page_of_lid (get_log_page_of entry).lid) h)
+admin_alike : (v w : Pages) (o : Option Row) (cntlid : ℕ) (entry : List ℕ) → AreAlikeFor (host_at o) v w
+    → admin_at v o cntlid entry ≡ admin_at w o cntlid entry
+admin_alike v w None cntlid entry h = refl
+admin_alike v w (Some row) cntlid entry h =
+    rw (read_alike v w row.host entry (page_of_lid row.subsystem (get_log_page_of entry).lid) h) refl
 
-queue_alike : (v w : Pages) (c : Controller) (entry : List ℕ) → AreAlikeFor c.host v w
-    → queue_command v c entry ≡ queue_command w c entry
-queue_alike v w c entry h =
-    rw (admin_alike v w c.host entry h)
+-- without its I/O queues a row shows its admin queue the same
+admin_shown : (pages : Pages) (o : Option Row) (cntlid : ℕ) (entry : List ℕ) → admin_at pages (option_map without_queues o) cntlid entry ≡ admin_at pages o cntlid entry
+admin_shown pages None cntlid entry = refl
+admin_shown pages (Some row) cntlid entry = refl
 
-first_alike : (v w : World) (entry bytes : List ℕ) → free_cntlid v.conversation ≡ free_cntlid w.conversation
-    → first_command v entry bytes ≡ first_command w entry bytes
-first_alike v w entry bytes h =
-    rw h
+host_shown : (o : Option Row) → host_at (option_map without_queues o) ≡ host_at o
+host_shown None = refl
+host_shown (Some row) = refl
 
-in_alike : (v w : World) (s : Session) (entry bytes : List ℕ) → free_cntlid v.conversation ≡ free_cntlid w.conversation
-    → AreAlikeFor (host_of s) v.pages w.pages → command_in v s entry bytes ≡ command_in w s entry bytes
-in_alike v w Opened entry bytes free page = first_alike v w entry bytes free
-in_alike v w Initialized entry bytes free page = first_alike v w entry bytes free
-in_alike v w (Admin c q) entry bytes free page = queue_alike v.pages w.pages c entry page
-in_alike v w Ended entry bytes free page = first_alike v w entry bytes free
+on_admin_alike : (v w : World) (cntlid : ℕ) (entry : List ℕ) → AdminAlike v w cntlid
+    → on_admin_queue v cntlid entry ≡ on_admin_queue w cntlid entry
+on_admin_alike v w cntlid entry h =
+    let same : admin_at v.pages (v.row cntlid) cntlid entry ≡ admin_at w.pages (w.row cntlid) cntlid entry =
+    admin_alike v.pages w.pages (v.row cntlid) cntlid entry h.pages ∙ sym (admin_shown w.pages (v.row cntlid) cntlid entry)
+    ∙ ap (λ (o : Option Row). admin_at w.pages o cntlid entry) h.row ∙ admin_shown w.pages (w.row cntlid) cntlid entry in
+    rw (h.registers, same) refl
 
-next_alike : (kind : PduType) (v w : World) (s : Session) (pdu : Pdu) → free_cntlid v.conversation ≡ free_cntlid w.conversation
-    → AreAlikeFor (host_of s) v.pages w.pages → next_by kind v s pdu ≡ next_by kind w s pdu
-next_alike CapsuleCmd v w s pdu free page =
-    rw (in_alike v w s (entry_of pdu) (data_part pdu) free page)
-next_alike IcReq v w s pdu free page = refl
-next_alike IcResp v w s pdu free page = refl
-next_alike H2cTermReq v w s pdu free page = refl
-next_alike C2hTermReq v w s pdu free page = refl
-next_alike CapsuleResp v w s pdu free page = refl
-next_alike H2cData v w s pdu free page = refl
-next_alike C2hData v w s pdu free page = refl
-next_alike R2t v w s pdu free page = refl
+queue_alike : (v w : World) (role : Role) (entry : List ℕ) → RoleAlike v w role → queue_command v role entry ≡ queue_command w role entry
+queue_alike v w (Admin cntlid) entry h = on_admin_alike v w cntlid entry h
+queue_alike v w (Io cntlid qid) entry h = rw h refl
 
-pdu_alike : (v w : World) (s : Session) (pdu : Pdu) → free_cntlid v.conversation ≡ free_cntlid w.conversation
-    → AreAlikeFor (host_of s) v.pages w.pages → decide_pdu v s pdu ≡ decide_pdu w s pdu
-pdu_alike v w Opened pdu free page = refl
-pdu_alike v w Initialized pdu free page = next_alike pdu.kind v w Initialized pdu free page
-pdu_alike v w (Admin c q) pdu free page = next_alike pdu.kind v w (Admin c q) pdu free page
-pdu_alike v w Ended pdu free page = refl
+-- ---- what is decided
 
-decide_alike : (v w : World) (c : Conversation) (front : Front) → free_cntlid v.conversation ≡ free_cntlid w.conversation
-    → AreAlikeFor (host_of c.session) v.pages w.pages → decide v c front ≡ decide w c front
-decide_alike v w c incomplete free page = refl
-decide_alike v w c (whole pdu) free page = pdu_alike v w c.session pdu free page
-decide_alike v w c (faulty fault head) free page = refl
+next_alike : (kind : PduType) (v w : World) (c : Conversation) (pdu : Pdu)
+    → (is_command kind ≡ true → command_in v c.port c.session (entry_of pdu) (data_part pdu) ≡ command_in w c.port c.session (entry_of pdu) (data_part pdu))
+    → next_by kind v c pdu ≡ next_by kind w c pdu
+next_alike CapsuleCmd v w c pdu h = rw (h refl) refl
+next_alike IcReq v w c pdu h = refl
+next_alike IcResp v w c pdu h = refl
+next_alike H2cTermReq v w c pdu h = refl
+next_alike C2hTermReq v w c pdu h = refl
+next_alike CapsuleResp v w c pdu h = refl
+next_alike H2cData v w c pdu h = refl
+next_alike C2hData v w c pdu h = refl
+next_alike R2t v w c pdu h = refl
+
+both : (a b : Bool) → a ≡ true → b ≡ true → (a && b) ≡ true
+both a b h k = rw (h, k) refl
+
+abbrev on_port : ℕ → Session → Conversation
+on_port port session = record { port = port; session = session }
+
+pdu_alike : (v w : World) (port : ℕ) (s : Session) (pdu : Pdu) → SessionAlike v w port (whole pdu) s
+    → decide_in s v (on_port port s) pdu ≡ decide_in s w (on_port port s) pdu
+pdu_alike v w port Opened pdu h = refl
+pdu_alike v w port Initialized pdu h =
+    let entry = entry_of pdu in
+    let connects : Bool = (opcode_of entry == fabrics_opcode) && (fctype_of entry == connect_type) in
+    next_alike pdu.kind v w (on_port port Initialized) pdu
+    (λ is. first_alike v w port entry (data_part pdu) (λ (c : connects ≡ true). h (both (is_command pdu.kind) connects is c)))
+pdu_alike v w port (Connected role queue) pdu h =
+    next_alike pdu.kind v w (on_port port (Connected role queue)) pdu (λ is. queue_alike v w role (entry_of pdu) h)
+pdu_alike v w port Ended pdu h = refl
+
+decide_alike : (v w : World) (c : Conversation) (front : Front) → SessionAlike v w c.port front c.session → decide v c front ≡ decide w c front
+decide_alike v w c incomplete h = refl
+decide_alike v w c (whole pdu) h = pdu_alike v w c.port c.session pdu h
+decide_alike v w c (faulty fault head) h = refl
+
+-- ---- what returns no data: all but the commands on an admin queue
+
+abbrev NoDataIn : Outcome → Type 0
+NoDataIn (Ok success) = success.«data» ≡ None
+NoDataIn (Err refusal) = Unit {0}
+
+abbrev HasNoData : Decision → Type 0
+HasNoData (decision.Reply r) = r.«data» ≡ None
+HasNoData decision.Initialize = Unit {0}
+HasNoData (decision.Terminate t) = Unit {0}
+HasNoData decision.Close = Unit {0}
+
+either_none : (test : Bool) (o p : Outcome) → NoDataIn o → NoDataIn p → NoDataIn (if test then o else p)
+either_none true o p h k = h
+either_none false o p h k = k
+
+connect_none : (d : connect_decision.Decision) (entry : List ℕ) → NoDataIn (answered d entry)
+connect_none (Deny status result) entry = tt
+connect_none (Admit (admit.Queue cntlid qid)) entry = refl
+connect_none (Admit (admit.Controller new)) entry = refl
+
+first_none : (w : World) (port : ℕ) (entry bytes : List ℕ) → NoDataIn (first_command w port entry bytes)
+first_none w port entry bytes = search (either_none, connect_none)
+
+io_none : (w : World) (cntlid : ℕ) (entry : List ℕ) → NoDataIn (on_io_queue w cntlid entry)
+io_none w cntlid entry = search (either_none)
+
+reply_none : (s : Session) (cid : ℕ) (o : Outcome) → NoDataIn o → HasNoData (decision.Reply (reply_of s cid o))
+reply_none s cid (Ok success) h = h
+reply_none s cid (Err refusal) h = refl
+
+next_none : (kind : PduType) (w : World) (c : Conversation) (pdu : Pdu) → NoDataIn (command_in w c.port c.session (entry_of pdu) (data_part pdu))
+    → HasNoData (next_by kind w c pdu)
+next_none CapsuleCmd w c pdu h = by (nat_lt 8192 (length (data_part pdu))) where
+  o : Outcome
+  o = command w c (entry_of pdu) (data_part pdu)
+
+  none : NoDataIn o
+  none = search (either_none)
+
+  by : (long : Bool) → HasNoData (if long then terminate LimitExceeded 0 else decision.Reply (reply_of c.session (cid_of (entry_of pdu)) o))
+  by true = tt
+  by false = reply_none c.session (cid_of (entry_of pdu)) o none
+next_none IcReq w c pdu h = tt
+next_none IcResp w c pdu h = tt
+next_none H2cTermReq w c pdu h = tt
+next_none C2hTermReq w c pdu h = tt
+next_none CapsuleResp w c pdu h = tt
+next_none H2cData w c pdu h = tt
+next_none C2hData w c pdu h = tt
+next_none R2t w c pdu h = tt
+
+initialized_none : (w : World) (port : ℕ) (front : Front) → HasNoData (decide w (on_port port Initialized) front)
+initialized_none w port incomplete = tt
+initialized_none w port (whole pdu) = next_none pdu.kind w (on_port port Initialized) pdu (first_none w port (entry_of pdu) (data_part pdu))
+initialized_none w port (faulty fault head) = tt
+
+io_queue_none : (w : World) (port cntlid qid : ℕ) (queue : Queue) (front : Front) → HasNoData (decide w (on_port port (Connected (Io cntlid qid) queue)) front)
+io_queue_none w port cntlid qid queue incomplete = tt
+io_queue_none w port cntlid qid queue (whole pdu) =
+    next_none pdu.kind w (on_port port (Connected (Io cntlid qid) queue)) pdu (io_none w cntlid (entry_of pdu))
+io_queue_none w port cntlid qid queue (faulty fault head) = tt
+
+first_by_none : (kind : PduType) (pdu : Pdu) → HasNoData (first_by kind pdu)
+first_by_none IcReq pdu = by (not ((ic_req_of (header_part pdu)).pfv == 0)) (not ((ic_req_of (header_part pdu)).hpda == 0)) where
+  by : (a b : Bool) → HasNoData (if a then terminate UnsupportedParameter 8 else if b then terminate InvalidHeaderField 10 else decision.Initialize)
+  by true b = tt
+  by false true = tt
+  by false false = tt
+first_by_none IcResp pdu = tt
+first_by_none H2cTermReq pdu = tt
+first_by_none C2hTermReq pdu = tt
+first_by_none CapsuleCmd pdu = tt
+first_by_none CapsuleResp pdu = tt
+first_by_none H2cData pdu = tt
+first_by_none C2hData pdu = tt
+first_by_none R2t pdu = tt
+
+opened_none : (w : World) (port : ℕ) (front : Front) → HasNoData (decide w (on_port port Opened) front)
+opened_none w port incomplete = tt
+opened_none w port (whole pdu) = first_by_none pdu.kind pdu
+opened_none w port (faulty fault head) = tt
+
+ended_none : (w : World) (port : ℕ) (front : Front) → HasNoData (decide w (on_port port Ended) front)
+ended_none w port incomplete = tt
+ended_none w port (whole pdu) = tt
+ended_none w port (faulty fault head) = tt
 
 -- ---- what is sent
 
@@ -86,39 +240,57 @@ part_alike : (v w : Pages) (host : List ℕ) (part : Option PagePart) → AreAli
 part_alike v w host None h = refl
 part_alike v w host (Some part) h = ap (λ (bytes : List ℕ). window bytes part.offset (4 * part.dwords)) (h part.page)
 
-data_alike : (v w : Pages) (s : Session) (d : Decision) → AreAlikeFor (host_of s) v w → data_of v s d ≡ data_of w s d
-data_alike v w s (decision.Reply r) h = part_alike v w (host_of s) r.«data» h
-data_alike v w s decision.Initialize h = refl
-data_alike v w s (decision.Terminate t) h = refl
-data_alike v w s decision.Close h = refl
+admin_data : (v w : World) (cntlid : ℕ) (queue : Queue) (d : Decision) → AdminAlike v w cntlid
+    → data_of v (Connected (Admin cntlid) queue) d ≡ data_of w (Connected (Admin cntlid) queue) d
+admin_data v w cntlid queue (decision.Reply r) h =
+    part_alike v.pages w.pages (host_at (v.row cntlid)) r.«data» h.pages
+    ∙ ap (λ (host : List ℕ). part_of w.pages host r.«data») (sym (host_shown (v.row cntlid)) ∙ ap host_at h.row ∙ host_shown (w.row cntlid))
+admin_data v w cntlid queue decision.Initialize h = refl
+admin_data v w cntlid queue (decision.Terminate t) h = refl
+admin_data v w cntlid queue decision.Close h = refl
 
-on_alike : (v w : World) (c : Conversation) (d : Option Decision) (front : Front)
-    → AreAlikeFor (host_of c.session) v.pages w.pages
-    → sends_on v (Some c) d front ≡ sends_on w (Some c) d front
-on_alike v w c None front page = refl
-on_alike v w c (Some d) front page = ap (wire_of d (head_of front)) (data_alike v.pages w.pages c.session d page)
+no_data : (v w : World) (s : Session) (d : Decision) → HasNoData d → data_of v s d ≡ data_of w s d
+no_data v w s (decision.Reply r) h = rw h refl
+no_data v w s decision.Initialize h = refl
+no_data v w s (decision.Terminate t) h = refl
+no_data v w s decision.Close h = refl
 
-sends_by : (stepping : Bool) (v w : World) (o : Option Conversation) (front : Front) → free_cntlid v.conversation ≡ free_cntlid w.conversation
-    → AreAlikeFor (host_at o) v.pages w.pages
+data_alike : (v w : World) (port : ℕ) (s : Session) (front : Front) → SessionAlike v w port front s
+    → data_of v s (decide v (on_port port s) front) ≡ data_of w s (decide v (on_port port s) front)
+data_alike v w port Opened front h = no_data v w Opened (decide v (on_port port Opened) front) (opened_none v port front)
+data_alike v w port Initialized front h = no_data v w Initialized (decide v (on_port port Initialized) front) (initialized_none v port front)
+data_alike v w port (Connected (Admin cntlid) queue) front h = admin_data v w cntlid queue (decide v (on_port port (Connected (Admin cntlid) queue)) front) h
+data_alike v w port (Connected (Io cntlid qid) queue) front h =
+    no_data v w (Connected (Io cntlid qid) queue) (decide v (on_port port (Connected (Io cntlid qid) queue)) front) (io_queue_none v port cntlid qid queue front)
+data_alike v w port Ended front h = no_data v w Ended (decide v (on_port port Ended) front) (ended_none v port front)
+
+sends_by : (stepping : Bool) (v w : World) (o : Option Conversation) (front : Front) → (stepping ≡ true → WorldAlike v w front o)
     → sends_on v o (if stepping then decided_on v o front else None) front ≡ sends_on w o (if stepping then decided_on w o front else None) front
-sends_by stepping v w None front free page = refl
-sends_by false v w (Some c) front free page = refl
-sends_by true v w (Some c) front free page =
-    on_alike v w c (decided_on v (Some c) front) front page
-    ∙ ap (λ (d : Decision). sends_on w (Some c) (if is_ended c.session then None else Some d) front) (decide_alike v w c front free page)
+sends_by stepping v w None front h = refl
+sends_by false v w (Some c) front h = refl
+sends_by true v w (Some c) front h = by (is_ended c.session) where
+  by : (over : Bool)
+      → sends_on v (Some c) (if over then None else Some (decide v c front)) front
+      ≡ sends_on w (Some c) (if over then None else Some (decide w c front)) front
+  by true = refl
+  by false =
+      ap (wire_of (decide v c front) (head_of front)) (data_alike v w c.port c.session front (h refl))
+      ∙ ap (λ (d : Decision). sent_by w c.session d front) (decide_alike v w c front (h refl))
 
-sends_alike : (event : Event) (v w : World) (k : ℕ) → ShowAlike v w k
-    → sends (record { event = event; world = v }) k ≡ sends (record { event = event; world = w }) k
-sends_alike event v w k shows =
-    rw (← shows.conversation) (sends_by (steps event k) v w (v.conversation k) (front_in event) shows.free shows.pages)
+sends_alike : (k : ℕ) (x y : Happening) → SameFor k x y → sends x k ≡ sends y k
+sends_alike k x y same =
+    rw (same.event, ← same.conversation) (sends_by (steps x.event k) x.world y.world (x.conversation k) (front_in x.event) same.world)
+
+sent_more : (b c : Bool) (s t u z : List ℕ) → b ≡ c → s ≡ t → u ≡ z → (if b then [] else s ++ u) ≡ (if c then [] else t ++ z)
+sent_more b c s t u z p q r = rw (p, q, r) refl
 
 alike_sent : (g h : List Happening) (k : ℕ) → HappenedAlike g h k → sent g k ≡ sent h k
 alike_sent [] [] k alike = refl
 alike_sent [] (y ∷ ys) k alike = absurd alike
 alike_sent (x ∷ xs) [] k alike = absurd alike
 alike_sent (x ∷ xs) (y ∷ ys) k alike =
-    let here : sends x k ≡ sends (record { event = x.event; world = y.world }) k = sends_alike x.event x.world y.world k alike.1 in
-    rw (alike.0, here, alike_sent xs ys k alike.2) refl
+    sent_more (opens x.event k || gives_up x.event k) (opens y.event k || gives_up y.event k) (sent xs k) (sent ys k) (sends x k) (sends y k)
+    (ap (λ (e : Event). opens e k || gives_up e k) (sym alike.0.event)) (alike_sent xs ys k alike.1) (sends_alike k x y alike.0)
 
 -- ---- what is no event of the connection
 
@@ -139,7 +311,7 @@ own_sent (x ∷ before) k = by (is_of x.event k) refl (own_sent before k) where
   by true is earlier = ap (λ (s : List ℕ). if opens x.event k || gives_up x.event k then [] else s ++ sends x k) earlier
   by false is earlier =
       let parts = none_of (opens x.event k) (steps x.event k) (gives_up x.event k) is in
-      rw (parts.0, parts.1, parts.2, silent x.world (x.world.conversation k) (front_in x.event)) (append-nil (sent before k) ∙ earlier)
+      rw (parts.0, parts.1, parts.2, silent x.world (x.conversation k) (front_in x.event)) (append-nil (sent before k) ∙ earlier)
 
 pub sent_by_own_alone : SentByOwnAlone
 sent_by_own_alone = record { same = λ g h k alike. own_sent g k ∙ alike_sent (own g k) (own h k) k alike ∙ sym (own_sent h k) }

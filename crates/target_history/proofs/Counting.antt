@@ -14,18 +14,17 @@ use Rattle.target_decision.specs.declared.decision.Change.TheVariants as change
 use Rattle.target_decision.specs.declared.decision.Decision.{Decision}
 use Rattle.target_decision.specs.declared.decision.Decision.TheVariants as decision
 use Rattle.target_decision.specs.declared.decision.Reply.{Reply}
-use Rattle.target_decision.specs.declared.registers.Registers.{Registers}
 use Rattle.target_decision.specs.declared.session.Conversation.{Conversation}
 use Rattle.target_decision.specs.declared.session.Session.{Session}
-use Rattle.target_decision.specs.declared.session.Session.TheVariants.{Opened, Initialized, Admin, Ended}
+use Rattle.target_decision.specs.declared.session.Session.TheVariants.{Opened, Initialized, Connected, Ended}
 use Rattle.target_decision.specs.Capsule.{command, head_after, reply_of}
-use Rattle.target_decision.specs.Decision.{decide, decide_pdu, entry_of, first_by, next_by, terminate}
+use Rattle.target_decision.specs.Decision.{decide, decide_in, entry_of, first_by, next_by, terminate}
 use Rattle.target_decision.specs.Outcome.{Outcome}
 use Rattle.target_decision.specs.Session.{is_ended}
 use Rattle.target_decision.specs.World.{World}
-use Rattle.target_history.specs.Event.{Event, edited, opened, stepped, given_up}
+use Rattle.target_history.specs.Event.{Event, edited, front_in, opened, opens, stepped, steps, given_up, ticked}
 use Rattle.target_history.specs.Happening.{Happening, decided, decided_on}
-use Rattle.target_history.specs.History.{Beginning, beginning_by, beginning_of, beginning_or, conversation_of, has_ended, is_initialized, is_known, port_of, registers_of, responses_by, responses_since, session_with}
+use Rattle.target_history.specs.History.{Admission, admission_by, admission_of, admission_or, conversation_of, has_ended, is_initialized, is_known, port_of, responses_by, responses_since, session_with}
 use Rattle.target_history.specs.Laws.{HeadsCountResponses, sqsize_of}
 use Rattle.target_history.proofs.Steps.{first_head, one_more}
 
@@ -56,30 +55,33 @@ first_heads H2cData pdu = tt
 first_heads C2hData pdu = tt
 first_heads R2t pdu = tt
 
-next_heads : (kind : PduType) (w : World) (s : Session) (pdu : Pdu) → HeadIs s (next_by kind w s pdu)
-next_heads CapsuleCmd w s pdu = by (nat_lt 8192 (length (data_part pdu))) (command w s (entry_of pdu) (data_part pdu)) where
+next_heads : (kind : PduType) (w : World) (v : Conversation) (pdu : Pdu) → HeadIs v.session (next_by kind w v pdu)
+next_heads CapsuleCmd w v pdu = by (nat_lt 8192 (length (data_part pdu))) (command w v (entry_of pdu) (data_part pdu)) where
   by : (long : Bool) (o : Outcome)
-      → HeadIs s (if long then terminate LimitExceeded 0 else decision.Reply (reply_of s (cid_of (entry_of pdu)) o))
+      → HeadIs v.session (if long then terminate LimitExceeded 0 else decision.Reply (reply_of v.session (cid_of (entry_of pdu)) o))
   by true o = tt
-  by false o = reply_heads s (cid_of (entry_of pdu)) o
-next_heads IcReq w s pdu = tt
-next_heads IcResp w s pdu = tt
-next_heads H2cTermReq w s pdu = tt
-next_heads C2hTermReq w s pdu = tt
-next_heads CapsuleResp w s pdu = tt
-next_heads H2cData w s pdu = tt
-next_heads C2hData w s pdu = tt
-next_heads R2t w s pdu = tt
+  by false o = reply_heads v.session (cid_of (entry_of pdu)) o
+next_heads IcReq w v pdu = tt
+next_heads IcResp w v pdu = tt
+next_heads H2cTermReq w v pdu = tt
+next_heads C2hTermReq w v pdu = tt
+next_heads CapsuleResp w v pdu = tt
+next_heads H2cData w v pdu = tt
+next_heads C2hData w v pdu = tt
+next_heads R2t w v pdu = tt
 
-pdu_heads : (w : World) (s : Session) (pdu : Pdu) → HeadIs s (decide_pdu w s pdu)
-pdu_heads w Opened pdu = first_heads pdu.kind pdu
-pdu_heads w Initialized pdu = next_heads pdu.kind w Initialized pdu
-pdu_heads w (Admin c q) pdu = next_heads pdu.kind w (Admin c q) pdu
-pdu_heads w Ended pdu = tt
+abbrev on_port : ℕ → Session → Conversation
+on_port port session = record { port = port; session = session }
+
+pdu_heads : (w : World) (port : ℕ) (s : Session) (pdu : Pdu) → HeadIs s (decide_in s w (on_port port s) pdu)
+pdu_heads w port Opened pdu = first_heads pdu.kind pdu
+pdu_heads w port Initialized pdu = next_heads pdu.kind w (on_port port Initialized) pdu
+pdu_heads w port (Connected role queue) pdu = next_heads pdu.kind w (on_port port (Connected role queue)) pdu
+pdu_heads w port Ended pdu = tt
 
 decide_heads : (w : World) (v : Conversation) (front : Front) → HeadIs v.session (decide w v front)
 decide_heads w v incomplete = tt
-decide_heads w v (whole pdu) = pdu_heads w v.session pdu
+decide_heads w v (whole pdu) = pdu_heads w v.port v.session pdu
 decide_heads w v (faulty fault head) = tt
 
 -- ---- .. on a connection that is known and not ended
@@ -107,28 +109,37 @@ told true true false w port s front r h = decided_heads (is_ended s) w (record {
 round_one : (n : ℕ) → 0 ≡ n % (0 + 1)
 round_one n = let small : n % (0 + 1) < 0 + 1 = mod-lt n (omega arith) in omega (arith, small)
 
-head_counts : (ch : Change) (front : Front) (b : Option Beginning) (i : Bool) (registers : Registers) (n : ℕ)
-    → head_after (session_with b i registers n) ch
-    ≡ (1 + responses_by (beginning_by ch front) n) % (sqsize_of (beginning_or (beginning_by ch front) b) + 1)
-head_counts change.Stay front None false registers n = round_one (1 + n)
-head_counts change.Stay front None true registers n = round_one (1 + n)
-head_counts change.Stay front (Some b) i registers n = sym (one_more n b.admission.sqsize)
-head_counts (change.Begin a) front b i registers n = sym (first_head a.sqsize)
-head_counts (change.Configure cc) front None false registers n = round_one (1 + n)
-head_counts (change.Configure cc) front None true registers n = round_one (1 + n)
-head_counts (change.Configure cc) front (Some b) i registers n = sym (one_more n b.admission.sqsize)
+head_counts : (ch : Change) (a : Option Admission) (i : Bool) (n : ℕ)
+    → head_after (session_with a i n) ch
+    ≡ (1 + responses_by (admission_by ch) n) % (sqsize_of (admission_or (admission_by ch) a) + 1)
+head_counts (change.Begin b) a i n = sym (first_head b.sqsize)
+head_counts (change.Join j) a i n = sym (first_head j.sqsize)
+head_counts change.Stay None false n = round_one (1 + n)
+head_counts change.Stay None true n = round_one (1 + n)
+head_counts change.Stay (Some a) i n = sym (one_more n a.sqsize)
+head_counts (change.Configure s) None false n = round_one (1 + n)
+head_counts (change.Configure s) None true n = round_one (1 + n)
+head_counts (change.Configure s) (Some a) i n = sym (one_more n a.sqsize)
+head_counts (change.KeepAlive c) None false n = round_one (1 + n)
+head_counts (change.KeepAlive c) None true n = round_one (1 + n)
+head_counts (change.KeepAlive c) (Some a) i n = sym (one_more n a.sqsize)
 
-counts_here : (w : World) (event : Event) (before : List Happening) (k : ℕ) (r : Reply)
-    → let x : Happening = record { event = event; world = w } in
-    w.conversation k ≡ conversation_of before k → decided x k ≡ Some (decision.Reply r)
-    → r.sqhd ≡ responses_since (x ∷ before) k % (sqsize_of (beginning_of (x ∷ before) k) + 1)
-counts_here w (edited edit) before k r met h = cc
-counts_here w (opened port n) before k r met h = cc
-counts_here w (given_up n) before k r met h = cc
-counts_here w (stepped n front) before k r met h =
-    let carries = told (k == n) (is_known before k) (has_ended before k) w (port_of before k)
-    (session_with (beginning_of before k) (is_initialized before k) (registers_of before k) (responses_since before k)) front r (rw met at h) in
-    rw h (carries ∙ head_counts r.change front (beginning_of before k) (is_initialized before k) (registers_of before k) (responses_since before k))
+-- a decision is of a step, and a step opens nothing
+no_open : (event : Event) (k : ℕ) (d : Option Decision) (e : Decision) → (if steps event k then d else None) ≡ Some e → opens event k ≡ false
+no_open (edited edit) k d e h = refl
+no_open (opened port n) k d e h = cc
+no_open (given_up n) k d e h = refl
+no_open (stepped n front) k d e h = refl
+no_open (ticked now) k d e h = refl
+
+counts_here : (x : Happening) (before : List Happening) (k : ℕ) (r : Reply)
+    → x.conversation k ≡ conversation_of before k → decided x k ≡ Some (decision.Reply r)
+    → r.sqhd ≡ responses_since (x ∷ before) k % (sqsize_of (admission_of (x ∷ before) k) + 1)
+counts_here x before k r met h =
+    let carries = told (steps x.event k) (is_known before k) (has_ended before k) x.world (port_of before k)
+    (session_with (admission_of before k) (is_initialized before k) (responses_since before k)) (front_in x.event) r (rw met at h) in
+    let closed = no_open x.event k (decided_on x.world (x.conversation k) (front_in x.event)) (decision.Reply r) h in
+    rw (h, closed) (carries ∙ head_counts r.change (admission_of before k) (is_initialized before k) (responses_since before k))
 
 pub heads_count_responses : HeadsCountResponses
 heads_count_responses = record { counts = counts_here }

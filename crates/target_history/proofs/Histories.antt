@@ -14,15 +14,15 @@ use Rattle.target_decision.specs.declared.decision.Decision.{Decision}
 use Rattle.target_decision.specs.declared.decision.Decision.TheVariants as decision
 use Rattle.target_decision.specs.declared.session.Conversation.{Conversation}
 use Rattle.target_decision.specs.declared.session.Session.{Session}
-use Rattle.target_decision.specs.declared.session.Session.TheVariants.{Opened, Initialized, Admin, Ended}
-use Rattle.target_decision.specs.Decision.{decide, decide_pdu, first_by, is_command, next_by, terminate}
+use Rattle.target_decision.specs.declared.session.Session.TheVariants.{Opened, Initialized, Connected, Ended}
+use Rattle.target_decision.specs.Decision.{decide, decide_in, first_by, next_by, terminate}
 use Rattle.target_decision.specs.Session.{is_ended}
 use Rattle.target_decision.specs.World.{World}
-use Rattle.target_history.specs.Event.{Event, edited, front_in, opened, opens, steps, stepped, given_up}
-use Rattle.target_history.specs.Happening.{Happening, decided_on, responses, responses_decided, sends, sends_on}
-use Rattle.target_history.specs.History.{config_after, config_of, generation_after, generation_of, happened, has_ended, is_known, port_of, sent, session_of, world_of}
-use Rattle.std.proofs.Math.Dec.{T, eqb_refl}
-use Rattle.target_history.specs.Laws.{DeletedPortsEnd, EndedAreSentNothing, PagesChangeByEdits, ResponsesAnswerCapsules, capsules_of, is_capsule, is_edit, responses_of}
+use Rattle.target_history.specs.Event.{Event, edited, front_in, opened, opens, steps, stepped, given_up, ticked}
+use Rattle.target_history.specs.Happening.{Happening, config_after, decided_on, responses, responses_decided, sends, sends_on}
+use Rattle.target_history.specs.History.{config_of, generation_after, generation_of, happened, has_ended, is_known, port_of, meets_after, sent, session_of, world_of}
+use Rattle.target_history.specs.Laws.{DeletedPortsEnd, EndedAreSentNothing, PagesChangeByEdits, ResponsesAnswerCapsules, capsules_of, is_capsule, is_command, is_edit, responses_of}
+use Rattle.target_history.proofs.Tests.{same_here}
 
 -- ---- an ended connection
 
@@ -38,7 +38,7 @@ ended_session : (h : List Happening) (k : ℕ) → has_ended h k ≡ true → se
 ended_session h k ended = rw ended refl
 
 ended_sends : (units : List ℕ) (events : List Event) (event : Event) (k : ℕ) → has_ended (happened units events) k ≡ true
-    → sends (record { event = event; world = world_of units (happened units events) }) k ≡ []
+    → sends (meets_after units (happened units events) event) k ≡ []
 ended_sends units events event k ended =
     let before = happened units events in
     rw (ended_session before k ended) (silent_on (world_of units before) (is_known before k) (steps event k) (port_of before k) (front_in event))
@@ -51,21 +51,19 @@ ended_are_sent_nothing = record {
 
 -- ---- a deleted port
 
-same_here : (n : ℕ) → (n == n) ≡ true
-same_here n = by (n == n) (eqb_refl n) where
-  by : (b : Bool) → T b → b ≡ true
-  by true h = refl
-  by false h = absurd h
-
 pub deleted_ports_end : DeletedPortsEnd
 deleted_ports_end = record {
-  ends = λ w before k id met known port. rw (met, known, port, same_here id) refl;
+  ends = λ x before k id edits met known port. rw (edits, met, known, port, same_here id) refl;
 }
 
 -- ---- responses
 
 abbrev counted : Bool → ℕ
 counted capsule = if capsule then 1 else 0
+
+nothing_responds : (capsule : Bool) → 0 ≤ counted capsule
+nothing_responds true = omega arith
+nothing_responds false = omega arith
 
 first_responds : (kind : PduType) (pdu : Pdu) (capsule : Bool) → responses_decided (Some (first_by kind pdu)) ≤ counted capsule
 first_responds IcReq pdu capsule = by (not ((ic_req_of (header_part pdu)).pfv == 0)) (not ((ic_req_of (header_part pdu)).hpda == 0)) where
@@ -89,34 +87,27 @@ one_at_most (Some (decision.Reply r)) = omega arith
 one_at_most (Some (decision.Terminate t)) = omega arith
 one_at_most (Some decision.Close) = omega arith
 
-next_responds : (kind : PduType) (w : World) (s : Session) (pdu : Pdu) → responses_decided (Some (next_by kind w s pdu)) ≤ counted (is_command kind)
-next_responds CapsuleCmd w s pdu = one_at_most (Some (next_by CapsuleCmd w s pdu))
-next_responds IcReq w s pdu = omega arith
-next_responds IcResp w s pdu = omega arith
-next_responds H2cTermReq w s pdu = omega arith
-next_responds C2hTermReq w s pdu = omega arith
-next_responds CapsuleResp w s pdu = omega arith
-next_responds H2cData w s pdu = omega arith
-next_responds C2hData w s pdu = omega arith
-next_responds R2t w s pdu = omega arith
+next_responds : (kind : PduType) (w : World) (v : Conversation) (pdu : Pdu) → responses_decided (Some (next_by kind w v pdu)) ≤ counted (is_command kind)
+next_responds CapsuleCmd w v pdu = one_at_most (Some (next_by CapsuleCmd w v pdu))
+next_responds IcReq w v pdu = omega arith
+next_responds IcResp w v pdu = omega arith
+next_responds H2cTermReq w v pdu = omega arith
+next_responds C2hTermReq w v pdu = omega arith
+next_responds CapsuleResp w v pdu = omega arith
+next_responds H2cData w v pdu = omega arith
+next_responds C2hData w v pdu = omega arith
+next_responds R2t w v pdu = omega arith
 
-pdu_responds : (w : World) (s : Session) (pdu : Pdu) → responses_decided (Some (decide_pdu w s pdu)) ≤ counted (is_command pdu.kind)
-pdu_responds w Opened pdu = first_responds pdu.kind pdu (is_command pdu.kind)
-pdu_responds w Initialized pdu = next_responds pdu.kind w Initialized pdu
-pdu_responds w (Admin c q) pdu = next_responds pdu.kind w (Admin c q) pdu
-pdu_responds w Ended pdu = by (is_command pdu.kind) where
-  by : (capsule : Bool) → 0 ≤ counted capsule
-  by true = omega arith
-  by false = omega arith
+in_responds : (s : Session) (w : World) (v : Conversation) (pdu : Pdu) → responses_decided (Some (decide_in s w v pdu)) ≤ counted (is_command pdu.kind)
+in_responds Opened w v pdu = first_responds pdu.kind pdu (is_command pdu.kind)
+in_responds Initialized w v pdu = next_responds pdu.kind w v pdu
+in_responds (Connected role queue) w v pdu = next_responds pdu.kind w v pdu
+in_responds Ended w v pdu = nothing_responds (is_command pdu.kind)
 
 front_responds : (w : World) (v : Conversation) (front : Front) → responses_decided (Some (decide w v front)) ≤ counted (is_capsule front)
 front_responds w v incomplete = omega arith
-front_responds w v (whole pdu) = pdu_responds w v.session pdu
+front_responds w v (whole pdu) = in_responds v.session w v pdu
 front_responds w v (faulty fault head) = omega arith
-
-nothing_responds : (capsule : Bool) → 0 ≤ counted capsule
-nothing_responds true = omega arith
-nothing_responds false = omega arith
 
 decided_responds : (stepping : Bool) (w : World) (o : Option Conversation) (front : Front)
     → responses_decided (if stepping then decided_on w o front else None) ≤ counted (stepping && is_capsule front)
@@ -134,7 +125,7 @@ answered (x ∷ before) k = by (opens x.event k) (answered before k) where
       ≤ (if opening then 0 else counted (steps x.event k && is_capsule (front_in x.event)) + capsules_of before k)
   by true earlier = omega arith
   by false earlier =
-      let here = decided_responds (steps x.event k) x.world (x.world.conversation k) (front_in x.event) in
+      let here = decided_responds (steps x.event k) x.world (x.conversation k) (front_in x.event) in
       omega (arith, here, earlier)
 
 pub responses_answer_capsules : ResponsesAnswerCapsules
@@ -149,6 +140,7 @@ page_stays (edited edit) c n host h = cc
 page_stays (opened port k) c n host h = refl
 page_stays (stepped k front) c n host h = refl
 page_stays (given_up k) c n host h = refl
+page_stays (ticked now) c n host h = refl
 
 pub pages_change_by_edits : PagesChangeByEdits
 pages_change_by_edits = record {

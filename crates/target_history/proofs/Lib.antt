@@ -1,5 +1,12 @@
+pub mod Admissions
 pub mod Alike
 pub mod Counting
+pub mod Endings
 pub mod Heads
 pub mod Histories
+pub mod Holding
+pub mod Lives
+pub mod Roles
+pub mod Serving
 pub mod Steps
+pub mod Tests

@@ -4,13 +4,14 @@ use Rattle.config_edits.specs.declared.edit.Edit.{Edit}
 use Rattle.pdu_cut.specs.Front.{Front, incomplete}
 
 -- An edit was accepted; a connection was opened on a port and got a number; a step of a connection found
--- this at the front of its stream, a whole PDU, which it consumed, or a fault; a connection was given up. What a call
--- refuses, and a step that is idle, is no event.
+-- this at the front of its stream, a whole PDU, which it consumed, or a fault; a connection was given up; the
+-- clock was set, in ms. What a call refuses, and a step that is idle, is no event.
 pub data Event : Type 0 where
   edited : Edit → Event
   opened : ℕ → ℕ → Event
   stepped : ℕ → Front → Event
   given_up : ℕ → Event
+  ticked : ℕ → Event
 
 -- whether it opens connection k
 abbrev pub opens : Event → ℕ → Bool
@@ -18,6 +19,7 @@ opens (edited edit) k = false
 opens (opened port n) k = k == n
 opens (stepped n front) k = false
 opens (given_up n) k = false
+opens (ticked now) k = false
 
 -- the port that it opens a connection on
 abbrev pub port_in : Event → ℕ
@@ -25,6 +27,7 @@ port_in (edited edit) = 0
 port_in (opened port n) = port
 port_in (stepped n front) = 0
 port_in (given_up n) = 0
+port_in (ticked now) = 0
 
 -- whether it gives connection k up
 abbrev pub gives_up : Event → ℕ → Bool
@@ -32,6 +35,7 @@ gives_up (edited edit) k = false
 gives_up (opened port n) k = false
 gives_up (stepped n front) k = false
 gives_up (given_up n) k = k == n
+gives_up (ticked now) k = false
 
 -- whether it is a step of connection k
 abbrev pub steps : Event → ℕ → Bool
@@ -39,6 +43,7 @@ steps (edited edit) k = false
 steps (opened port n) k = false
 steps (stepped n front) k = k == n
 steps (given_up n) k = false
+steps (ticked now) k = false
 
 -- what a step found at the front of the stream
 abbrev pub front_in : Event → Front
@@ -46,3 +51,4 @@ front_in (edited edit) = incomplete
 front_in (opened port n) = incomplete
 front_in (stepped n front) = front
 front_in (given_up n) = incomplete
+front_in (ticked now) = incomplete

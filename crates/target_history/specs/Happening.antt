@@ -1,23 +1,61 @@
--- An event with the world that it met, and what it comes to for each connection.
-use Rattle.std.specs.Prelude.{ℕ, Bool, true, false, ◌||◌, List, [], Option, Some, None, if◌then◌else◌}
+-- An event with what it met, and what it comes to for each connection and each controller.
+use Rattle.std.specs.Prelude.{ℕ, ◌==◌, max, Bool, true, false, ◌||◌, List, [], Option, Some, None, Result, Ok, Err, if◌then◌else◌}
 use Rattle.std.specs.Option.{option_map}
+use Rattle.config_edits.specs.declared.fault.EditFault.{EditFault}
+use Rattle.config_rules.specs.Accept.{accept}
+use Rattle.config_rules.specs.Configuration.{Configuration}
+use Rattle.fabrics_connect.specs.declared.row.Row.{Row}
+use Rattle.fabrics_connect.specs.Row.{joined, left, left_all, row_begun, with_ready}
 use Rattle.pdu_cut.specs.Front.{Front}
+use Rattle.property_regs.specs.declared.kind.ControllerKind.{ControllerKind}
+use Rattle.property_regs.specs.Regs.{is_ready, regs_after}
+use Rattle.target_decision.specs.declared.controller.Controller.{Controller}
+use Rattle.target_decision.specs.declared.decision.Beginning.{Beginning}
 use Rattle.target_decision.specs.declared.decision.Change.{Change}
 use Rattle.target_decision.specs.declared.decision.Change.TheVariants as change
 use Rattle.target_decision.specs.declared.decision.Decision.{Decision}
 use Rattle.target_decision.specs.declared.decision.Decision.TheVariants as decision
+use Rattle.target_decision.specs.declared.decision.Setting.{Setting}
 use Rattle.target_decision.specs.declared.session.Conversation.{Conversation}
 use Rattle.target_decision.specs.declared.session.Session.{Session}
 use Rattle.target_decision.specs.declared.session.Session.TheVariants.{Ended}
-use Rattle.target_decision.specs.Decision.{decide, host_in, is_end, sent_by}
+use Rattle.target_decision.specs.Begin.{bytes_at, entry_at, row_by}
+use Rattle.target_decision.specs.Controller.{new_controller, registers_at, with_mark, with_property}
+use Rattle.target_decision.specs.Decision.{decide, is_end, sent_by}
 use Rattle.target_decision.specs.Session.{is_ended, opened_on, session_after}
 use Rattle.target_decision.specs.World.{World}
-use Rattle.target_history.specs.Ending.{ending_in, ends_by}
-use Rattle.target_history.specs.Event.{Event, front_in, gives_up, opens, port_in, steps}
+use Rattle.target_history.specs.declared.ending.Ending.{Ending}
+use Rattle.target_history.specs.declared.ending.Ending.TheVariants as ending
+use Rattle.target_history.specs.Ending.{ending_decided, ending_edited, ending_lost, ends_by, ends_controller}
+use Rattle.target_history.specs.Event.{Event, edited, front_in, gives_up, given_up, opened, opens, port_in, stepped, steps, ticked}
 
+-- an event, the world that decisions may look at, each connection that is known, and the clock, in ms
 pub record Happening : Type 0 where
   pub event : Event
   pub world : World
+  pub conversation : ℕ → Option Conversation
+  pub clock : ℕ
+
+-- ---- the configuration and the clock
+
+abbrev pub accepted_or : Result Configuration EditFault → Configuration → Configuration
+accepted_or (Ok c) old = c
+accepted_or (Err fault) old = old
+
+abbrev pub config_after : Event → Configuration → Configuration
+config_after (edited edit) c = accepted_or (accept c edit) c
+config_after (opened port n) c = c
+config_after (stepped n front) c = c
+config_after (given_up n) c = c
+config_after (ticked now) c = c
+
+-- the clock never goes back
+abbrev pub clock_after : Event → ℕ → ℕ
+clock_after (ticked now) clock = max clock now
+clock_after (edited edit) clock = clock
+clock_after (opened port n) clock = clock
+clock_after (stepped n front) clock = clock
+clock_after (given_up n) clock = clock
 
 -- ---- what is decided
 
@@ -28,7 +66,19 @@ decided_on w (Some v) front = if is_ended v.session then None else Some (decide 
 
 -- what is decided for connection k, where the event is a step of it
 abbrev pub decided : Happening → ℕ → Option Decision
-decided x k = if steps x.event k then decided_on x.world (x.world.conversation k) (front_in x.event) else None
+decided x k = if steps x.event k then decided_on x.world (x.conversation k) (front_in x.event) else None
+
+-- the connection that it is a step of, as it met it
+abbrev pub stepping : Event → (ℕ → Option Conversation) → Option Conversation
+stepping (stepped n front) conversation = conversation n
+stepping (edited edit) conversation = None
+stepping (opened port n) conversation = None
+stepping (given_up n) conversation = None
+stepping (ticked now) conversation = None
+
+-- what is decided for that connection
+abbrev pub decision_of : Happening → Option Decision
+decision_of x = decided_on x.world (stepping x.event x.conversation) (front_in x.event)
 
 abbrev pub change_decided : Option Decision → Change
 change_decided None = change.Stay
@@ -40,6 +90,10 @@ change_decided (Some decision.Close) = change.Stay
 -- the change that the connection's own command makes
 abbrev pub own_change : Happening → ℕ → Change
 own_change x k = change_decided (decided x k)
+
+-- the change that any command makes
+abbrev pub change_of : Happening → Change
+change_of x = change_decided (decision_of x)
 
 abbrev pub is_initialize : Option Decision → Bool
 is_initialize None = false
@@ -65,6 +119,30 @@ responses x k = responses_decided (decided x k)
 
 -- ---- what ends
 
+abbrev pub ending_taken : Option Conversation → Option Decision → Ending
+ending_taken None d = ending.Nothing
+ending_taken (Some v) None = ending.Nothing
+ending_taken (Some v) (Some d) = ending_decided v.session d
+
+abbrev pub ending_given_up : Option Conversation → Ending
+ending_given_up None = ending.Nothing
+ending_given_up (Some v) = ending_lost v.session
+
+abbrev pub ending_by : Event → (ℕ → Option Conversation) → Option Decision → ℕ → Ending
+ending_by (edited edit) conversation d clock = ending_edited edit
+ending_by (opened port n) conversation d clock = ending.Nothing
+ending_by (stepped n front) conversation d clock = ending_taken (conversation n) d
+ending_by (given_up n) conversation d clock = ending_given_up (conversation n)
+ending_by (ticked now) conversation d clock = ending.Clock (max clock now)
+
+-- what it ends beside the connection that it is a step of
+abbrev pub ending_of : Happening → Ending
+ending_of x = ending_by x.event x.conversation (decision_of x) x.clock
+
+-- whether it ends the controller of this identifier
+abbrev pub ends_live : Happening → ℕ → Bool
+ends_live x c = ends_controller (ending_of x) (config_after x.event x.world.config) c (x.world.row c) (x.world.controller c)
+
 abbrev pub is_end_decided : Option Decision → Bool
 is_end_decided None = false
 is_end_decided (Some d) = is_end d
@@ -73,36 +151,112 @@ is_end_decided (Some d) = is_end d
 abbrev pub terminates : Happening → ℕ → Bool
 terminates x k = is_end_decided (decided x k)
 
-abbrev pub ends_at : Event → Option Conversation → Bool
-ends_at event None = false
-ends_at event (Some v) = ends_by (ending_in event) v
+abbrev pub ends_at : Happening → Option Conversation → Bool
+ends_at x None = false
+ends_at x (Some v) = ends_by (ending_of x) (ends_live x) v
 
 -- whether it ends connection k
 abbrev pub ends : Happening → ℕ → Bool
-ends x k = terminates x k || ends_at x.event (x.world.conversation k)
+ends x k = terminates x k || ends_at x (x.conversation k)
 
 -- ---- what a connection is sent, and becomes
 
 abbrev pub sends_on : World → Option Conversation → Option Decision → Front → List ℕ
 sends_on w None d front = []
 sends_on w (Some v) None front = []
-sends_on w (Some v) (Some d) front = sent_by w.pages v.session d front
+sends_on w (Some v) (Some d) front = sent_by w v.session d front
 
 -- what it sends to connection k
 abbrev pub sends : Happening → ℕ → List ℕ
-sends x k = sends_on x.world (x.world.conversation k) (decided x k) (front_in x.event)
+sends x k = sends_on x.world (x.conversation k) (decided x k) (front_in x.event)
 
-abbrev pub session_decided : Session → Option Decision → Front → Session
-session_decided session None front = session
-session_decided session (Some d) front = session_after session d (host_in front)
+abbrev pub session_decided : Session → Option Decision → Session
+session_decided session None = session
+session_decided session (Some d) = session_after session d
 
 abbrev pub conversation_moved : Happening → ℕ → Conversation → Conversation
 conversation_moved x k v = record {
   port = v.port;
-  session = if ends_by (ending_in x.event) v then Ended else session_decided v.session (decided x k) (front_in x.event);
+  session = if ends_by (ending_of x) (ends_live x) v then Ended else session_decided v.session (decided x k);
 }
 
 abbrev pub conversation_after : Happening → ℕ → Option Conversation → Option Conversation
 conversation_after x k o =
     if opens x.event k then Some (opened_on (port_in x.event)) else
     if gives_up x.event k then None else option_map (conversation_moved x k) o
+
+-- ---- what a controller becomes
+
+-- what a controller began with: what its Connect said, the row that this made, and the clock of then
+pub record Start : Type 0 where
+  pub beginning : Beginning
+  pub row : Row
+  pub clock : ℕ
+
+abbrev pub port_at : Option Conversation → ℕ
+port_at None = 0
+port_at (Some v) = v.port
+
+-- the port of the connection that it is a step of
+abbrev pub port_met : Happening → ℕ
+port_met x = port_at (stepping x.event x.conversation)
+
+-- .. where it is this that it began with
+abbrev pub started : Happening → Beginning → Start
+started x b = record {
+  beginning = b;
+  row = row_begun b.controller (port_met x) (entry_at (front_in x.event)) (bytes_at (front_in x.event));
+  clock = x.clock;
+}
+
+abbrev pub begins_by : Happening → Change → ℕ → Option Start
+begins_by x (change.Begin b) c = if c == b.controller.cntlid then Some (started x b) else None
+begins_by x change.Stay c = None
+begins_by x (change.Join j) c = None
+begins_by x (change.Configure s) c = None
+begins_by x (change.KeepAlive d) c = None
+
+-- the controller of this identifier that it begins
+abbrev pub begins : Happening → ℕ → Option Start
+begins x c = begins_by x (change_of x) c
+
+-- the queues that an I/O queue, or a reset, leaves
+abbrev pub row_kept : Ending → ℕ → Row → Row
+row_kept (ending.Queue d qid) c row = if c == d then left qid row else row
+row_kept (ending.Reset d) c row = if c == d then left_all row else row
+row_kept ending.Nothing c row = row
+row_kept (ending.Port id) c row = row
+row_kept ending.Permission c row = row
+row_kept (ending.Controller d) c row = row
+row_kept (ending.Clock now) c row = row
+
+abbrev pub row_left : Happening → ℕ → Option Row → Option Row
+row_left x c o = if ends_live x c then None else option_map (row_kept (ending_of x) c) o
+
+-- whether a controller is ready after a Property Set
+abbrev pub ready_after : Option Controller → Setting → Bool
+ready_after None s = false
+ready_after (Some c) s = is_ready (regs_after c.registers s.property.ofst s.property.attrib s.property.value)
+
+-- what a change makes of a row, with this row where it begins a controller
+abbrev pub row_changed : Change → Option Row → Option Controller → ℕ → Option Row → Option Row
+row_changed (change.Begin b) begun controller c o = if c == b.controller.cntlid then begun else o
+row_changed (change.Join j) begun controller c o = if c == j.cntlid then option_map (joined j.qid) o else o
+row_changed (change.Configure s) begun controller c o = if c == s.cntlid then option_map (with_ready (ready_after controller s)) o else o
+row_changed (change.KeepAlive d) begun controller c o = o
+row_changed change.Stay begun controller c o = o
+
+abbrev pub row_after : Happening → ℕ → Option Row → Option Row
+row_after x c o =
+    row_changed (change_of x) (row_by (change_of x) (port_met x) (front_in x.event)) (x.world.controller c) c (row_left x c o)
+
+-- .. and of what its own admin queue alone uses, when the clock shows this
+abbrev pub controller_changed : Change → ℕ → ℕ → Option Controller → Option Controller
+controller_changed (change.Begin b) now c o = if c == b.controller.cntlid then Some (new_controller b.controller.kind b.kato now) else o
+controller_changed (change.Configure s) now c o = if c == s.cntlid then option_map (with_property s.property) o else o
+controller_changed (change.KeepAlive d) now c o = if c == d then option_map (with_mark now) o else o
+controller_changed (change.Join j) now c o = o
+controller_changed change.Stay now c o = o
+
+abbrev pub controller_after : Happening → ℕ → Option Controller → Option Controller
+controller_after x c o = controller_changed (change_of x) x.clock c (if ends_live x c then None else o)

@@ -1,43 +1,43 @@
 -- What a history of events makes of a target. Each definition looks back over the list of what happened,
 -- the newest first; none keeps anything.
-use Rattle.std.specs.Prelude.{ℕ, ◌+◌, ◌%◌, ◌^◌, Bool, true, false, not, ◌||◌, ◌&&◌, List, [], ◌∷◌, ◌++◌, Option, Some, None, Result, Ok, Err, if◌then◌else◌}
+use Rattle.std.specs.Prelude.{ℕ, ◌+◌, ◌%◌, ◌^◌, Bool, true, false, not, ◌==◌, ◌||◌, ◌&&◌, List, [], ◌∷◌, ◌++◌, map, Option, Some, None, is_some, if◌then◌else◌}
+use Rattle.std.specs.List.{range_with_len}
+use Rattle.std.specs.Option.{option_map}
 use Rattle.discovery_view.specs.Page.{discovery_page}
 use Rattle.discovery_view.specs.Records.{records_of}
 use Rattle.discovery_view.specs.View.{changes_records}
-use Rattle.config_rules.specs.Accept.{accept}
 use Rattle.config_rules.specs.Configuration.{Configuration, disks_alone}
-use Rattle.config_edits.specs.declared.fault.EditFault.{EditFault}
+use Rattle.fabrics_connect.specs.declared.row.Row.{Row}
 use Rattle.pdu_cut.specs.Front.{Front, incomplete, whole, faulty}
 use Rattle.pdu_cut.specs.Pdu.{Pdu}
-use Rattle.target_decision.specs.declared.decision.Admission.{Admission}
+use Rattle.property_regs.specs.declared.kind.ControllerKind.TheVariants.{Discovery}
+use Rattle.property_regs.specs.declared.regs.Regs.{Regs}
+use Rattle.property_regs.specs.Regs.{is_ready, regs_after, regs_at_connect}
+use Rattle.target_decision.specs.declared.controller.Controller.{Controller}
 use Rattle.target_decision.specs.declared.decision.Change.{Change}
 use Rattle.target_decision.specs.declared.decision.Change.TheVariants as change
-use Rattle.target_decision.specs.declared.registers.Registers.{Registers}
 use Rattle.target_decision.specs.declared.session.Conversation.{Conversation}
+use Rattle.target_decision.specs.declared.session.Role.{Role}
+use Rattle.target_decision.specs.declared.session.Role.TheVariants.{Admin, Io}
 use Rattle.target_decision.specs.declared.session.Session.{Session}
-use Rattle.target_decision.specs.declared.session.Session.TheVariants.{Opened, Initialized, Admin, Ended}
-use Rattle.target_decision.specs.Decision.{host_in}
-use Rattle.target_decision.specs.Registers.{configured, registers_at_connect}
+use Rattle.target_decision.specs.declared.session.Session.TheVariants.{Opened, Initialized, Connected, Ended}
 use Rattle.target_decision.specs.World.{Pages, World}
-use Rattle.target_history.specs.Event.{Event, edited, front_in, gives_up, opened, opens, port_in, steps, stepped, given_up}
-use Rattle.target_history.specs.Happening.{Happening, ends, initializes, own_change, responses, sends}
+use Rattle.target_history.specs.declared.ending.Ending.{Ending}
+use Rattle.target_history.specs.declared.ending.Ending.TheVariants as ending
+use Rattle.target_history.specs.Event.{Event, edited, front_in, gives_up, opened, opens, port_in, steps, stepped, given_up, ticked}
+use Rattle.target_history.specs.Happening.{Happening, Start, begins, change_of, clock_after, config_after, ending_of, ends, ends_live, initializes, own_change, responses, sends}
 
--- ---- the configuration
-
-abbrev pub accepted_or : Result Configuration EditFault → Configuration → Configuration
-accepted_or (Ok c) old = c
-accepted_or (Err fault) old = old
-
-abbrev pub config_after : Event → Configuration → Configuration
-config_after (edited edit) c = accepted_or (accept c edit) c
-config_after (opened port n) c = c
-config_after (stepped n front) c = c
-config_after (given_up n) c = c
+-- ---- the configuration and the clock
 
 -- the disks alone, with each edit accepted in turn
 abbrev pub config_of : List ℕ → List Happening → Configuration
 config_of units [] = disks_alone units
 config_of units (x ∷ before) = config_after x.event (config_of units before)
+
+-- the greatest value that it was set to, in ms
+abbrev pub clock_of : List Happening → ℕ
+clock_of [] = 0
+clock_of (x ∷ before) = clock_after x.event (clock_of before)
 
 -- ---- the discovery log page (Base 2.0, section 5.16.1.23)
 
@@ -47,6 +47,7 @@ generation_after (edited edit) c host n = changes_records c (config_after (edite
 generation_after (opened port k) c host n = n
 generation_after (stepped k front) c host n = n
 generation_after (given_up k) c host n = n
+generation_after (ticked now) c host n = n
 
 -- the number of edits that changed the records of a host
 abbrev pub generation_of : List ℕ → List Happening → List ℕ → ℕ
@@ -82,67 +83,133 @@ abbrev pub is_initialized : List Happening → ℕ → Bool
 is_initialized [] k = false
 is_initialized (x ∷ before) k = not (opens x.event k) && (initializes x k || is_initialized before k)
 
--- ---- its controller and queue, from its Connect on (Base 2.0, section 6.3)
+-- ---- its queue, from its Connect on (Base 2.0, section 6.3)
 
--- what a Connect admitted, and for which host
-pub record Beginning : Type 0 where
-  pub admission : Admission
-  pub host : List ℕ
+-- which queue a Connect made of it, and the queue's size
+pub record Admission : Type 0 where
+  pub role : Role
+  pub sqsize : ℕ
 
-abbrev pub beginning_by : Change → Front → Option Beginning
-beginning_by (change.Begin a) front = Some (record { admission = a; host = host_in front })
-beginning_by change.Stay front = None
-beginning_by (change.Configure cc) front = None
+abbrev pub admission_by : Change → Option Admission
+admission_by (change.Begin b) = Some (record { role = Admin b.controller.cntlid; sqsize = b.sqsize })
+admission_by (change.Join j) = Some (record { role = Io j.cntlid j.qid; sqsize = j.sqsize })
+admission_by change.Stay = None
+admission_by (change.Configure s) = None
+admission_by (change.KeepAlive c) = None
 
--- the beginning that the connection's own command makes
-abbrev pub begins : Happening → ℕ → Option Beginning
-begins x k = beginning_by (own_change x k) (front_in x.event)
+-- the queue that the connection's own command makes of it
+abbrev pub admits : Happening → ℕ → Option Admission
+admits x k = admission_by (own_change x k)
 
-abbrev pub beginning_or : Option Beginning → Option Beginning → Option Beginning
-beginning_or None before = before
-beginning_or (Some b) before = Some b
+abbrev pub admission_or : Option Admission → Option Admission → Option Admission
+admission_or None before = before
+admission_or (Some a) before = Some a
 
--- its latest beginning since its open
-abbrev pub beginning_of : List Happening → ℕ → Option Beginning
-beginning_of [] k = None
-beginning_of (x ∷ before) k = if opens x.event k then None else beginning_or (begins x k) (beginning_of before k)
+-- its latest since its open
+abbrev pub admission_of : List Happening → ℕ → Option Admission
+admission_of [] k = None
+admission_of (x ∷ before) k = if opens x.event k then None else admission_or (admits x k) (admission_of before k)
 
-abbrev pub registers_by : Change → Registers → Registers
-registers_by (change.Begin a) registers = registers_at_connect
-registers_by change.Stay registers = registers
-registers_by (change.Configure cc) registers = configured registers cc
-
--- the properties, by each Property Set since its beginning (Base 2.0, section 3.1.3)
-abbrev pub registers_of : List Happening → ℕ → Registers
-registers_of [] k = registers_at_connect
-registers_of (x ∷ before) k = registers_by (own_change x k) (registers_of before k)
-
-abbrev pub responses_by : Option Beginning → ℕ → ℕ
+abbrev pub responses_by : Option Admission → ℕ → ℕ
 responses_by None before = before
-responses_by (Some b) before = 0
+responses_by (Some a) before = 0
 
--- the number of responses since its beginning, that of its Connect included
+-- the number of responses since that Connect, its own included
 abbrev pub responses_since : List Happening → ℕ → ℕ
 responses_since [] k = 0
-responses_since (x ∷ before) k = responses x k + responses_by (begins x k) (responses_since before k)
+responses_since (x ∷ before) k = responses x k + responses_by (admits x k) (responses_since before k)
 
-abbrev pub session_with : Option Beginning → Bool → Registers → ℕ → Session
-session_with None false registers n = Opened
-session_with None true registers n = Initialized
-session_with (Some b) initialized registers n =
-    Admin (record { cntlid = b.admission.cntlid; host = b.host; registers = registers })
-    (record { sqsize = b.admission.sqsize; head = n % (b.admission.sqsize + 1) })
+abbrev pub session_with : Option Admission → Bool → ℕ → Session
+session_with None false n = Opened
+session_with None true n = Initialized
+session_with (Some a) initialized n = Connected a.role (record { sqsize = a.sqsize; head = n % (a.sqsize + 1) })
 
 -- how far target and host have come on it: the queue's head counts the responses round the queue's size
 -- (SQHD: Base 2.0, section 3.3.3.2)
 abbrev pub session_of : List Happening → ℕ → Session
 session_of happened k =
     if has_ended happened k then Ended else
-    session_with (beginning_of happened k) (is_initialized happened k) (registers_of happened k) (responses_since happened k)
+    session_with (admission_of happened k) (is_initialized happened k) (responses_since happened k)
 
 abbrev pub conversation_of : List Happening → ℕ → Option Conversation
 conversation_of happened k =
     if is_known happened k then Some (record { port = port_of happened k; session = session_of happened k }) else None
+
+-- ---- controllers (Base 2.0, sections 3.1 and 6.3)
+
+abbrev pub start_or : Option Start → Option Start → Option Start
+start_or None before = before
+start_or (Some s) before = Some s
+
+-- what the controller of this identifier began with, where it lives: it does from its Connect until it is ended
+abbrev pub start_of : List Happening → ℕ → Option Start
+start_of [] c = None
+start_of (x ∷ before) c = start_or (begins x c) (if ends_live x c then None else start_of before c)
+
+abbrev pub is_live : List Happening → ℕ → Bool
+is_live happened c = is_some (start_of happened c)
+
+abbrev pub registers_by : Change → ℕ → Regs → Regs
+registers_by (change.Begin b) c registers = if c == b.controller.cntlid then regs_at_connect b.controller.kind else registers
+registers_by (change.Configure s) c registers =
+    if c == s.cntlid then regs_after registers s.property.ofst s.property.attrib s.property.value else registers
+registers_by change.Stay c registers = registers
+registers_by (change.Join j) c registers = registers
+registers_by (change.KeepAlive d) c registers = registers
+
+-- its properties, by each Property Set since its Connect (Base 2.0, section 3.1.3)
+abbrev pub registers_of : List Happening → ℕ → Regs
+registers_of [] c = regs_at_connect Discovery
+registers_of (x ∷ before) c = registers_by (change_of x) c (registers_of before c)
+
+abbrev pub beats_by : Change → ℕ → Bool
+beats_by (change.Begin b) c = c == b.controller.cntlid
+beats_by (change.KeepAlive d) c = c == d
+beats_by change.Stay c = false
+beats_by (change.Join j) c = false
+beats_by (change.Configure s) c = false
+
+-- the clock at its Connect or, where one came later, at its latest Keep Alive (Base 2.0, section 3.9)
+abbrev pub mark_of : List Happening → ℕ → ℕ
+mark_of [] c = 0
+mark_of (x ∷ before) c = if beats_by (change_of x) c then x.clock else mark_of before c
+
+abbrev pub joins_by : Change → ℕ → ℕ → Bool
+joins_by (change.Join j) c qid = (c == j.cntlid) && (qid == j.qid)
+joins_by change.Stay c qid = false
+joins_by (change.Begin b) c qid = false
+joins_by (change.Configure s) c qid = false
+joins_by (change.KeepAlive d) c qid = false
+
+abbrev pub drops_by : Ending → ℕ → ℕ → Bool
+drops_by (ending.Queue d q) c qid = (c == d) && (qid == q)
+drops_by (ending.Reset d) c qid = c == d
+drops_by ending.Nothing c qid = false
+drops_by (ending.Port id) c qid = false
+drops_by ending.Permission c qid = false
+drops_by (ending.Controller d) c qid = false
+drops_by (ending.Clock now) c qid = false
+
+-- whether it has an I/O queue of this identifier: it does from the queue's Connect until the queue's
+-- connection is ended or given up, or the controller is reset
+abbrev pub has_queue : List Happening → ℕ → ℕ → Bool
+has_queue [] c qid = false
+has_queue (x ∷ before) c qid =
+    joins_by (change_of x) c qid || (not (is_some (begins x c) || drops_by (ending_of x) c qid) && has_queue before c qid)
+
+abbrev pub row_with : Regs → (ℕ → Bool) → Start → Row
+row_with registers queue s = record s.row { ready = is_ready registers; qids = map queue (range_with_len 0 9) }
+
+-- what all connections may see of it
+abbrev pub row_of : List Happening → ℕ → Option Row
+row_of happened c = option_map (row_with (registers_of happened c) (has_queue happened c)) (start_of happened c)
+
+abbrev pub controller_with : Regs → ℕ → Start → Controller
+controller_with registers mark s = record { registers = registers; kato = s.beginning.kato; mark = mark }
+
+-- what its own admin queue alone uses of it
+abbrev pub controller_of : List Happening → ℕ → Option Controller
+controller_of happened c = option_map (controller_with (registers_of happened c) (mark_of happened c)) (start_of happened c)
 
 -- ---- its stream
 
@@ -175,11 +242,21 @@ sent (x ∷ before) k = if opens x.event k || gives_up x.event k then [] else se
 abbrev pub world_of : List ℕ → List Happening → World
 world_of units happened = record {
   pages = pages_of units happened;
-  conversation = conversation_of happened;
+  config = config_of units happened;
+  row = row_of happened;
+  controller = controller_of happened;
 }
 
--- each event with the world that it met
+-- an event after all that happened
+abbrev pub meets_after : List ℕ → List Happening → Event → Happening
+meets_after units before event = record {
+  event = event;
+  world = world_of units before;
+  conversation = conversation_of before;
+  clock = clock_of before;
+}
+
+-- each event with what it met
 abbrev pub happened : List ℕ → List Event → List Happening
 happened units [] = []
-happened units (event ∷ before) =
-    record { event = event; world = world_of units (happened units before) } ∷ happened units before
+happened units (event ∷ before) = meets_after units (happened units before) event ∷ happened units before

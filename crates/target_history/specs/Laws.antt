@@ -1,18 +1,43 @@
 -- Laws of histories.
-use Rattle.std.specs.Prelude.{◌≡◌, ◌≤◌, ℕ, ◌+◌, ◌%◌, Bool, true, false, ◌||◌, ◌&&◌, List, [], ◌∷◌, Option, Some, None, if◌then◌else◌}
+use Rattle.std.specs.Prelude.{◌≡◌, ◌≤◌, ℕ, ◌+◌, ◌%◌, Bool, true, false, ◌==◌, ◌||◌, ◌&&◌, List, [], ◌∷◌, Option, Some, None, IsSomeAnd, if◌then◌else◌}
+use Rattle.std.specs.Option.{option_map}
+use Rattle.config_edits.specs.declared.edit.Edit.{Edit}
 use Rattle.config_edits.specs.declared.edit.Edit.TheVariants.{PortDel}
+use Rattle.config_rules.specs.Configuration.{Configuration}
+use Rattle.config_rules.specs.Permission.{may_use}
+use Rattle.fabrics_connect.specs.declared.row.Row.{Row}
+use Rattle.fabrics_connect.specs.Command.{Parameters, parameters_of}
+use Rattle.fabrics_connect.specs.Connect.{is_served}
+use Rattle.fabrics_connect.specs.Controllers.{free_cntlid}
+use Rattle.fabrics_connect.specs.QueueIds.{no_queues}
+use Rattle.fabrics_connect.specs.Row.{has_queue as has_qid}
+use Rattle.nvt_fields.specs.declared.pdu_type.PduType.{PduType}
+use Rattle.nvt_fields.specs.declared.pdu_type.PduType.TheVariants.{CapsuleCmd}
+use Rattle.pdu_codec.specs.Sqe.{fctype_of, opcode_of}
 use Rattle.pdu_cut.specs.Front.{Front, incomplete, whole, faulty}
+use Rattle.property_regs.specs.declared.regs.Change.TheVariants as effect
+use Rattle.target_decision.specs.declared.controller.Controller.{Controller}
+use Rattle.target_decision.specs.declared.decision.Change.TheVariants as change
 use Rattle.target_decision.specs.declared.decision.Decision.TheVariants as decision
 use Rattle.target_decision.specs.declared.decision.Reply.{Reply}
+use Rattle.target_decision.specs.declared.decision.Setting.{Setting}
 use Rattle.target_decision.specs.declared.page.Page.{Page}
 use Rattle.target_decision.specs.declared.session.Conversation.{Conversation}
-use Rattle.target_decision.specs.Controllers.{free_cntlid}
-use Rattle.target_decision.specs.Decision.{is_command}
-use Rattle.target_decision.specs.Session.{host_of}
+use Rattle.target_decision.specs.declared.session.Role.{Role}
+use Rattle.target_decision.specs.declared.session.Role.TheVariants.{Admin, Io}
+use Rattle.target_decision.specs.declared.session.Session.{Session}
+use Rattle.target_decision.specs.declared.session.Session.TheVariants.{Opened, Initialized, Connected, Ended}
+use Rattle.target_decision.specs.Begin.{bytes_at, entry_at}
+use Rattle.target_decision.specs.Capsule.{connect_type, fabrics_opcode, is_ready_at}
+use Rattle.target_decision.specs.Controller.{registers_at}
+use Rattle.target_decision.specs.Decision.{host_at}
 use Rattle.target_decision.specs.World.{Pages, World, page_named}
-use Rattle.target_history.specs.Event.{Event, edited, front_in, gives_up, opened, opens, steps, stepped, given_up}
-use Rattle.target_history.specs.Happening.{Happening, decided, responses}
-use Rattle.target_history.specs.History.{Beginning, beginning_of, conversation_of, happened, has_ended, is_known, page_of, port_of, responses_since, sent}
+use Rattle.target_history.specs.Ending.{ends_timer}
+use Rattle.target_history.specs.Event.{Event, edited, front_in, gives_up, opened, opens, steps, stepped, given_up, ticked}
+use Rattle.target_history.specs.Happening.{Happening, change_of, decided, ending_of, ends, ends_live, responses}
+use Rattle.target_history.specs.History.{Admission, admission_of, clock_of, config_of, controller_of, conversation_of, happened, has_ended, is_known, is_live, mark_of, meets_after, page_of, port_of, responses_since, row_of, sent}
+
+-- ---- what connections are sent
 
 pub record EndedAreSentNothing : Type 0 where
   pub silent : (units : List ℕ) (events : List Event) (event : Event) (k : ℕ) → has_ended (happened units events) k ≡ true
@@ -21,9 +46,13 @@ pub record EndedAreSentNothing : Type 0 where
 
 -- an edit that deletes the port of a connection ends it
 pub record DeletedPortsEnd : Type 0 where
-  pub ends : (w : World) (before : List Happening) (k id : ℕ) → w.conversation k ≡ conversation_of before k
+  pub ends : (x : Happening) (before : List Happening) (k id : ℕ) → x.event ≡ edited (PortDel id) → x.conversation k ≡ conversation_of before k
       → is_known before k ≡ true → port_of before k ≡ id
-      → has_ended (record { event = edited (PortDel id); world = w } ∷ before) k ≡ true
+      → has_ended (x ∷ before) k ≡ true
+
+abbrev pub is_command : PduType → Bool
+is_command CapsuleCmd = true
+is_command _ = false
 
 abbrev pub is_capsule : Front → Bool
 is_capsule (whole pdu) = is_command pdu.kind
@@ -49,23 +78,25 @@ is_edit (edited edit) = true
 is_edit (opened port k) = false
 is_edit (stepped k front) = false
 is_edit (given_up k) = false
+is_edit (ticked now) = false
 
 pub record PagesChangeByEdits : Type 0 where
   pub stays : (units : List ℕ) (x : Happening) (before : List Happening) (host : List ℕ) → is_edit x.event ≡ false
       → page_of units (x ∷ before) host ≡ page_of units before host
 
--- the size of the queue that a beginning makes, and 0 where there is none
-abbrev pub sqsize_of : Option Beginning → ℕ
+-- the size of the queue that a Connect made, and 0 where there is none
+abbrev pub sqsize_of : Option Admission → ℕ
 sqsize_of None = 0
-sqsize_of (Some b) = b.admission.sqsize
+sqsize_of (Some a) = a.sqsize
 
 -- each response carries the number of responses since the Connect, itself included, round the queue's
 -- size; on a connection without a queue that is 0
 pub record HeadsCountResponses : Type 0 where
-  pub counts : (w : World) (event : Event) (before : List Happening) (k : ℕ) (r : Reply)
-      → let x : Happening = record { event = event; world = w } in
-      w.conversation k ≡ conversation_of before k → decided x k ≡ Some (decision.Reply r)
-      → r.sqhd ≡ responses_since (x ∷ before) k % (sqsize_of (beginning_of (x ∷ before) k) + 1)
+  pub counts : (x : Happening) (before : List Happening) (k : ℕ) (r : Reply)
+      → x.conversation k ≡ conversation_of before k → decided x k ≡ Some (decision.Reply r)
+      → r.sqhd ≡ responses_since (x ∷ before) k % (sqsize_of (admission_of (x ∷ before) k) + 1)
+
+-- ---- what one connection owes another
 
 -- an event opens, steps or gives up connection k
 abbrev pub is_of : Event → ℕ → Bool
@@ -76,28 +107,206 @@ abbrev pub own : List Happening → ℕ → List Happening
 own [] k = []
 own (x ∷ before) k = if is_of x.event k then x ∷ own before k else own before k
 
-abbrev pub host_at : Option Conversation → List ℕ
-host_at None = []
-host_at (Some v) = host_of v.session
+-- whether a Connect stands at a front
+abbrev pub is_connect : Front → Bool
+is_connect front =
+    is_capsule front && ((opcode_of (entry_at front) == fabrics_opcode) && (fctype_of (entry_at front) == connect_type))
+
+-- Two worlds show a Connect on this port the same: whether the subsystem that it names is there and its host
+-- may use it, and then, for an admin queue, the identifier that is free, and for an I/O queue the controller
+-- that it names.
+pub record ConnectAlike (v w : World) (port : ℕ) (p : Parameters) : Type 0 where
+  pub served : is_served v.config port p.subsystem ≡ is_served w.config port p.subsystem
+  pub used : may_use v.config p.host p.subsystem port ≡ may_use w.config p.host p.subsystem port
+  pub free : (p.qid == 0) ≡ true → free_cntlid v.row ≡ free_cntlid w.row
+  pub named : (p.qid == 0) ≡ false → v.row p.cntlid ≡ w.row p.cntlid
 
 -- each log page is the same for this host
 abbrev pub AreAlikeFor : List ℕ → Pages → Pages → Type 0
 AreAlikeFor host v w = (page : Page) → page_named page v host ≡ page_named page w host
 
--- two worlds show connection k the same: itself, the identifier that is free, and its own host's pages
-pub record ShowAlike (v w : World) (k : ℕ) : Type 0 where
-  pub conversation : v.conversation k ≡ w.conversation k
-  pub free : free_cntlid v.conversation ≡ free_cntlid w.conversation
-  pub pages : AreAlikeFor (host_at (v.conversation k)) v.pages w.pages
+-- .. and the admin queue of a controller its row, but for its I/O queues, its properties, and its host's pages
+abbrev pub without_queues : Row → Row
+without_queues row = record row { qids = no_queues }
 
--- the same events, each in a world that shows connection k the same
+pub record AdminAlike (v w : World) (cntlid : ℕ) : Type 0 where
+  pub row : option_map without_queues (v.row cntlid) ≡ option_map without_queues (w.row cntlid)
+  pub registers : registers_at (v.controller cntlid) ≡ registers_at (w.controller cntlid)
+  pub pages : AreAlikeFor (host_at (v.row cntlid)) v.pages w.pages
+
+-- .. and an I/O queue whether its controller is ready
+abbrev pub RoleAlike : World → World → Role → Type 0
+RoleAlike v w (Admin cntlid) = AdminAlike v w cntlid
+RoleAlike v w (Io cntlid qid) = is_ready_at (v.row cntlid) ≡ is_ready_at (w.row cntlid)
+
+-- .. and a connection that is no queue what its Connect asks about, and nothing else
+abbrev pub SessionAlike : World → World → ℕ → Front → Session → Type 0
+SessionAlike v w port front Opened = Unit {0}
+SessionAlike v w port front Initialized = is_connect front ≡ true → ConnectAlike v w port (parameters_of (entry_at front) (bytes_at front))
+SessionAlike v w port front (Connected role queue) = RoleAlike v w role
+SessionAlike v w port front Ended = Unit {0}
+
+abbrev pub WorldAlike : World → World → Front → Option Conversation → Type 0
+WorldAlike v w front None = Unit {0}
+WorldAlike v w front (Some c) = SessionAlike v w c.port front c.session
+
+-- the same event twice, which met connection k as the same, and where it is its step in worlds that showed it
+-- the same
+pub record SameFor (k : ℕ) (x y : Happening) : Type 0 where
+  pub event : y.event ≡ x.event
+  pub conversation : x.conversation k ≡ y.conversation k
+  pub world : steps x.event k ≡ true → WorldAlike x.world y.world (front_in x.event) (x.conversation k)
+
 abbrev pub HappenedAlike : List Happening → List Happening → ℕ → Type 0
 HappenedAlike [] [] k = Unit {0}
 HappenedAlike [] (y ∷ ys) k = ⊥
 HappenedAlike (x ∷ xs) [] k = ⊥
-HappenedAlike (x ∷ xs) (y ∷ ys) k = (y.event ≡ x.event) × ShowAlike x.world y.world k × HappenedAlike xs ys k
+HappenedAlike (x ∷ xs) (y ∷ ys) k = SameFor k x y × HappenedAlike xs ys k
 
--- a connection to which the same happened, and whose worlds showed it the same, is sent the same, whatever
--- happens to other connections
+-- a connection to which the same happened, and whose worlds showed it the same of its own controller, is sent
+-- the same, whatever happens to other connections and controllers
 pub record SentByOwnAlone : Type 0 where
   pub same : (g h : List Happening) (k : ℕ) → HappenedAlike (own g k) (own h k) k → sent g k ≡ sent h k
+
+-- ---- what ends connections and controllers
+
+-- whether a connection is an I/O queue of this controller
+abbrev pub is_io_of : ℕ → Role → Bool
+is_io_of c (Admin cntlid) = false
+is_io_of c (Io cntlid qid) = c == cntlid
+
+abbrev pub is_io_queue_of : ℕ → Session → Bool
+is_io_queue_of c Opened = false
+is_io_queue_of c Initialized = false
+is_io_queue_of c (Connected role queue) = is_io_of c role
+is_io_queue_of c Ended = false
+
+-- a Property Set that resets a controller ends the I/O queues of that controller, no other connection, and no
+-- controller
+pub record ResetsEndTheirQueuesAlone : Type 0 where
+  pub connections : (x : Happening) (s : Setting) (k : ℕ) (v : Conversation) → change_of x ≡ change.Configure s → s.effect ≡ effect.Reset
+      → x.conversation k ≡ Some v → ends x k ≡ is_io_queue_of s.cntlid v.session
+  pub controllers : (x : Happening) (s : Setting) (c : ℕ) → change_of x ≡ change.Configure s → s.effect ≡ effect.Reset
+      → ends_live x c ≡ false
+
+-- whether an edit deletes this port
+abbrev pub deletes : Edit → ℕ → Bool
+deletes (PortDel id) port = id == port
+deletes _ port = false
+
+-- whether the host of a controller may use its subsystem through its port; any host may use a discovery
+-- controller
+abbrev pub may_use_named : Configuration → List ℕ → Option (List ℕ) → ℕ → Bool
+may_use_named config host None port = true
+may_use_named config host (Some nqn) port = may_use config host nqn port
+
+abbrev pub is_permitted : Configuration → Row → Bool
+is_permitted config row = may_use_named config row.host row.subsystem row.port
+
+-- whether a connection is a queue of this controller
+abbrev pub is_role_of : ℕ → Role → Bool
+is_role_of c (Admin cntlid) = c == cntlid
+is_role_of c (Io cntlid qid) = c == cntlid
+
+abbrev pub is_queue_of : ℕ → Session → Bool
+is_queue_of c Opened = false
+is_queue_of c Initialized = false
+is_queue_of c (Connected role queue) = is_role_of c role
+is_queue_of c Ended = false
+
+-- The controller of this row is permitted after an edit, which does not delete its port.
+pub record StaysPermitted (units : List ℕ) (events : List Event) (edit : Edit) (c : ℕ) (row : Row) : Type 0 where
+  pub lives : row_of (happened units events) c ≡ Some row
+  pub port : deletes edit row.port ≡ false
+  pub permitted : is_permitted (config_of units (happened units (edited edit ∷ events))) row ≡ true
+
+-- .. then it outlives the edit, all as it was, and so do those of its connections whose port is not deleted
+pub record PermittedOutliveEdits : Type 0 where
+  pub row : (units : List ℕ) (events : List Event) (edit : Edit) (c : ℕ) (row : Row) → StaysPermitted units events edit c row
+      → row_of (happened units (edited edit ∷ events)) c ≡ Some row
+  pub controller : (units : List ℕ) (events : List Event) (edit : Edit) (c : ℕ) (row : Row) → StaysPermitted units events edit c row
+      → controller_of (happened units (edited edit ∷ events)) c ≡ controller_of (happened units events) c
+  pub connections : (units : List ℕ) (events : List Event) (edit : Edit) (c : ℕ) (row : Row) (k : ℕ) (v : Conversation)
+      → StaysPermitted units events edit c row → conversation_of (happened units events) k ≡ Some v
+      → is_queue_of c v.session ≡ true → deletes edit v.port ≡ false
+      → conversation_of (happened units (edited edit ∷ events)) k ≡ Some v
+
+abbrev pub is_deletion : Edit → Bool
+is_deletion (PortDel id) = true
+is_deletion _ = false
+
+-- an edit that deletes the port of a controller ends it, and so does another after which its host may not use
+-- its subsystem through its port
+pub record EditsEndControllers : Type 0 where
+  pub deleted : (units : List ℕ) (events : List Event) (edit : Edit) (c : ℕ) (row : Row) → row_of (happened units events) c ≡ Some row
+      → deletes edit row.port ≡ true → row_of (happened units (edited edit ∷ events)) c ≡ None
+  pub barred : (units : List ℕ) (events : List Event) (edit : Edit) (c : ℕ) (row : Row) → row_of (happened units events) c ≡ Some row
+      → is_deletion edit ≡ false → is_permitted (config_of units (happened units (edited edit ∷ events))) row ≡ false
+      → row_of (happened units (edited edit ∷ events)) c ≡ None
+
+abbrev pub is_tick : Event → Bool
+is_tick (ticked now) = true
+is_tick (edited edit) = false
+is_tick (opened port k) = false
+is_tick (stepped k front) = false
+is_tick (given_up k) = false
+
+abbrev pub has_ticks : List Event → Bool
+has_ticks [] = false
+has_ticks (event ∷ events) = is_tick event || has_ticks events
+
+-- where the clock is never set it shows 0, as it did at each Connect and each Keep Alive, and no event ends a
+-- controller by its Keep Alive Timer
+pub record NothingExpiresWithoutTicks : Type 0 where
+  pub clock : (units : List ℕ) (events : List Event) → has_ticks events ≡ false → clock_of (happened units events) ≡ 0
+  pub mark : (units : List ℕ) (events : List Event) (c : ℕ) → has_ticks events ≡ false → mark_of (happened units events) c ≡ 0
+  pub timers : (units : List ℕ) (events : List Event) (event : Event) (controller : Option Controller) → has_ticks (event ∷ events) ≡ false
+      → ends_timer (ending_of (meets_after units (happened units events) event)) controller ≡ false
+
+-- ---- queues, over all that happened
+
+-- which queue a connection is, where it is known and not ended
+abbrev pub role_in : Session → Option Role
+role_in Opened = None
+role_in Initialized = None
+role_in (Connected role queue) = Some role
+role_in Ended = None
+
+abbrev pub role_at : Option Conversation → Option Role
+role_at None = None
+role_at (Some v) = role_in v.session
+
+abbrev pub role_of : List Happening → ℕ → Option Role
+role_of happened k = role_at (conversation_of happened k)
+
+-- no two connections are one queue: not the admin queue of one controller, nor its I/O queues of one
+-- identifier
+pub record QueuesAreOfOneConnection : Type 0 where
+  pub one : (units : List ℕ) (events : List Event) (j k : ℕ) (role : Role)
+      → role_of (happened units events) j ≡ Some role → role_of (happened units events) k ≡ Some role → j ≡ k
+
+-- each connection was opened under a number that was not known
+abbrev pub OpenVacant : List ℕ → List Event → Type 0
+OpenVacant units [] = Unit {0}
+OpenVacant units (event ∷ events) =
+    ((k : ℕ) → opens event k ≡ true → is_known (happened units events) k ≡ false) × OpenVacant units events
+
+-- a controller lives exactly as long as a connection is its admin queue
+pub record ControllersLiveByTheirAdmins : Type 0 where
+  pub lives : (units : List ℕ) (events : List Event) (k c : ℕ) → role_of (happened units events) k ≡ Some (Admin c)
+      → is_live (happened units events) c ≡ true
+  pub served : (units : List ℕ) (events : List Event) (c : ℕ) → OpenVacant units events → is_live (happened units events) c ≡ true
+      → (k : ℕ) × (role_of (happened units events) k ≡ Some (Admin c))
+
+-- a controller that lives is on the port of each of its connections
+pub record QueuesAreOnTheirPort : Type 0 where
+  pub port : (units : List ℕ) (events : List Event) (k c : ℕ) (v : Conversation) → conversation_of (happened units events) k ≡ Some v
+      → is_queue_of c v.session ≡ true → IsSomeAnd (row_of (happened units events) c) (λ row. row.port ≡ v.port)
+
+-- a controller has an I/O queue of an identifier exactly as long as it lives and a connection is that queue
+pub record QueueIdsAreOfConnections : Type 0 where
+  pub has : (units : List ℕ) (events : List Event) (k c q : ℕ) → role_of (happened units events) k ≡ Some (Io c q)
+      → IsSomeAnd (row_of (happened units events) c) (λ row. has_qid q row ≡ true)
+  pub served : (units : List ℕ) (events : List Event) (c q : ℕ) → OpenVacant units events
+      → IsSomeAnd (row_of (happened units events) c) (λ row. has_qid q row ≡ true)
+      → (k : ℕ) × (role_of (happened units events) k ≡ Some (Io c q))

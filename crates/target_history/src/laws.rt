@@ -1,6 +1,13 @@
 //! Laws of histories, in the words of the subject. Each of these functions does nothing: its
 //! contract is the law, for whatever events there are.
-ghost use Rattle.target_history.specs.Laws.{DeletedPortsEnd, EndedAreSentNothing, HeadsCountResponses, PagesChangeByEdits, ResponsesAnswerCapsules, SentByOwnAlone};
+ghost use Rattle.target_history.specs.Laws.{ControllersLiveByTheirAdmins, DeletedPortsEnd};
+ghost use Rattle.target_history.specs.Laws.{EditsEndControllers, EndedAreSentNothing};
+ghost use Rattle.target_history.specs.Laws.{HeadsCountResponses};
+ghost use Rattle.target_history.specs.Laws.{NothingExpiresWithoutTicks, PagesChangeByEdits};
+ghost use Rattle.target_history.specs.Laws.{PermittedOutliveEdits, QueueIdsAreOfConnections};
+ghost use Rattle.target_history.specs.Laws.{QueuesAreOfOneConnection, QueuesAreOnTheirPort};
+ghost use Rattle.target_history.specs.Laws.{ResetsEndTheirQueuesAlone, ResponsesAnswerCapsules};
+ghost use Rattle.target_history.specs.Laws.{SentByOwnAlone};
 
 /// A connection that is ended is sent nothing more, until it is opened again.
 #[tactic(auto, using(crate::proofs::Histories::ended_are_sent_nothing))]
@@ -26,15 +33,67 @@ pub fn pages_change_by_edits()
     ensures { PagesChangeByEdits }
 {}
 
-/// A connection to which the same happened, in worlds that showed it the same, is sent the same,
-/// whatever happens to other connections.
+/// Each response carries the number of responses since the Connect, round the queue's size.
+#[tactic(auto, using(crate::proofs::Counting::heads_count_responses))]
+pub fn heads_count_responses()
+    ensures { HeadsCountResponses }
+{}
+
+/// A connection to which the same happened, in worlds that showed it the same of its own
+/// controller, is sent the same, whatever happens to other connections and controllers.
 #[tactic(auto, using(crate::proofs::Alike::sent_by_own_alone))]
 pub fn sent_by_own_alone()
     ensures { SentByOwnAlone }
 {}
 
-/// Each response carries the number of responses since the Connect, round the queue's size.
-#[tactic(auto, using(crate::proofs::Counting::heads_count_responses))]
-pub fn heads_count_responses()
-    ensures { HeadsCountResponses }
+/// A reset ends the I/O queues of its controller, no other connection, and no controller.
+#[tactic(auto, using(crate::proofs::Endings::resets_end_their_queues_alone))]
+pub fn resets_end_their_queues_alone()
+    ensures { ResetsEndTheirQueuesAlone }
+{}
+
+/// A controller whose host may still use its subsystem outlives each edit that does not delete its
+/// port, and so do its connections.
+#[tactic(auto, using(crate::proofs::Endings::permitted_outlive_edits))]
+pub fn permitted_outlive_edits()
+    ensures { PermittedOutliveEdits }
+{}
+
+/// An edit that deletes the port of a controller ends it, and so does another after which its host
+/// may not use its subsystem.
+#[tactic(auto, using(crate::proofs::Endings::edits_end_controllers))]
+pub fn edits_end_controllers()
+    ensures { EditsEndControllers }
+{}
+
+/// Where the clock is never set, no controller ends by its Keep Alive Timer.
+#[tactic(auto, using(crate::proofs::Endings::nothing_expires_without_ticks))]
+pub fn nothing_expires_without_ticks()
+    ensures { NothingExpiresWithoutTicks }
+{}
+
+/// No two connections are the admin queue of one controller, nor its I/O queues of one identifier.
+#[tactic(auto, using(crate::proofs::Holding::queues_are_of_one_connection))]
+pub fn queues_are_of_one_connection()
+    ensures { QueuesAreOfOneConnection }
+{}
+
+/// A controller lives exactly as long as a connection is its admin queue, where each connection is
+/// opened under a number that is not known.
+#[tactic(auto, using(crate::proofs::Serving::controllers_live_by_their_admins))]
+pub fn controllers_live_by_their_admins()
+    ensures { ControllersLiveByTheirAdmins }
+{}
+
+/// The connections of a controller are on its port, and it lives.
+#[tactic(auto, using(crate::proofs::Serving::queues_are_on_their_port))]
+pub fn queues_are_on_their_port()
+    ensures { QueuesAreOnTheirPort }
+{}
+
+/// A controller has an I/O queue of an identifier exactly as long as it lives and a connection is
+/// that queue, where each connection is opened under a number that is not known.
+#[tactic(auto, using(crate::proofs::Serving::queue_ids_are_of_connections))]
+pub fn queue_ids_are_of_connections()
+    ensures { QueueIdsAreOfConnections }
 {}

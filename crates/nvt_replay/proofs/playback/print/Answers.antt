@@ -1,7 +1,22 @@
 use Rattle.std.proofs.Common.{sym, ◌∙◌}
 use Rattle.number_table.specs.Table.{place}
-use Rattle.nvt_replay.proofs.Prints.{open_left, printed_lines, still_ended}
+use Rattle.nvt_replay.proofs.Closing.{closed_left}
+use Rattle.nvt_replay.proofs.Prints.{closed_lines, open_left, printed_lines, still_ended}
 use Rattle.nvt_replay.proofs.playback.print.Goals as goal
+
+pub returns-in_ok-event-clause-printed : goal.returns-in_ok-event-clause-printed
+returns-in_ok-event-clause-printed g c =
+    let old = c.args.connections.now in
+    closed_lines c.args.k (place old.connections c.args.k) (g.W.Write.contents c.args.out.now) (g.W.Write.contents c.pdus.new.out)
+    (g.W.Write.contents c.event.new.out) c.output.result.now c.output.ensures
+    (sym (still_ended c.args.k old c.take_output.new.self c.take_output.ensures) ∙ sym c.if-is_ended.ensures)
+    c.in_ok-pdus.ensures.printed c.in_ok-event.ensures.printed
+
+pub returns-in_ok-event-clause-left : goal.returns-in_ok-event-clause-left
+returns-in_ok-event-clause-left g c =
+    let old = c.args.connections.now in
+    closed_left c.args.k old c.take_output.new.self c.end.new.self c.take_output.ensures
+    (sym (still_ended c.args.k old c.take_output.new.self c.take_output.ensures) ∙ sym c.if-is_ended.ensures) c.end.ensures
 
 pub returns-else-is_ended-clause-printed : goal.returns-else-is_ended-clause-printed
 returns-else-is_ended-clause-printed g c =

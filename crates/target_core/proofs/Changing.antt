@@ -1,0 +1,112 @@
+-- What a change makes of the tables of controllers.
+use Rattle.std.proofs.Common.{◌≡◌, ℕ, Bool, true, false, List, length, replicate, Option, Some, None, refl, sym, ap, ◌∙◌}
+use Rattle.std.specs.Prelude.{if◌then◌else◌, ◌==◌, is_none}
+use Rattle.std.specs.Option.{option_map}
+use Rattle.std.proofs.lemmas.Bool.{eqb-true}
+use Rattle.fabrics_connect.specs.declared.row.Row.{Row}
+use Rattle.fabrics_connect.specs.Controllers.{ChangedAt, no_controllers}
+use Rattle.fabrics_connect.specs.Row.{with_ready}
+use Rattle.number_table.specs.Table.{place}
+use Rattle.number_table.proofs.Tables.{place_within, place-replicate, place-with_value}
+use Rattle.pdu_cut.specs.Front.{Front}
+use Rattle.target_core.specs.Controllers.{AreTables, CanChange, TablesState, controller_places}
+use Rattle.target_decision.specs.declared.controller.Controller.{Controller}
+use Rattle.target_decision.specs.declared.decision.Change.{Change}
+use Rattle.target_decision.specs.declared.decision.Change.TheVariants as change
+use Rattle.target_decision.specs.declared.decision.Decision.{Decision}
+use Rattle.target_decision.specs.declared.decision.Decision.TheVariants as decision
+use Rattle.target_decision.specs.declared.decision.Setting.{Setting}
+use Rattle.target_decision.specs.Begin.{BeginsFree, FreeBy, row_by, row_decided}
+use Rattle.target_decision.specs.Controller.{with_property}
+use Rattle.target_history.specs.declared.ending.Ending.{Ending}
+use Rattle.target_history.specs.Happening.{change_decided, controller_changed, ready_after, row_changed, row_kept}
+
+-- what stands at each place after the change of one
+changed_place : (c : ℕ) (f : Row → Row) (o : Option Row) (old new : List (Option Row)) → place old c ≡ o → ChangedAt c f o old new → (n : ℕ)
+    → place new n ≡ (if n == c then option_map f (place old n) else place old n)
+changed_place c f None old new there changes n = ap (λ (l : List (Option Row)). place l n) changes ∙ by (n == c) refl where
+  by : (same : Bool) → (n == c) ≡ same → place old n ≡ (if same then option_map f (place old n) else place old n)
+  by true is = let none : place old n ≡ None = ap (place old) (eqb-true n c is) ∙ there in rw none refl
+  by false is = refl
+changed_place c f (Some row) old new there changes n =
+    ap (λ (l : List (Option Row)). place l n) changes ∙ place-with_value old c (f row) n (place_within old c row there) ∙ by (n == c) refl
+  where
+    by : (same : Bool) → (n == c) ≡ same → (if same then Some (f row) else place old n) ≡ (if same then option_map f (place old n) else place old n)
+    by true is = let some : place old n ≡ Some row = ap (place old) (eqb-true n c is) ∙ there in rw some refl
+    by false is = refl
+
+changed_none : {A : Type 0} (same : Bool) (f : A → A) (o : Option A) → is_none (if same then option_map f o else o) ≡ is_none o
+changed_none true f None = refl
+changed_none true f (Some a) = refl
+changed_none false f o = refl
+
+-- ---- a Property Set
+
+pub configured_tables : (t : TablesState) (s : Setting) (ready : Bool) (rows : List (Option Row)) (own : List (Option Controller)) → AreTables t
+    → ((n : ℕ) → place own n ≡ controller_changed (change.Configure s) 0 n (place t.own n)) → length own ≡ length t.own
+    → ChangedAt s.cntlid (with_ready ready) (place t.rows s.cntlid) t.rows rows → AreTables (record { rows = rows; own = own })
+configured_tables t s ready rows own are each places changes = record {
+  places = places ∙ are.places;
+  alike = λ n. ap is_none (changed_place s.cntlid (with_ready ready) (place t.rows s.cntlid) t.rows rows refl changes n)
+      ∙ changed_none (n == s.cntlid) (with_ready ready) (place t.rows n) ∙ are.alike n
+      ∙ sym (ap is_none (each n) ∙ changed_none (n == s.cntlid) (with_property s.property) (place t.own n));
+}
+
+pub configured_rows : (t : TablesState) (s : Setting) (ch : Change) (begun : Option Row) (rows : List (Option Row)) → ch ≡ change.Configure s
+    → ChangedAt s.cntlid (with_ready (ready_after (place t.own s.cntlid) s)) (place t.rows s.cntlid) t.rows rows
+    → (n : ℕ) → place rows n ≡ row_changed ch begun (place t.own n) n (place t.rows n)
+configured_rows t s ch begun rows is changes n =
+    changed_place s.cntlid (with_ready (ready_after (place t.own s.cntlid) s)) (place t.rows s.cntlid) t.rows rows refl changes n
+    ∙ by (n == s.cntlid) refl ∙ ap (λ (b : Change). row_changed b begun (place t.own n) n (place t.rows n)) (sym is)
+  where
+    by : (same : Bool) → (n == s.cntlid) ≡ same
+        → (if same then option_map (with_ready (ready_after (place t.own s.cntlid) s)) (place t.rows n) else place t.rows n)
+        ≡ (if same then option_map (with_ready (ready_after (place t.own n) s)) (place t.rows n) else place t.rows n)
+    by true is = ap (λ (m : ℕ). option_map (with_ready (ready_after (place t.own m) s)) (place t.rows n)) (sym (eqb-true n s.cntlid is))
+    by false is = refl
+
+-- ---- a Connect
+
+left_none : {A : Type 0} (gone : Bool) (f : A → A) (o : Option A) → o ≡ None → (if gone then None else option_map f o) ≡ None
+left_none true f o none = refl
+left_none false f None none = refl
+left_none false f (Some a) none = cc
+
+-- what ended does not hinder what begins
+can_change_by : (ch : Change) (port : ℕ) (found : Front) (old : List (Option Row)) (t : TablesState) (gone : ℕ → Bool) (e : Ending) → FreeBy (λ c. place old c) ch
+    → ((n : ℕ) → place t.rows n ≡ (if gone n then None else option_map (row_kept e n) (place old n))) → CanChange ch (row_by ch port found) t
+can_change_by (change.Begin b) port found old t gone e free rows = record {
+  row = refl;
+  begins = record {
+    least = free.least;
+    most = free.most;
+    free = rows b.controller.cntlid ∙ left_none (gone b.controller.cntlid) (row_kept e b.controller.cntlid) (place old b.controller.cntlid) free.free;
+  };
+}
+can_change_by change.Stay port found old t gone e free rows = tt
+can_change_by (change.Join j) port found old t gone e free rows = tt
+can_change_by (change.Configure s) port found old t gone e free rows = tt
+can_change_by (change.KeepAlive c) port found old t gone e free rows = tt
+
+can_change_so : (d : Decision) (port : ℕ) (found : Front) (old : List (Option Row)) (t : TablesState) (gone : ℕ → Bool) (e : Ending) → BeginsFree (λ c. place old c) d
+    → ((n : ℕ) → place t.rows n ≡ (if gone n then None else option_map (row_kept e n) (place old n)))
+    → CanChange (change_decided (Some d)) (row_decided d port found) t
+can_change_so (decision.Reply r) port found old t gone e free rows = can_change_by r.change port found old t gone e free rows
+can_change_so decision.Initialize port found old t gone e free rows = tt
+can_change_so (decision.Terminate x) port found old t gone e free rows = tt
+can_change_so decision.Close port found old t gone e free rows = tt
+
+pub can_change : (d : Decision) (ch : Change) (begun : Option Row) (port : ℕ) (found : Front) (old : List (Option Row)) (t : TablesState) (gone : ℕ → Bool) (e : Ending)
+    → ch ≡ change_decided (Some d) → begun ≡ row_decided d port found → BeginsFree (λ c. place old c) d
+    → ((n : ℕ) → place t.rows n ≡ (if gone n then None else option_map (row_kept e n) (place old n))) → CanChange ch begun t
+can_change d ch begun port found old t gone e is made free rows = rw (is, made) (can_change_so d port found old t gone e free rows)
+
+-- ---- no controller
+
+pub new_tables : (rows : List (Option Row)) (own : List (Option Controller)) → rows ≡ no_controllers → own ≡ replicate controller_places None
+    → AreTables (record { rows = rows; own = own })
+new_tables rows own no_row no_own = record {
+  places = rw no_own refl;
+  alike = λ n. ap (λ (l : List (Option Row)). is_none (place l n)) no_row ∙ ap is_none (place-replicate controller_places n)
+      ∙ sym (ap (λ (l : List (Option Controller)). is_none (place l n)) no_own ∙ ap is_none (place-replicate controller_places n));
+}

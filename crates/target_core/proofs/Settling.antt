@@ -1,0 +1,124 @@
+-- What the walks that end controllers and connections leave.
+use Rattle.std.proofs.Common.{◌≡◌, ℕ, Bool, true, false, ◌||◌, List, [], ◌∷◌, map, Option, Some, None, refl, sym, ap, ◌∙◌}
+use Rattle.std.specs.Prelude.{if◌then◌else◌, ◌==◌}
+use Rattle.std.specs.Option.{option_map}
+use Rattle.config_rules.specs.Configuration.{Configuration}
+use Rattle.fabrics_connect.specs.declared.row.Row.{Row}
+use Rattle.fabrics_connect.specs.Row.{with_ready}
+use Rattle.target_core.specs.Connection.{ConnectionState, settled}
+use Rattle.target_decision.specs.declared.controller.Controller.{Controller}
+use Rattle.target_decision.specs.declared.decision.Change.{Change}
+use Rattle.target_decision.specs.declared.decision.Change.TheVariants as change
+use Rattle.target_decision.specs.declared.decision.Decision.{Decision}
+use Rattle.target_decision.specs.declared.decision.Decision.TheVariants as decision
+use Rattle.target_decision.specs.declared.session.Role.TheVariants.{Admin, Io}
+use Rattle.target_decision.specs.declared.session.Session.{Session}
+use Rattle.target_decision.specs.declared.session.Session.TheVariants.{Opened, Initialized, Connected, Ended}
+use Rattle.target_decision.specs.Session.{replied, session_after}
+use Rattle.target_history.specs.declared.ending.Ending.{Ending}
+use Rattle.target_history.specs.declared.ending.Ending.TheVariants as ending
+use Rattle.target_history.specs.Ending.{ending_changed, ending_decided, ends_by, ends_controller, ends_session, is_on_port}
+use Rattle.target_history.specs.Happening.{ready_after, row_changed, row_kept}
+
+-- ---- where nothing ends
+
+pub nothing_gone : (config : Configuration) (c : ℕ) (row : Option Row) (own : Option Controller) → ends_controller ending.Nothing config c row own ≡ false
+nothing_gone config c None own = refl
+nothing_gone config c (Some row) own = refl
+
+nothing_ends : (gone : ℕ → Bool) → ((c : ℕ) → gone c ≡ false) → (s : Session) → ends_session ending.Nothing gone s ≡ false
+nothing_ends gone none Opened = refl
+nothing_ends gone none Initialized = refl
+nothing_ends gone none (Connected (Admin c) q) = none c
+nothing_ends gone none (Connected (Io c qid) q) = ap (λ (b : Bool). b || false) (none c)
+nothing_ends gone none Ended = refl
+
+nothing_settled : (gone : ℕ → Bool) → ((c : ℕ) → gone c ≡ false) → (c : ConnectionState) → settled ending.Nothing gone c ≡ c
+nothing_settled gone none c = rw (nothing_ends gone none c.conversation.session) refl
+
+pub same_at : (gone : ℕ → Bool) → ((c : ℕ) → gone c ≡ false) → (o : Option ConnectionState) → option_map (settled ending.Nothing gone) o ≡ o
+same_at gone none None = refl
+same_at gone none (Some c) = ap Some (nothing_settled gone none c)
+
+pub nothing_settles : (gone : ℕ → Bool) → ((c : ℕ) → gone c ≡ false) → (l : List (Option ConnectionState)) → map (option_map (settled ending.Nothing gone)) l ≡ l
+nothing_settles gone none [] = refl
+nothing_settles gone none (o ∷ l) = rw (same_at gone none o, nothing_settles gone none l) refl
+
+kept_same : (c : ℕ) (o : Option Row) → option_map (row_kept ending.Nothing c) o ≡ o
+kept_same c None = refl
+kept_same c (Some row) = refl
+
+pub nothing_leaves : (gone : Bool) (c : ℕ) (o : Option Row) → gone ≡ false → o ≡ (if gone then None else option_map (row_kept ending.Nothing c) o)
+nothing_leaves true c o none = cc
+nothing_leaves false c o none = sym (kept_same c o)
+
+pub nothing_goes : {A : Type 0} (gone : Bool) (o : Option A) → gone ≡ false → o ≡ (if gone then None else o)
+nothing_goes true o none = cc
+nothing_goes false o none = refl
+
+-- ---- where a decision ends something
+
+either_ended : (a b : Bool) → (if a then Ended else Ended) ≡ (if b then Ended else Ended)
+either_ended true true = refl
+either_ended true false = refl
+either_ended false true = refl
+either_ended false false = refl
+
+-- a reply ends its own connection in no other way than it would have before it
+abbrev ends_in : Ending → (ℕ → Bool) → ℕ → Session → Bool
+ends_in e gone port s = ends_by e gone (record { port = port; session = s })
+
+responds : (e : Ending) (gone : ℕ → Bool) (port : ℕ) (s : Session)
+    → (if ends_in e gone port (replied change.Stay s) then Ended else replied change.Stay s)
+    ≡ (if ends_in e gone port s then Ended else replied change.Stay s)
+responds e gone port Opened = refl
+responds e gone port Initialized = refl
+responds e gone port (Connected role q) = refl
+responds e gone port Ended = refl
+
+nothing_in : (gone : ℕ → Bool) (port : ℕ) → ((c : ℕ) → gone c ≡ false) → (s t : Session)
+    → (if ends_in ending.Nothing gone port t then Ended else t) ≡ (if ends_in ending.Nothing gone port s then Ended else t)
+nothing_in gone port none s t = rw (nothing_ends gone none s, nothing_ends gone none t) refl
+
+abbrev pub QuietWhere : Ending → (ℕ → Bool) → Type 0
+QuietWhere e gone = e ≡ ending.Nothing → (c : ℕ) → gone c ≡ false
+
+replies : (ch : Change) (gone : ℕ → Bool) (port : ℕ) (s : Session) → QuietWhere (ending_changed ch) gone
+    → (if ends_in (ending_changed ch) gone port (replied ch s) then Ended else replied ch s)
+    ≡ (if ends_in (ending_changed ch) gone port s then Ended else replied ch s)
+replies change.Stay gone port s quiet = responds ending.Nothing gone port s
+replies (change.KeepAlive c) gone port s quiet = responds ending.Nothing gone port s
+replies (change.Configure st) gone port s quiet = responds (ending_changed (change.Configure st)) gone port s
+replies (change.Begin b) gone port s quiet = nothing_in gone port (quiet refl) s (replied (change.Begin b) s)
+replies (change.Join j) gone port s quiet = nothing_in gone port (quiet refl) s (replied (change.Join j) s)
+
+-- whether what a decision ends is looked for before it is done or after, its own session is the same
+pub decision_settles : (d : Decision) (gone : ℕ → Bool) (port : ℕ) (s : Session) → QuietWhere (ending_decided s d) gone
+    → (if ends_in (ending_decided s d) gone port (session_after s d) then Ended else session_after s d)
+    ≡ (if ends_in (ending_decided s d) gone port s then Ended else session_after s d)
+decision_settles decision.Initialize gone port s quiet = nothing_in gone port (quiet refl) s Initialized
+decision_settles (decision.Reply r) gone port s quiet = replies r.change gone port s quiet
+decision_settles (decision.Terminate t) gone port s quiet =
+    either_ended (ends_in (ending_decided s (decision.Terminate t)) gone port Ended) (ends_in (ending_decided s (decision.Terminate t)) gone port s)
+decision_settles decision.Close gone port s quiet =
+    either_ended (ends_in (ending_decided s decision.Close) gone port Ended) (ends_in (ending_decided s decision.Close) gone port s)
+
+-- ---- what a change makes of a row
+
+abbrev no_row : Option Row
+no_row = None
+
+-- a Property Set of a controller that is gone makes nothing of its row
+pub changed_alike : (ch : Change) (begun : Option Row) (gone : Bool) (c : ℕ) (own : Option Controller) (o : Option Row)
+    → row_changed ch begun (if gone then None else own) c (if gone then None else o) ≡ row_changed ch begun own c (if gone then None else o)
+changed_alike ch begun false c own o = refl
+changed_alike change.Stay begun true c own o = refl
+changed_alike (change.Begin b) begun true c own o = refl
+changed_alike (change.Join j) begun true c own o = refl
+changed_alike (change.KeepAlive d) begun true c own o = refl
+changed_alike (change.Configure s) begun true c own o = by (c == s.cntlid) where
+  by : (same : Bool)
+      → (if same then option_map (with_ready (ready_after None s)) no_row else no_row)
+      ≡ (if same then option_map (with_ready (ready_after own s)) no_row else no_row)
+  by true = refl
+  by false = refl

@@ -1,8 +1,0 @@
-use Rattle.std.proofs.Common.{◌≡◌}
-use Rattle.number_table.proofs.Walks.{mapped_below}
-use Rattle.target_core.specs.Connection.{settled}
-use Rattle.target_core.proofs.settle.end_each.Given as goal
-
--- the connections below k are settled
-abbrev pub invariant-loop-k : goal.invariant-loop-k
-invariant-loop-k l = l.connections ≡ mapped_below (settled l.ending) l.k l.fn.connections

@@ -1,0 +1,64 @@
+-- The controllers that live, as the calls of a target see them.
+use Rattle.std.specs.Prelude.{◌≡◌, ◌<◌, ℕ, Bool, false, true, List, length, replicate, slice_index_or, Option, Some, None, is_none, is_some}
+use Rattle.config_rules.specs.Configuration.{Configuration}
+use Rattle.fabrics_connect.specs.declared.row.Row.{Row}
+use Rattle.fabrics_connect.specs.Controllers.{CanBegin, no_controllers}
+use Rattle.number_table.specs.Table.{place}
+use Rattle.target_decision.specs.declared.controller.Controller.{Controller}
+use Rattle.target_decision.specs.declared.decision.Change.{Change}
+use Rattle.target_decision.specs.declared.decision.Change.TheVariants as change
+use Rattle.target_decision.specs.World.{Pages, World}
+use Rattle.target_history.specs.declared.ending.Ending.{Ending}
+use Rattle.target_history.specs.Ending.{ends_controller}
+
+-- the places of the tables: one for each identifier from 1 on, and for 0, which is never given
+abbrev pub controller_places : ℕ
+controller_places = 33
+
+-- under its identifier, of each controller that lives what all connections may see of it, and what its own admin
+-- queue alone uses
+pub record TablesState : Type 0 where
+  pub rows : List (Option Row)
+  pub own : List (Option Controller)
+
+-- both have the same controllers
+pub record AreTables (t : TablesState) : Type 0 where
+  pub places : length t.own ≡ controller_places
+  pub alike : (c : ℕ) → is_none (place t.rows c) ≡ is_none (place t.own c)
+
+pub record IsNewTables (t : TablesState) : Type 0 where
+  pub rows : t.rows ≡ no_controllers
+  pub own : t.own ≡ replicate controller_places None
+
+-- what a decision may look at, with these pages and this configuration
+abbrev pub world_with : Pages → Configuration → TablesState → World
+world_with pages config t = record {
+  pages = pages;
+  config = config;
+  row = λ c. place t.rows c;
+  controller = λ c. place t.own c;
+}
+
+-- ---- the controllers that an event ends
+
+-- whether it ends the controller of this identifier, where the configuration has become this
+abbrev pub gone_by : Ending → Configuration → TablesState → ℕ → Bool
+gone_by ending config t cntlid = ends_controller ending config cntlid (place t.rows cntlid) (place t.own cntlid)
+
+-- .. as it was found
+abbrev pub is_gone : List Bool → ℕ → Bool
+is_gone gone cntlid = slice_index_or gone cntlid false
+
+-- ---- what a change asks of them
+
+-- a controller that begins has a row, and an identifier that is free
+pub record CanStart (cntlid : ℕ) (begun : Option Row) (t : TablesState) : Type 0 where
+  pub row : is_some begun ≡ true
+  pub begins : CanBegin t.rows cntlid
+
+abbrev pub CanChange : Change → Option Row → TablesState → Type 0
+CanChange (change.Begin b) row t = CanStart b.controller.cntlid row t
+CanChange change.Stay row t = Unit {0}
+CanChange (change.Join j) row t = Unit {0}
+CanChange (change.Configure s) row t = Unit {0}
+CanChange (change.KeepAlive cntlid) row t = Unit {0}

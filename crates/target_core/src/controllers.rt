@@ -1,0 +1,200 @@
+//! The controllers that live: what all connections may see of each, and what its own admin queue
+//! alone uses.
+ghost use Rattle.std.specs.Prelude.{◌≡◌, ℕ, IfOk, None, Some, if◌then◌else◌, length};
+ghost use Rattle.std.specs.Option.{option_map};
+ghost use Rattle.number_table.specs.Table.{place};
+ghost use Rattle.target_core.specs.Controllers.{AreTables, CanChange, IsNewTables, gone_by, is_gone, world_with};
+ghost use Rattle.target_decision.specs.declared.decision.Change.TheVariants as change;
+ghost use Rattle.target_decision.specs.World.{pages_in, world_in};
+ghost use Rattle.target_history.specs.Happening.{change_decided, controller_changed, ready_after, row_changed, row_kept};
+
+use fabrics_connect::{Controllers, Row};
+use number_table::NumberTable;
+use nvt_config::Config;
+use std::alloc::{AllocError, Global};
+use std::marker::Model;
+use target_decision::{Change, Controller, Decision, Pages, Setting, World};
+use target_history::Ending;
+
+/// A place for each controller identifier, from 1 to 32, and for 0, which is never given.
+pub(crate) const PLACES: usize = 33;
+
+/// The controllers that live, under their identifiers.
+#[derive(Drop)]
+pub(crate) struct ControllerTables {
+    rows: Controllers,
+    own: NumberTable<Controller>,
+}
+
+impl Model for ControllerTables {
+    ghost use Rattle.target_core.specs.Controllers.{AreTables, TablesState};
+
+    ghost Value = { TablesState };
+
+    ghost view = { λ t. record { rows = t.rows; own = t.own } };
+
+    ghost invariant = { λ t. AreTables (record { rows = t.rows; own = t.own }) };
+}
+
+impl ControllerTables {
+    /// No controller. No later call takes memory.
+    pub(crate) fn new(alloc: Global) -> Result<ControllerTables, AllocError>
+        ensures { IfOk result IsNewTables }
+    {
+        Ok(ControllerTables {
+            rows: Controllers::new(alloc)?,
+            own: NumberTable::new(alloc, PLACES)?,
+        })
+    }
+
+    /// What a decision may look at, with these pages and this configuration.
+    pub(crate) fn world<'a>(&'a self, pages: &'a Pages<'a>, config: &'a Config) -> World<'a>
+        ensures { world_in result ≡ world_with (pages_in pages.now) config.now self.now }
+    {
+        World {
+            pages,
+            config,
+            rows: &self.rows,
+            controllers: &self.own,
+        }
+    }
+
+    /// Ends the controllers that it ends, where the configuration has become this, and takes from
+    /// those that stay the queues that are gone. Says which are ended.
+    pub(crate) fn end(&mut self, config: &Config, ending: &Ending) -> [bool; PLACES]
+        ensures gone { (c : ℕ) → is_gone result c
+            ≡ gone_by ending.now config.now self.old c }
+        ensures rows { (c : ℕ) → place self.new.rows c
+            ≡ (if gone_by ending.now config.now self.old c then None else
+            option_map (row_kept ending.now c) (place self.old.rows c)) }
+        ensures own { (c : ℕ) → place self.new.own c
+            ≡ (if gone_by ending.now config.now self.old c then None else
+            place self.old.own c) }
+    {
+        let gone = gone(&self.rows, &self.own, config, ending);
+        remove_rows(&mut self.rows, &gone);
+        remove(&mut self.own, &gone);
+        leave(&mut self.rows, ending);
+        gone
+    }
+
+    /// Makes the change of a reply, with the row of the controller that it begins, when the clock
+    /// shows `now`.
+    pub(crate) fn change(&mut self, now: u64, change: &Change, row: Option<Row>)
+        requires { CanChange change.now row self.old }
+        ensures rows { (c : ℕ) → place self.new.rows c
+            ≡ row_changed change.now row (place self.old.own c) c (place self.old.rows c) }
+        ensures own { (c : ℕ) → place self.new.own c
+            ≡ controller_changed change.now now c (place self.old.own c) }
+    {
+        match (change, row) {
+            (Change::Begin(beginning), Some(row)) => {
+                let cntlid = beginning.controller.cntlid;
+                let own = Controller::new(beginning.controller.kind, beginning.kato, now);
+                self.rows.put(cntlid, row);
+                self.own.put(usize::from(cntlid), own);
+            }
+            (Change::Join(joining), _) => self.rows.join(joining.cntlid, joining.qid),
+            (Change::Configure(setting), _) => {
+                let ready = configure(&mut self.own, setting);
+                self.rows.set_ready(setting.cntlid, ready);
+            }
+            (Change::KeepAlive(cntlid), _) => keep_alive(&mut self.own, *cntlid, now),
+            _ => {}
+        }
+    }
+}
+
+// The controllers that it ends, by their identifiers.
+fn gone(
+    rows: &Controllers,
+    own: &NumberTable<Controller>,
+    config: &Config,
+    ending: &Ending,
+) -> [bool; PLACES]
+    requires { AreTables (record { rows = rows.now; own = own.now }) }
+    ensures { (c : ℕ) → is_gone result c
+        ≡ gone_by ending.now config.now (record { rows = rows.now; own = own.now }) c }
+{
+    let mut gone = [false; PLACES];
+    for cntlid in 0..PLACES as u16 {
+        let controller = own.get(usize::from(cntlid));
+        gone[usize::from(cntlid)] = ending.ends_controller(
+            config,
+            cntlid,
+            rows.get(cntlid),
+            controller,
+        );
+    }
+    gone
+}
+
+fn remove_rows(rows: &mut Controllers, gone: &[bool; PLACES])
+    ensures { (c : ℕ) → place rows.new c
+        ≡ (if is_gone gone.now c then None else place rows.old c) }
+{
+    for cntlid in 0..PLACES as u16 {
+        if gone[usize::from(cntlid)] {
+            rows.remove(cntlid);
+        }
+    }
+}
+
+fn remove(own: &mut NumberTable<Controller>, gone: &[bool; PLACES])
+    ensures each { (c : ℕ) → place own.new c
+        ≡ (if is_gone gone.now c then None else place own.old c) }
+    ensures places { length own.new ≡ length own.old }
+{
+    for cntlid in 0..PLACES {
+        if gone[cntlid] {
+            drop(own.remove(cntlid));
+        }
+    }
+}
+
+// An I/O queue leaves its controller, or all leave one that is reset.
+fn leave(rows: &mut Controllers, ending: &Ending)
+    ensures { (c : ℕ) → place rows.new c ≡ option_map (row_kept ending.now c) (place rows.old c) }
+{
+    match ending {
+        Ending::Queue { cntlid, qid } => rows.leave(*cntlid, *qid),
+        Ending::Reset(cntlid) => rows.leave_all(*cntlid),
+        _ => {}
+    }
+}
+
+// Sets a property of a controller, if it is there, and says whether it is ready then.
+fn configure(own: &mut NumberTable<Controller>, setting: &Setting) -> bool
+    ensures ready { result ≡ ready_after (place own.old setting.now.cntlid) setting.now }
+    ensures each { (c : ℕ) → place own.new c
+        ≡ controller_changed (change.Configure setting.now) 0 c (place own.old c) }
+    ensures places { length own.new ≡ length own.old }
+{
+    match own.get_mut(usize::from(setting.cntlid)) {
+        Some(controller) => {
+            controller.set(&setting.property);
+            controller.registers.ready()
+        }
+        None => false,
+    }
+}
+
+fn keep_alive(own: &mut NumberTable<Controller>, cntlid: u16, now: u64)
+    ensures each { (c : ℕ) → place own.new c
+        ≡ controller_changed (change.KeepAlive cntlid) now c (place own.old c) }
+    ensures places { length own.new ≡ length own.old }
+{
+    if let Some(controller) = own.get_mut(usize::from(cntlid)) {
+        controller.keep_alive(now);
+    }
+}
+
+/// What a decision changes.
+pub(crate) fn change_of(decision: &Decision) -> Change
+    ensures { result ≡ change_decided (Some decision.now) }
+{
+    match decision {
+        Decision::Reply(reply) => reply.change,
+        _ => Change::Stay,
+    }
+}

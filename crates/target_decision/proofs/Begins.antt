@@ -1,0 +1,188 @@
+-- A controller is begun under an identifier that is free, by a capsule that names its subsystem and its host well.
+use Rattle.std.proofs.Common.{◌≡◌, ℕ, Bool, true, false, List, Option, Some, None, Result, Ok, Err, refl, sym, ap, ◌∙◌}
+use Rattle.std.specs.Prelude.{if◌then◌else◌, not, ◌==◌, nat_lt, length}
+use Rattle.fabrics_connect.specs.declared.decision.AdmitAs.{AdmitAs}
+use Rattle.fabrics_connect.specs.declared.decision.AdmitAs.TheVariants as admit
+use Rattle.fabrics_connect.specs.declared.decision.Decision as connect_decision
+use Rattle.fabrics_connect.specs.declared.decision.Decision.TheVariants.{Admit, Deny}
+use Rattle.fabrics_connect.specs.declared.decision.NewController.{NewController}
+use Rattle.fabrics_connect.specs.declared.decision.Refusal.{Refusal}
+use Rattle.fabrics_connect.specs.declared.row.Row.{Row}
+use Rattle.fabrics_connect.specs.Command.{HasNames}
+use Rattle.fabrics_connect.specs.Connect.{answer_to, connect, decision_of}
+use Rattle.fabrics_connect.specs.Laws.{IsLeastFree}
+use Rattle.fabrics_connect.proofs.Consequences.{controller_named, identifiers_are_least}
+use Rattle.nvt_fields.specs.declared.pdu_type.PduType.{PduType}
+use Rattle.nvt_fields.specs.declared.pdu_type.PduType.TheVariants.{IcReq, IcResp, H2cTermReq, C2hTermReq, CapsuleCmd, CapsuleResp, H2cData, C2hData, R2t}
+use Rattle.pdu_codec.specs.declared.command.Property.{Property}
+use Rattle.pdu_codec.specs.declared.initialize.IcReq as ic_req
+use Rattle.nvt_fields.specs.declared.termination.FatalErrorStatus.TheVariants.{InvalidHeaderField, LimitExceeded, UnsupportedParameter}
+use Rattle.pdu_codec.specs.Initialize.{hpda_at, ic_req_of, pfv_at}
+use Rattle.pdu_codec.specs.Sqe.{cid_of}
+use Rattle.pdu_cut.specs.Front.{Front, incomplete, whole, faulty}
+use Rattle.pdu_cut.specs.Pdu.{Pdu, data_part, header_part}
+use Rattle.property_regs.specs.declared.regs.Change.{Change as Effect}
+use Rattle.property_regs.specs.declared.regs.InvalidField.{InvalidField}
+use Rattle.property_regs.specs.declared.regs.Regs.{Regs}
+use Rattle.target_decision.specs.declared.decision.Change.{Change}
+use Rattle.target_decision.specs.declared.decision.Change.TheVariants as change
+use Rattle.target_decision.specs.declared.decision.Decision.{Decision}
+use Rattle.target_decision.specs.declared.decision.Decision.TheVariants as decision
+use Rattle.target_decision.specs.declared.page.Page.{Page}
+use Rattle.target_decision.specs.declared.session.Conversation.{Conversation}
+use Rattle.target_decision.specs.declared.session.Role.{Role}
+use Rattle.target_decision.specs.declared.session.Role.TheVariants.{Admin, Io}
+use Rattle.target_decision.specs.declared.session.Session.{Session}
+use Rattle.target_decision.specs.declared.session.Session.TheVariants.{Opened, Initialized, Connected, Ended}
+use Rattle.target_decision.specs.Begin.{BeginsFree, NamesWell}
+use Rattle.target_decision.specs.Capsule.{admin_at, admin_command, command, command_in, fabrics_command, first_command, given_by, on_admin_queue, on_io_queue, queue_command, reply_of, set_by}
+use Rattle.target_decision.specs.Connect.{answered, connect_on}
+use Rattle.target_decision.specs.Decision.{capsule, decide, decide_in, entry_of, first_by, initialize, next_by, terminate}
+use Rattle.target_decision.specs.LogPage.{read_known}
+use Rattle.target_decision.specs.Outcome.{Outcome}
+use Rattle.target_decision.specs.World.{Pages, World}
+
+-- what a command with this entry and this data comes to begins nothing, or soundly
+abbrev IsSoundChange : World → Change → List ℕ → List ℕ → Type 0
+IsSoundChange w (change.Begin b) entry bytes = IsLeastFree w.row b.controller.cntlid × HasNames entry bytes
+IsSoundChange w change.Stay entry bytes = Unit {0}
+IsSoundChange w (change.Join j) entry bytes = Unit {0}
+IsSoundChange w (change.Configure s) entry bytes = Unit {0}
+IsSoundChange w (change.KeepAlive c) entry bytes = Unit {0}
+
+abbrev IsSound : World → Outcome → List ℕ → List ℕ → Type 0
+IsSound w (Ok success) entry bytes = IsSoundChange w success.change entry bytes
+IsSound w (Err refusal) entry bytes = Unit {0}
+
+either_sound : (test : Bool) (w : World) (o p : Outcome) (entry bytes : List ℕ) → IsSound w o entry bytes → IsSound w p entry bytes
+    → IsSound w (if test then o else p) entry bytes
+either_sound true w o p entry bytes h k = h
+either_sound false w o p entry bytes h k = k
+
+-- ---- a Connect
+
+answer_is : (answer : Result AdmitAs Refusal) (a : AdmitAs) → decision_of answer ≡ Admit a → answer ≡ Ok a
+answer_is (Ok admission) a h = cc
+answer_is (Err refusal) a h = cc
+
+names : (w : World) (port : ℕ) (entry bytes : List ℕ) (new : NewController) → connect w.config w.row port entry bytes ≡ Admit (admit.Controller new)
+    → HasNames entry bytes
+unfolding connect
+names w port entry bytes new h =
+    controller_named w.config w.row port entry bytes (admit.Controller new)
+    (answer_is (answer_to w.config w.row port entry bytes) (admit.Controller new) h)
+
+answered_sound : (w : World) (port : ℕ) (entry bytes : List ℕ) (d : connect_decision.Decision) → connect w.config w.row port entry bytes ≡ d
+    → IsSound w (answered d entry) entry bytes
+answered_sound w port entry bytes (Deny status result) h = tt
+answered_sound w port entry bytes (Admit (admit.Queue cntlid qid)) h = tt
+answered_sound w port entry bytes (Admit (admit.Controller new)) h =
+    (identifiers_are_least.is_least w.config w.row port entry bytes new.cntlid new.kind h, names w port entry bytes new h)
+
+connect_sound : (w : World) (port : ℕ) (entry bytes : List ℕ) → IsSound w (connect_on w port entry bytes) entry bytes
+connect_sound w port entry bytes = answered_sound w port entry bytes (connect w.config w.row port entry bytes) refl
+
+-- ---- the other commands
+
+set_sound : (w : World) (effect : Result Effect InvalidField) (cntlid : ℕ) (p : Property) (entry bytes : List ℕ) → IsSound w (set_by effect cntlid p) entry bytes
+set_sound w (Ok effect) cntlid p entry bytes = tt
+set_sound w (Err fault) cntlid p entry bytes = tt
+
+given_sound : (w : World) (value : Result ℕ InvalidField) (entry bytes : List ℕ) → IsSound w (given_by value) entry bytes
+given_sound w (Ok value) entry bytes = tt
+given_sound w (Err fault) entry bytes = tt
+
+fabrics_sound : (w : World) (registers : Regs) (cntlid : ℕ) (entry bytes : List ℕ) → IsSound w (fabrics_command registers cntlid entry) entry bytes
+fabrics_sound w registers cntlid entry bytes = search (either_sound, set_sound, given_sound)
+
+read_sound : (w : World) (page : Option Page) (pages : Pages) (host entry bytes : List ℕ) → IsSound w (read_known page pages host entry) entry bytes
+read_sound w None pages host entry bytes = tt
+read_sound w (Some page) pages host entry bytes = search (either_sound)
+
+admin_sound : (w : World) (o : Option Row) (cntlid : ℕ) (entry bytes : List ℕ) → IsSound w (admin_at w.pages o cntlid entry) entry bytes
+admin_sound w None cntlid entry bytes = tt
+admin_sound w (Some row) cntlid entry bytes = search (either_sound, read_sound)
+
+queue_sound : (w : World) (role : Role) (entry bytes : List ℕ) → IsSound w (queue_command w role entry) entry bytes
+queue_sound w (Admin cntlid) entry bytes = search (either_sound, fabrics_sound, admin_sound)
+queue_sound w (Io cntlid qid) entry bytes = search (either_sound)
+
+first_sound : (w : World) (port : ℕ) (entry bytes : List ℕ) → IsSound w (first_command w port entry bytes) entry bytes
+first_sound w port entry bytes = search (either_sound, connect_sound)
+
+in_sound : (w : World) (port : ℕ) (s : Session) (entry bytes : List ℕ) → IsSound w (command_in w port s entry bytes) entry bytes
+in_sound w port Opened entry bytes = first_sound w port entry bytes
+in_sound w port Initialized entry bytes = first_sound w port entry bytes
+in_sound w port (Connected role q) entry bytes = queue_sound w role entry bytes
+in_sound w port Ended entry bytes = first_sound w port entry bytes
+
+command_sound : (w : World) (v : Conversation) (entry bytes : List ℕ) → IsSound w (command w v entry bytes) entry bytes
+command_sound w v entry bytes = search (either_sound, in_sound)
+
+-- ---- a PDU
+
+abbrev Founds : World → Decision → Front → Type 0
+Founds w d front = BeginsFree w.row d × NamesWell d front
+
+change_founds : (w : World) (ch : Change) (pdu : Pdu) → pdu.kind ≡ CapsuleCmd → IsSoundChange w ch (entry_of pdu) (data_part pdu)
+    → (r : _) → Founds w (decision.Reply (record r { change = ch })) (whole pdu)
+change_founds w (change.Begin b) pdu is h r = (h.0, (is, h.1))
+change_founds w change.Stay pdu is h r = (tt, tt)
+change_founds w (change.Join j) pdu is h r = (tt, tt)
+change_founds w (change.Configure s) pdu is h r = (tt, tt)
+change_founds w (change.KeepAlive c) pdu is h r = (tt, tt)
+
+reply_founds : (w : World) (s : Session) (cid : ℕ) (o : Outcome) (pdu : Pdu) → pdu.kind ≡ CapsuleCmd → IsSound w o (entry_of pdu) (data_part pdu)
+    → Founds w (decision.Reply (reply_of s cid o)) (whole pdu)
+reply_founds w s cid (Ok success) pdu is h = change_founds w success.change pdu is h (reply_of s cid (Ok success))
+reply_founds w s cid (Err refusal) pdu is h = (tt, tt)
+
+capsule_founds : (w : World) (v : Conversation) (pdu : Pdu) → pdu.kind ≡ CapsuleCmd → Founds w (capsule w v pdu) (whole pdu)
+capsule_founds w v pdu is = by (nat_lt 8192 (length (data_part pdu))) where
+  d : Decision
+  d = decision.Reply (reply_of v.session (cid_of (entry_of pdu)) (command w v (entry_of pdu) (data_part pdu)))
+
+  by : (long : Bool) → Founds w (if long then terminate LimitExceeded 0 else d) (whole pdu)
+  by true = (tt, tt)
+  by false = reply_founds w v.session (cid_of (entry_of pdu)) (command w v (entry_of pdu) (data_part pdu)) pdu is (command_sound w v (entry_of pdu) (data_part pdu))
+
+next_founds : (kind : PduType) (w : World) (v : Conversation) (pdu : Pdu) → pdu.kind ≡ kind → Founds w (next_by kind w v pdu) (whole pdu)
+next_founds CapsuleCmd w v pdu is = capsule_founds w v pdu is
+next_founds IcReq w v pdu is = (tt, tt)
+next_founds IcResp w v pdu is = (tt, tt)
+next_founds H2cTermReq w v pdu is = (tt, tt)
+next_founds C2hTermReq w v pdu is = (tt, tt)
+next_founds CapsuleResp w v pdu is = (tt, tt)
+next_founds H2cData w v pdu is = (tt, tt)
+next_founds C2hData w v pdu is = (tt, tt)
+next_founds R2t w v pdu is = (tt, tt)
+
+initialize_founds : (w : World) (request : ic_req.IcReq) (front : Front) → Founds w (initialize request) front
+initialize_founds w request front = by (not (request.pfv == 0)) (not (request.hpda == 0)) where
+  by : (a b : Bool)
+      → Founds w (if a then terminate UnsupportedParameter pfv_at else if b then terminate InvalidHeaderField hpda_at else decision.Initialize) front
+  by true b = (tt, tt)
+  by false true = (tt, tt)
+  by false false = (tt, tt)
+
+first_by_founds : (kind : PduType) (w : World) (pdu : Pdu) (front : Front) → Founds w (first_by kind pdu) front
+first_by_founds IcReq w pdu front = initialize_founds w (ic_req_of (header_part pdu)) front
+first_by_founds H2cTermReq w pdu front = (tt, tt)
+first_by_founds IcResp w pdu front = (tt, tt)
+first_by_founds C2hTermReq w pdu front = (tt, tt)
+first_by_founds CapsuleCmd w pdu front = (tt, tt)
+first_by_founds CapsuleResp w pdu front = (tt, tt)
+first_by_founds H2cData w pdu front = (tt, tt)
+first_by_founds C2hData w pdu front = (tt, tt)
+first_by_founds R2t w pdu front = (tt, tt)
+
+in_founds : (s : Session) (w : World) (v : Conversation) (pdu : Pdu) → Founds w (decide_in s w v pdu) (whole pdu)
+in_founds Opened w v pdu = first_by_founds pdu.kind w pdu (whole pdu)
+in_founds Initialized w v pdu = next_founds pdu.kind w v pdu refl
+in_founds (Connected role q) w v pdu = next_founds pdu.kind w v pdu refl
+in_founds Ended w v pdu = (tt, tt)
+
+pub decided_founds : (w : World) (v : Conversation) (front : Front) → BeginsFree w.row (decide w v front) × NamesWell (decide w v front) front
+decided_founds w v incomplete = (tt, tt)
+decided_founds w v (whole pdu) = in_founds v.session w v pdu
+decided_founds w v (faulty fault head) = (tt, tt)

@@ -1,0 +1,296 @@
+-- What ends connections and controllers: resets, edits and the clock.
+use Rattle.std.proofs.Common.{◌≡◌, ◌⊎◌, ℕ, Bool, true, false, List, [], ◌∷◌, Option, Some, None, refl, sym, ap, ◌∙◌, inl, inr}
+use Rattle.std.specs.Prelude.{if◌then◌else◌}
+use Rattle.config_edits.specs.declared.edit.Edit.{Edit}
+use Rattle.config_edits.specs.declared.edit.Edit.TheVariants.{PortDel}
+use Rattle.config_rules.specs.Configuration.{Configuration}
+use Rattle.fabrics_connect.specs.declared.row.Row.{Row}
+use Rattle.pdu_cut.specs.Front.{Front}
+use Rattle.property_regs.specs.declared.regs.Change.TheVariants as effect
+use Rattle.target_decision.specs.declared.controller.Controller.{Controller}
+use Rattle.target_decision.specs.declared.decision.Change.{Change}
+use Rattle.target_decision.specs.declared.decision.Change.TheVariants as change
+use Rattle.target_decision.specs.declared.decision.Decision.{Decision}
+use Rattle.target_decision.specs.declared.decision.Decision.TheVariants as decision
+use Rattle.target_decision.specs.declared.decision.Setting.{Setting}
+use Rattle.target_decision.specs.declared.session.Conversation.{Conversation}
+use Rattle.target_decision.specs.declared.session.Role.{Role}
+use Rattle.target_decision.specs.declared.session.Role.TheVariants.{Admin, Io}
+use Rattle.target_decision.specs.declared.session.Session.{Session}
+use Rattle.target_decision.specs.declared.session.Session.TheVariants.{Opened, Initialized, Connected, Ended}
+use Rattle.target_decision.specs.World.{World}
+use Rattle.target_history.specs.declared.ending.Ending.{Ending}
+use Rattle.target_history.specs.declared.ending.Ending.TheVariants as ending
+use Rattle.target_history.specs.Ending.{ending_changed, ending_edited, ending_lost, ending_set, ends_by, ends_role, ends_row, ends_row_at, ends_session, ends_timer, is_barred, is_on_port}
+use Rattle.target_history.specs.Event.{Event, edited, front_in, opened, stepped, steps, given_up, ticked}
+use Rattle.target_history.specs.Happening.{Happening, change_decided, change_of, decided, decided_on, decision_of, ending_by, ending_given_up, ending_of, ending_taken, ends_live, is_end_decided, row_kept, stepping}
+use Rattle.target_history.specs.History.{beats_by, clock_of, config_of, controller_of, conversation_of, happened, mark_of, meets_after, row_of}
+use Rattle.target_history.specs.Laws.{EditsEndControllers, NothingExpiresWithoutTicks, PermittedOutliveEdits, ResetsEndTheirQueuesAlone, StaysPermitted, deletes, has_ticks, is_deletion, is_io_queue_of, is_permitted, is_queue_of, is_role_of, is_tick, may_use_named}
+use Rattle.target_history.proofs.Lives.{controller_step, row_step}
+use Rattle.target_history.proofs.Steps.{conversation_step}
+use Rattle.target_history.proofs.Tests.{neither, same_number}
+
+-- ---- the connection that an event steps
+
+pub decided_is : (event : Event) (w : World) (conversation : ℕ → Option Conversation) (k : ℕ) → steps event k ≡ true
+    → decided_on w (conversation k) (front_in event) ≡ decided_on w (stepping event conversation) (front_in event)
+decided_is (edited edit) w conversation k h = cc
+decided_is (opened port n) w conversation k h = cc
+decided_is (given_up n) w conversation k h = cc
+decided_is (ticked now) w conversation k h = cc
+decided_is (stepped n front) w conversation k h = ap (λ (j : ℕ). decided_on w (conversation j) front) (same_number k n h)
+
+-- ---- a reset
+
+taken_is : (o : Option Conversation) (w : World) (front : Front) (d : Option Decision) (ch : Change) → decided_on w o front ≡ d
+    → change_decided d ≡ ch → (ch ≡ change.Stay → ⊥) → ending_taken o d ≡ ending_changed ch
+taken_is None w front d ch is h changes = absurd (changes (sym h ∙ ap change_decided (sym is)))
+taken_is (Some v) w front None ch is h changes = absurd (changes (sym h))
+taken_is (Some v) w front (Some decision.Initialize) ch is h changes = absurd (changes (sym h))
+taken_is (Some v) w front (Some (decision.Reply r)) ch is h changes = ap ending_changed h
+taken_is (Some v) w front (Some (decision.Terminate t)) ch is h changes = absurd (changes (sym h))
+taken_is (Some v) w front (Some decision.Close) ch is h changes = absurd (changes (sym h))
+
+ending_by_is : (event : Event) (w : World) (conversation : ℕ → Option Conversation) (clock : ℕ) (ch : Change)
+    → change_decided (decided_on w (stepping event conversation) (front_in event)) ≡ ch → (ch ≡ change.Stay → ⊥)
+    → ending_by event conversation (decided_on w (stepping event conversation) (front_in event)) clock ≡ ending_changed ch
+ending_by_is (edited edit) w conversation clock ch h changes = absurd (changes (sym h))
+ending_by_is (opened port n) w conversation clock ch h changes = absurd (changes (sym h))
+ending_by_is (given_up n) w conversation clock ch h changes = absurd (changes (sym h))
+ending_by_is (ticked now) w conversation clock ch h changes = absurd (changes (sym h))
+ending_by_is (stepped n front) w conversation clock ch h changes =
+    taken_is (conversation n) w front (decided_on w (conversation n) front) ch refl h changes
+
+-- what an event ends that changes something, by the change alone
+pub change_ends : (x : Happening) (ch : Change) → change_of x ≡ ch → (ch ≡ change.Stay → ⊥) → ending_of x ≡ ending_changed ch
+change_ends x ch h changes = ending_by_is x.event x.world x.conversation x.clock ch h changes
+
+reset_ends : (x : Happening) (s : Setting) → change_of x ≡ change.Configure s → s.effect ≡ effect.Reset → ending_of x ≡ ending.Reset s.cntlid
+reset_ends x s h resets = change_ends x (change.Configure s) h (λ is. cc) ∙ ap (λ (e : _). ending_set e s.cntlid) resets
+
+no_end : (d : Option Decision) (s : Setting) → change_decided d ≡ change.Configure s → is_end_decided d ≡ false
+no_end None s h = refl
+no_end (Some decision.Initialize) s h = refl
+no_end (Some (decision.Reply r)) s h = refl
+no_end (Some (decision.Terminate t)) s h = cc
+no_end (Some decision.Close) s h = cc
+
+-- no step that resets ends its own connection
+goes_on : (x : Happening) (k : ℕ) (s : Setting) → change_of x ≡ change.Configure s → is_end_decided (decided x k) ≡ false
+goes_on x k s h = by (steps x.event k) refl where
+  by : (stepping : Bool) → steps x.event k ≡ stepping
+      → is_end_decided (if stepping then decided_on x.world (x.conversation k) (front_in x.event) else None) ≡ false
+  by true is = ap is_end_decided (decided_is x.event x.world x.conversation k is) ∙ no_end (decision_of x) s h
+  by false is = refl
+
+no_row_reset : (c d : ℕ) (config : Configuration) (o : Option Row) → ends_row_at (ending.Reset c) config d o ≡ false
+no_row_reset c d config None = refl
+no_row_reset c d config (Some row) = refl
+
+none_reset : (x : Happening) (c d : ℕ) → ending_of x ≡ ending.Reset c → ends_live x d ≡ false
+none_reset x c d is = rw (is, no_row_reset c d) refl
+
+session_reset : (c : ℕ) (gone : ℕ → Bool) (session : Session) → ((d : ℕ) → gone d ≡ false)
+    → ends_session (ending.Reset c) gone session ≡ is_io_queue_of c session
+session_reset c gone Opened none = refl
+session_reset c gone Initialized none = refl
+session_reset c gone (Connected (Admin d) queue) none = none d
+session_reset c gone (Connected (Io d q) queue) none = rw (none d) refl
+session_reset c gone Ended none = refl
+
+pub resets_end_their_queues_alone : ResetsEndTheirQueuesAlone
+resets_end_their_queues_alone = record {
+  connections = λ x s k v sets resets met.
+      let is : ending_of x ≡ ending.Reset s.cntlid = reset_ends x s sets resets in
+      let here : ends_by (ending.Reset s.cntlid) (ends_live x) v ≡ is_io_queue_of s.cntlid v.session =
+      session_reset s.cntlid (ends_live x) v.session (λ d. none_reset x s.cntlid d is) in
+      rw (goes_on x k s sets, met) (ap (λ (e : Ending). ends_by e (ends_live x) v) is ∙ here);
+  controllers = λ x s c sets resets. none_reset x s.cntlid c (reset_ends x s sets resets);
+}
+
+-- ---- an edit
+
+edit_is : (edit : Edit) → (ending_edited edit ≡ ending.Permission) ⊎ ((id : ℕ) × (edit ≡ PortDel id))
+edit_is (PortDel id) = inr (id, refl)
+edit_is _ = inl refl
+
+not_barred : (config : Configuration) (host : List ℕ) (subsystem : Option (List ℕ)) (port : ℕ) → may_use_named config host subsystem port ≡ true
+    → is_barred config host subsystem port ≡ false
+not_barred config host None port h = refl
+not_barred config host (Some nqn) port h = rw h refl
+
+row_outlives : (edit : Edit) (config : Configuration) (c : ℕ) (row : Row) → deletes edit row.port ≡ false → is_permitted config row ≡ true
+    → ends_row (ending_edited edit) config c row ≡ false
+row_outlives edit config c row port permitted =
+    elim (edit_is edit) [
+      | inl other ↦ rw other (not_barred config row.host row.subsystem row.port permitted)
+      | inr (id, is) ↦ ap (λ (e : Edit). ends_row (ending_edited e) config c row) is ∙ ap (λ (e : Edit). deletes e row.port) (sym is) ∙ port
+    ]
+
+no_timer : (edit : Edit) (o : Option Controller) → ends_timer (ending_edited edit) o ≡ false
+no_timer edit o =
+    elim (edit_is edit) [
+      | inl other ↦ rw other refl
+      | inr (id, is) ↦ ap (λ (e : Edit). ends_timer (ending_edited e) o) is
+    ]
+
+kept_whole : (edit : Edit) (c : ℕ) (row : Row) → row_kept (ending_edited edit) c row ≡ row
+kept_whole edit c row =
+    elim (edit_is edit) [
+      | inl other ↦ rw other refl
+      | inr (id, is) ↦ ap (λ (e : Edit). row_kept (ending_edited e) c row) is
+    ]
+
+-- the connection of a controller that lives, where its port is not deleted
+role_outlives : (e : Edit) (gone : ℕ → Bool) (c : ℕ) (role : Role) → gone c ≡ false → is_role_of c role ≡ true → ends_role (ending_edited e) gone role ≡ false
+role_outlives edit gone c (Admin d) lives is = ap gone (sym (same_number c d is)) ∙ lives
+role_outlives edit gone c (Io d q) lives is =
+    let live : gone d ≡ false = ap gone (sym (same_number c d is)) ∙ lives in
+    elim (edit_is edit) [
+      | inl other ↦ rw (live, other) refl
+      | inr (id, del) ↦ rw live (ap (λ (e : Edit). ends_role (ending_edited e) (λ (n : ℕ). false) (Io d q)) del)
+    ]
+
+session_outlives : (edit : Edit) (gone : ℕ → Bool) (c : ℕ) (s : Session) → gone c ≡ false → is_queue_of c s ≡ true
+    → ends_session (ending_edited edit) gone s ≡ false
+session_outlives edit gone c Opened lives is = refl
+session_outlives edit gone c Initialized lives is = refl
+session_outlives edit gone c (Connected role queue) lives is = role_outlives edit gone c role lives is
+session_outlives edit gone c Ended lives is = refl
+
+port_outlives : (edit : Edit) (port : ℕ) → deletes edit port ≡ false → is_on_port (ending_edited edit) port ≡ false
+port_outlives edit port h =
+    elim (edit_is edit) [
+      | inl other ↦ rw other refl
+      | inr (id, is) ↦ ap (λ (e : Edit). is_on_port (ending_edited e) port) is ∙ ap (λ (e : Edit). deletes e port) (sym is) ∙ h
+    ]
+
+module _ (units : List ℕ) (events : List Event) (edit : Edit) (c : ℕ) (row : Row) (stays : StaysPermitted units events edit c row) where
+  abbrev before : List Happening
+  before = happened units events
+
+  abbrev x : Happening
+  x = meets_after units before (edited edit)
+
+  lives : ends_live x c ≡ false
+  lives =
+      rw (stays.lives, row_outlives edit (config_of units (x ∷ before)) c row stays.port stays.permitted, no_timer edit (controller_of before c)) refl
+
+  row_stays : row_of (x ∷ before) c ≡ Some row
+  row_stays = row_step x before c refl ∙ rw (lives, stays.lives) (ap Some (kept_whole edit c row))
+
+  controller_stays : controller_of (x ∷ before) c ≡ controller_of before c
+  controller_stays = controller_step x before c ∙ rw lives refl
+
+  conversation_stays : (k : ℕ) (v : Conversation) → conversation_of before k ≡ Some v → is_queue_of c v.session ≡ true
+      → deletes edit v.port ≡ false → conversation_of (x ∷ before) k ≡ Some v
+  conversation_stays k v met is port =
+      let here : ends_by (ending_edited edit) (ends_live x) v ≡ false =
+      rw (port_outlives edit v.port port) (session_outlives edit (ends_live x) c v.session lives is) in
+      conversation_step x before k refl ∙ rw (met, here) refl
+
+pub permitted_outlive_edits : PermittedOutliveEdits
+permitted_outlive_edits = record {
+  row = row_stays;
+  controller = controller_stays;
+  connections = λ units events edit c row k v stays. conversation_stays units events edit c row stays k v;
+}
+
+deleted_ends : (edit : Edit) (config : Configuration) (c : ℕ) (row : Row) → deletes edit row.port ≡ true → ends_row (ending_edited edit) config c row ≡ true
+deleted_ends (PortDel id) config c row h = h
+deleted_ends _ config c row h = cc
+
+barred_is : (config : Configuration) (host : List ℕ) (subsystem : Option (List ℕ)) (port : ℕ) → may_use_named config host subsystem port ≡ false
+    → is_barred config host subsystem port ≡ true
+barred_is config host None port h = cc
+barred_is config host (Some nqn) port h = rw h refl
+
+barred_ends : (edit : Edit) (config : Configuration) (c : ℕ) (row : Row) → is_deletion edit ≡ false → is_permitted config row ≡ false
+    → ends_row (ending_edited edit) config c row ≡ true
+barred_ends (PortDel id) config c row other h = cc
+barred_ends _ config c row other h = barred_is config row.host row.subsystem row.port h
+
+-- a controller whose row an edit ends is gone
+edit_ends : (units : List ℕ) (events : List Event) (edit : Edit) (c : ℕ) (row : Row) → row_of (happened units events) c ≡ Some row
+    → ends_row (ending_edited edit) (config_of units (happened units (edited edit ∷ events))) c row ≡ true
+    → row_of (happened units (edited edit ∷ events)) c ≡ None
+edit_ends units events edit c row lives h =
+    let before = happened units events in
+    row_step (meets_after units before (edited edit)) before c refl ∙ rw (lives, h) refl
+
+pub edits_end_controllers : EditsEndControllers
+edits_end_controllers = record {
+  deleted = λ units events edit c row lives h. edit_ends units events edit c row lives (deleted_ends edit _ c row h);
+  barred = λ units events edit c row lives other h. edit_ends units events edit c row lives (barred_ends edit _ c row other h);
+}
+
+-- ---- without ticks
+
+tickless : (event : Event) (events : List Event) → has_ticks (event ∷ events) ≡ false → (is_tick event ≡ false) × (has_ticks events ≡ false)
+tickless event events h = neither (is_tick event) (has_ticks events) h
+
+clock_stays : (units : List ℕ) (events : List Event) → has_ticks events ≡ false → clock_of (happened units events) ≡ 0
+clock_stays units [] h = refl
+clock_stays units (edited edit ∷ events) h = clock_stays units events h
+clock_stays units (opened port n ∷ events) h = clock_stays units events h
+clock_stays units (stepped n front ∷ events) h = clock_stays units events h
+clock_stays units (given_up n ∷ events) h = clock_stays units events h
+clock_stays units (ticked now ∷ events) h = cc
+
+mark_stays : (units : List ℕ) (events : List Event) (c : ℕ) → has_ticks events ≡ false → mark_of (happened units events) c ≡ 0
+mark_stays units [] c h = refl
+mark_stays units (event ∷ events) c h =
+    let earlier = (tickless event events h).1 in
+    by (beats_by (change_of (meets_after units (happened units events) event)) c) (clock_stays units events earlier) (mark_stays units events c earlier) where
+      by : (beats : Bool) → clock_of (happened units events) ≡ 0 → mark_of (happened units events) c ≡ 0
+          → (if beats then clock_of (happened units events) else mark_of (happened units events) c) ≡ 0
+      by true clock mark = clock
+      by false clock mark = mark
+
+lost_no_timer : (s : Session) (o : Option Controller) → ends_timer (ending_lost s) o ≡ false
+lost_no_timer Opened o = refl
+lost_no_timer Initialized o = refl
+lost_no_timer (Connected (Admin c) queue) o = refl
+lost_no_timer (Connected (Io c q) queue) o = refl
+lost_no_timer Ended o = refl
+
+changed_no_timer : (ch : Change) (o : Option Controller) → ends_timer (ending_changed ch) o ≡ false
+changed_no_timer change.Stay o = refl
+changed_no_timer (change.Begin b) o = refl
+changed_no_timer (change.Join j) o = refl
+changed_no_timer (change.KeepAlive c) o = refl
+changed_no_timer (change.Configure s) o = by s.effect where
+  by : (e : _) → ends_timer (ending_set e s.cntlid) o ≡ false
+  by effect.Reset = refl
+  by effect.Enable = refl
+  by effect.Shutdown = refl
+  by effect.Stay = refl
+
+taken_no_timer : (v : Option Conversation) (d : Option Decision) (o : Option Controller) → ends_timer (ending_taken v d) o ≡ false
+taken_no_timer None d o = refl
+taken_no_timer (Some v) None o = refl
+taken_no_timer (Some v) (Some decision.Initialize) o = refl
+taken_no_timer (Some v) (Some (decision.Reply r)) o = changed_no_timer r.change o
+taken_no_timer (Some v) (Some (decision.Terminate t)) o = lost_no_timer v.session o
+taken_no_timer (Some v) (Some decision.Close) o = lost_no_timer v.session o
+
+given_up_no_timer : (v : Option Conversation) (o : Option Controller) → ends_timer (ending_given_up v) o ≡ false
+given_up_no_timer None o = refl
+given_up_no_timer (Some v) o = lost_no_timer v.session o
+
+no_timer_by : (event : Event) (conversation : ℕ → Option Conversation) (d : Option Decision) (clock : ℕ) (o : Option Controller) → is_tick event ≡ false
+    → ends_timer (ending_by event conversation d clock) o ≡ false
+no_timer_by (edited edit) conversation d clock o h = no_timer edit o
+no_timer_by (opened port n) conversation d clock o h = refl
+no_timer_by (stepped n front) conversation d clock o h = taken_no_timer (conversation n) d o
+no_timer_by (given_up n) conversation d clock o h = given_up_no_timer (conversation n) o
+no_timer_by (ticked now) conversation d clock o h = cc
+
+pub nothing_expires_without_ticks : NothingExpiresWithoutTicks
+nothing_expires_without_ticks = record {
+  clock = clock_stays;
+  mark = mark_stays;
+  timers = λ units events event controller h.
+      let x = meets_after units (happened units events) event in
+      no_timer_by event x.conversation (decision_of x) x.clock controller (tickless event events h).0;
+}
