@@ -22,6 +22,9 @@ invalid_opcode = generic 0x01
 abbrev pub invalid_field : Status
 invalid_field = generic 0x02
 
+abbrev pub invalid_namespace_or_format : Status
+invalid_namespace_or_format = generic 0x0B
+
 abbrev pub command_sequence_error : Status
 command_sequence_error = generic 0x0C
 
@@ -36,6 +39,9 @@ sgl_offset_invalid = generic 0x16
 
 abbrev pub invalid_log_page : Status
 invalid_log_page = command_specific 0x09
+
+abbrev pub feature_not_saveable : Status
+feature_not_saveable = command_specific 0x0D
 
 abbrev pub incompatible_format : Status
 incompatible_format = command_specific 0x80

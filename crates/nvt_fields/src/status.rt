@@ -32,6 +32,12 @@ impl Status {
         dnr: true,
     };
 
+    pub const INVALID_NAMESPACE_OR_FORMAT: Status = Status {
+        sct: 0,
+        sc: 0x0B,
+        dnr: true,
+    };
+
     pub const COMMAND_SEQUENCE_ERROR: Status = Status {
         sct: 0,
         sc: 0x0C,
@@ -59,6 +65,12 @@ impl Status {
     pub const INVALID_LOG_PAGE: Status = Status {
         sct: 1,
         sc: 0x09,
+        dnr: true,
+    };
+
+    pub const FEATURE_NOT_SAVEABLE: Status = Status {
+        sct: 1,
+        sc: 0x0D,
         dnr: true,
     };
 

@@ -6,6 +6,8 @@ use Rattle.pdu_codec.specs.declared.sgl.Sgl.{Sgl}
 use Rattle.pdu_codec.specs.declared.command.Connect.{Connect}
 use Rattle.pdu_codec.specs.declared.command.Property.{Property}
 use Rattle.pdu_codec.specs.declared.command.GetLogPage.{GetLogPage}
+use Rattle.pdu_codec.specs.declared.command.Identify.{Identify}
+use Rattle.pdu_codec.specs.declared.command.Feature.{Feature}
 
 -- the entry of a capsule: what follows the common header in its 72 header bytes
 abbrev pub entry_in : List ℕ → List ℕ
@@ -64,4 +66,16 @@ get_log_page_of entry = record {
   rae = nat_le 128 (slice_index entry 41);
   numd = field_at 2 42 entry + 2 ^ 16 * field_at 2 44 entry;
   offset = field_at 8 48 entry;
+}
+
+-- Identify (Base 2.0, section 5.17)
+abbrev pub identify_of : List ℕ → Identify
+identify_of entry = record { cns = slice_index entry 40; nsid = nsid_of entry }
+
+-- Get Features and Set Features (Base 2.0, sections 5.15 and 5.27)
+abbrev pub feature_of : List ℕ → Feature
+feature_of entry = record {
+  fid = slice_index entry 40;
+  save = nat_le 128 (slice_index entry 43);
+  value = field_at 4 44 entry;
 }

@@ -107,3 +107,51 @@ impl GetLogPage {
         }
     }
 }
+
+/// Identify (Base 2.0, section 5.17).
+#[derive(Clone, Copy, Debug, PartialEq, Eq)]
+pub struct Identify {
+    /// Controller or namespace structure: which structure to return.
+    pub cns: u8,
+    /// The namespace that it is asked of, or the one above which a list begins.
+    pub nsid: u32,
+}
+
+impl Identify {
+    ghost use Rattle.pdu_codec.specs.Sqe.{identify_of};
+
+    pub fn read(sqe: &Sqe<'_>) -> Identify
+        ensures { result ≡ identify_of sqe.now.entry.now }
+    {
+        Identify {
+            cns: sqe.entry[40],
+            nsid: sqe.nsid(),
+        }
+    }
+}
+
+/// Get Features or Set Features (Base 2.0, sections 5.15 and 5.27).
+#[derive(Clone, Copy, Debug, PartialEq, Eq)]
+pub struct Feature {
+    /// Feature identifier.
+    pub fid: u8,
+    /// Whether the value is to outlast resets.
+    pub save: bool,
+    /// The value to set.
+    pub value: u32,
+}
+
+impl Feature {
+    ghost use Rattle.pdu_codec.specs.Sqe.{feature_of};
+
+    pub fn read(sqe: &Sqe<'_>) -> Feature
+        ensures { result ≡ feature_of sqe.now.entry.now }
+    {
+        let entry = sqe.entry;
+        Feature {
+            fid: entry[40],
+            save: entry[43] >= 0x80,
+            value: u32_at(entry, 44),
+        }
+    }
+}

@@ -15,7 +15,7 @@ pub mod termination;
 
 pub use append::Full;
 pub use capsule_resp::CapsuleResp;
-pub use command::{Connect, GetLogPage, Property};
+pub use command::{Connect, Feature, GetLogPage, Identify, Property};
 pub use connect_data::ConnectData;
 pub use data_pdu::C2hData;
 pub use initialize::{IcReq, IcResp};

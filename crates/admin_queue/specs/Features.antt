@@ -1,0 +1,40 @@
+-- Get Features and Set Features (Base 2.0, sections 5.15 and 5.27).
+use Rattle.std.specs.Prelude.{ℕ, ◌%◌, ◌/◌, ◌^◌, ◌==◌, ◌&&◌, not, Bool, List, Option, Some, None, Err, if◌then◌else◌}
+use Rattle.nvt_fields.specs.Status.{feature_not_saveable, invalid_field}
+use Rattle.pdu_codec.specs.declared.command.Feature.{Feature}
+use Rattle.pdu_codec.specs.Sqe.{feature_of}
+use Rattle.admin_queue.specs.declared.outcome.Effect.TheVariants as effect
+use Rattle.admin_queue.specs.Controller.{AdminController}
+use Rattle.admin_queue.specs.Outcome.{Outcome, done, refuse}
+
+-- whether each half is a number of queues, 0's based
+abbrev pub are_queues : ℕ → Bool
+are_queues value = not (value % 2 ^ 16 == 0xFFFF) && not (value / 2 ^ 16 == 0xFFFF)
+
+-- 8 submission and 8 completion queues, both 0's based; a discovery controller has no I/O queue
+abbrev pub queues_on : Option (List ℕ) → Outcome
+queues_on None = Err invalid_field
+queues_on (Some subsystem) = done 0x00070007 effect.Nothing
+
+abbrev pub get_queues : AdminController → Outcome
+get_queues c = queues_on c.subsystem
+
+-- whatever number is asked for, the answer is how many there are
+abbrev pub set_queues : AdminController → ℕ → Outcome
+set_queues c value = refuse (not (are_queues value)) invalid_field (get_queues c)
+
+abbrev pub set_by : AdminController → Feature → Outcome
+set_by c feature =
+    if feature.fid == 0x07 then set_queues c feature.value else
+    if feature.fid == 0x0F then done 0 (effect.KeepAliveTimeout feature.value) else
+    Err invalid_field
+
+-- the number of queues (07h) and the Keep Alive Timer (0Fh), neither of which is saved
+abbrev pub set_features : AdminController → List ℕ → Outcome
+set_features c entry = refuse (feature_of entry).save feature_not_saveable (set_by c (feature_of entry))
+
+abbrev pub get_features : AdminController → List ℕ → Outcome
+get_features c entry =
+    if (feature_of entry).fid == 0x07 then get_queues c else
+    if (feature_of entry).fid == 0x0F then done c.kato effect.Nothing else
+    Err invalid_field

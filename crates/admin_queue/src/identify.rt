@@ -1,0 +1,69 @@
+//! Identify (Base 2.0, section 5.17).
+ghost use Rattle.std.specs.Prelude.{◌≡◌};
+ghost use Rattle.admin_queue.specs.Controller.{controller_in};
+ghost use Rattle.admin_queue.specs.Identify.{identify, structure_asked, structure_of};
+
+use crate::controller::AdminController;
+use crate::outcome::{Outcome, returned};
+use crate::payload::{Payload, Structure};
+use config_lists::namespace::is_nsid;
+use nvt_config::Config;
+use nvt_fields::Status;
+use pdu_codec::{Identify, Sqe};
+
+// What to return: Controller or Namespace Structure (CNS).
+const NAMESPACE: u8 = 0x00;
+
+const CONTROLLER: u8 = 0x01;
+
+const ACTIVE_LIST: u8 = 0x02;
+
+const DESCRIPTORS: u8 = 0x03;
+
+/// From here on identifiers name no namespace that a list could begin behind.
+const LIST_END: u32 = 0xFFFF_FFFE;
+
+pub(crate) fn command(
+    config: &Config,
+    controller: &AdminController<'_>,
+    sqe: &Sqe<'_>,
+) -> Outcome
+    ensures { result ≡ identify config.now (controller_in controller.now) sqe.now.entry.now }
+{
+    let structure = structure_asked(config, controller, &Identify::read(sqe))?;
+    returned(Payload::Identify(structure), sqe)
+}
+
+fn structure_asked(
+    config: &Config,
+    controller: &AdminController<'_>,
+    request: &Identify,
+) -> Result<Structure, Status>
+    ensures { result ≡ structure_asked config.now (controller_in controller.now) request.now }
+{
+    match (controller.subsystem, request.cns) {
+        (_, CONTROLLER) => Ok(Structure::Controller),
+        (Some(subsystem), cns) => structure_of(config, subsystem.as_bytes(), cns, request.nsid),
+        (None, _) => Err(Status::INVALID_FIELD),
+    }
+}
+
+// What a controller of this subsystem tells of its namespaces.
+fn structure_of(
+    config: &Config,
+    subsystem: &[u8],
+    cns: u8,
+    nsid: u32,
+) -> Result<Structure, Status>
+    ensures { result ≡ structure_of config.now subsystem.now cns nsid }
+{
+    match cns {
+        NAMESPACE if is_nsid(u64::from(nsid)) => Ok(Structure::Namespace(nsid)),
+        ACTIVE_LIST if nsid < LIST_END => Ok(Structure::ActiveList(nsid)),
+        DESCRIPTORS if config.namespace(subsystem, nsid).is_some() => {
+            Ok(Structure::Descriptors(nsid))
+        }
+        NAMESPACE | ACTIVE_LIST | DESCRIPTORS => Err(Status::INVALID_NAMESPACE_OR_FORMAT),
+        _ => Err(Status::INVALID_FIELD),
+    }
+}
