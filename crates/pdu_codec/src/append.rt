@@ -1,6 +1,6 @@
-ghost use Rattle.std.specs.Prelude.{◌≡◌, ◌++◌, ◌≤◌, Some, codes, replicate};
+ghost use Rattle.std.specs.Prelude.{◌≡◌, ◌+◌, ◌++◌, ◌≤◌, Some, codes, replicate};
 ghost use Rattle.pdu_codec.specs.CommonHeader.{common_header};
-ghost use Rattle.pdu_codec.specs.Output.{AppendsOrFull};
+ghost use Rattle.pdu_codec.specs.Output.{AppendsOrFull, AppendsBeforeOrFull};
 
 use bytes::BytesMut;
 use nvt_fields::PduType;
@@ -45,16 +45,59 @@ pub(crate) fn append(
     ensures { let bytes = header.now ++ fields.now ++ replicate zeros 0 ++ tail.now in
         AppendsOrFull out.old out.new bytes result }
 {
+    append_head(out, header, fields, zeros, tail.len())?;
+    out.extend_reserved(tail);
+    Ok(())
+}
+
+/// As [`append`], with `len` zeros where that has what is lent: room that the caller writes over.
+pub(crate) fn append_room(
+    out: &mut BytesMut,
+    header: &[u8; 8],
+    fields: &[u8],
+    zeros: usize,
+    len: usize,
+) -> Result<(), Full>
+    requires { zeros ≤ 112 }
+    ensures { let bytes = header.now ++ fields.now ++ replicate zeros 0 ++ replicate len 0 in
+        AppendsOrFull out.old out.new bytes result }
+{
+    append_head(out, header, fields, zeros, len)?;
+    append_zeros(out, len);
+    Ok(())
+}
+
+// The parts before the tail, where there is spare room for a tail of this length too.
+fn append_head(
+    out: &mut BytesMut,
+    header: &[u8; 8],
+    fields: &[u8],
+    zeros: usize,
+    tail_len: usize,
+) -> Result<(), Full>
+    requires { zeros ≤ 112 }
+    ensures { let bytes = header.now ++ fields.now ++ replicate zeros 0 in
+        AppendsBeforeOrFull out.old out.new bytes tail_len result }
+{
     let spare = out.capacity() - out.len();
     let fixed = 8 + fields.len() + zeros;
-    if spare < fixed || spare - fixed < tail.len() {
+    if spare < fixed || spare - fixed < tail_len {
         return Err(Full);
     }
     out.extend_reserved(header);
     out.extend_reserved(fields);
     out.extend_reserved(zero_bytes(zeros));
-    out.extend_reserved(tail);
     Ok(())
+}
+
+fn append_zeros(out: &mut BytesMut, count: usize)
+    requires { count ≤ out.old.spare }
+    ensures items { out.new.items ≡ out.old.items ++ replicate count 0 }
+    ensures spare { out.new.spare + count ≡ out.old.spare }
+{
+    let start = out.len();
+    out.advance_mut(count);
+    out.as_mut_slice()[start..].fill(0);
 }
 
 fn zero_bytes(count: usize) -> &'static [u8]

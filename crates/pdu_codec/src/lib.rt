@@ -17,7 +17,7 @@ pub use append::Full;
 pub use capsule_resp::CapsuleResp;
 pub use command::{Connect, Feature, GetLogPage, Identify, Property};
 pub use connect_data::ConnectData;
-pub use data_pdu::C2hData;
+pub use data_pdu::{C2hData, C2hHead};
 pub use initialize::{IcReq, IcResp};
 pub use sgl::{Sgl, SglType};
 pub use sqe::Sqe;
