@@ -32,7 +32,7 @@ row_by (change.Begin b) port front = Some (row_begun b.controller port (entry_at
 row_by change.Stay port front = None
 row_by (change.Join j) port front = None
 row_by (change.Configure s) port front = None
-row_by (change.KeepAlive cntlid) port front = None
+row_by (change.KeepAlive start) port front = None
 
 -- .. of a decision on this front of a connection on this port
 abbrev pub row_decided : Decision → ℕ → Front → Option Row
@@ -54,7 +54,7 @@ NamesBy (change.Begin b) front = NamesIn front
 NamesBy change.Stay front = Unit {0}
 NamesBy (change.Join j) front = Unit {0}
 NamesBy (change.Configure s) front = Unit {0}
-NamesBy (change.KeepAlive cntlid) front = Unit {0}
+NamesBy (change.KeepAlive start) front = Unit {0}
 
 -- a controller begins by a capsule with the names of a row; of another decision any front will do
 abbrev pub NamesWell : Decision → Front → Type 0
@@ -68,7 +68,7 @@ FreeBy row (change.Begin b) = IsLeastFree row b.controller.cntlid
 FreeBy row change.Stay = Unit {0}
 FreeBy row (change.Join j) = Unit {0}
 FreeBy row (change.Configure s) = Unit {0}
-FreeBy row (change.KeepAlive cntlid) = Unit {0}
+FreeBy row (change.KeepAlive start) = Unit {0}
 
 -- a controller begins under the least identifier that is free
 abbrev pub BeginsFree : (ℕ → Option Row) → Decision → Type 0

@@ -1,6 +1,11 @@
 -- A command capsule, by its submission queue entry and the data that it brings (Base 2.0, sections 5
 -- and 6).
 use Rattle.std.specs.Prelude.{ℕ, Bool, false, not, ◌==◌, ◌&&◌, List, Option, Some, None, Result, Ok, Err, if◌then◌else◌}
+use Rattle.admin_queue.specs.declared.outcome.Effect.{Effect}
+use Rattle.admin_queue.specs.declared.outcome.Effect.TheVariants as effect
+use Rattle.admin_queue.specs.Commands.{admin}
+use Rattle.admin_queue.specs.Controller.{AdminController}
+use Rattle.admin_queue.specs.Outcome.{Outcome as AdminOutcome}
 use Rattle.fabrics_connect.specs.declared.row.Row.{Row}
 use Rattle.nvt_fields.specs.declared.status.Status.{Status}
 use Rattle.nvt_fields.specs.Status.{success, invalid_opcode, invalid_field, command_sequence_error}
@@ -20,10 +25,9 @@ use Rattle.target_decision.specs.declared.session.Session.{Session}
 use Rattle.target_decision.specs.declared.session.Session.TheVariants.{Opened, Initialized, Connected, Ended}
 use Rattle.target_decision.specs.Connect.{connect_on}
 use Rattle.target_decision.specs.Controller.{registers_at}
-use Rattle.target_decision.specs.LogPage.{get_log_page}
 use Rattle.target_decision.specs.Outcome.{Outcome, done, refuse, refused}
 use Rattle.target_decision.specs.Queue.{next_head, next_head_of}
-use Rattle.target_decision.specs.World.{Pages, World}
+use Rattle.target_decision.specs.World.{World, admin_controller}
 
 -- the opcode of all Fabrics commands, and their types
 abbrev pub fabrics_opcode : ℕ
@@ -37,6 +41,11 @@ connect_type = 0x01
 
 abbrev pub property_get_type : ℕ
 property_get_type = 0x04
+
+-- whether the controller of this row is ready
+abbrev pub is_ready_at : Option Row → Bool
+is_ready_at None = false
+is_ready_at (Some row) = row.ready
 
 -- ---- on an admin queue
 
@@ -65,28 +74,32 @@ fabrics_command registers cntlid entry =
     if fctype_of entry == property_get_type then property_get_of registers (property_of entry) else
     refused invalid_field
 
--- admin commands of a ready controller, by their opcode: Get Log Page and Keep Alive
-abbrev pub admin_command : Pages → Row → ℕ → List ℕ → Outcome
-admin_command pages row cntlid entry =
-    if opcode_of entry == 0x02 then get_log_page pages row entry else
-    if opcode_of entry == 0x18 then done 0 (change.KeepAlive cntlid) else refused invalid_opcode
+-- what the effect of an admin command changes
+abbrev pub change_by : ℕ → Effect → Change
+change_by cntlid effect.Nothing = change.Stay
+change_by cntlid effect.KeepAlive = change.KeepAlive (record { cntlid = cntlid; kato = None })
+change_by cntlid (effect.KeepAliveTimeout kato) = change.KeepAlive (record { cntlid = cntlid; kato = Some kato })
 
--- .. of any controller
-abbrev pub admin_at : Pages → Option Row → ℕ → List ℕ → Outcome
-admin_at pages None cntlid entry = refused command_sequence_error
-admin_at pages (Some row) cntlid entry =
-    refuse (not row.ready) command_sequence_error (admin_command pages row cntlid entry)
+abbrev pub answered : ℕ → AdminOutcome → Outcome
+answered cntlid (Ok s) = Ok (record { result = s.result; «data» = s.payload; change = change_by cntlid s.effect })
+answered cntlid (Err status) = refused status
+
+-- an admin command of a controller that is ready, or not
+abbrev pub admin_by : Bool → Option AdminController → World → ℕ → List ℕ → Outcome
+admin_by ready None w cntlid entry = refused command_sequence_error
+admin_by ready (Some c) w cntlid entry =
+    refuse (not ready) command_sequence_error (answered cntlid (admin w.pages w.config c entry))
+
+-- .. of the controller of this identifier
+abbrev pub admin_at : World → ℕ → List ℕ → Outcome
+admin_at w cntlid entry = admin_by (is_ready_at (w.row cntlid)) (admin_controller w cntlid) w cntlid entry
 
 abbrev pub on_admin_queue : World → ℕ → List ℕ → Outcome
 on_admin_queue w cntlid entry =
     if opcode_of entry == fabrics_opcode then fabrics_command (registers_at (w.controller cntlid)) cntlid entry else
-    admin_at w.pages (w.row cntlid) cntlid entry
+    admin_at w cntlid entry
 
 -- ---- on an I/O queue
-
-abbrev pub is_ready_at : Option Row → Bool
-is_ready_at None = false
-is_ready_at (Some row) = row.ready
 
 -- a second Connect is out of sequence, and no other Fabrics command is for an I/O queue; until disks are
 -- built no I/O command is known
@@ -130,7 +143,7 @@ head_after session (change.Begin b) = next_head b.sqsize 0
 head_after session (change.Join j) = next_head j.sqsize 0
 head_after session change.Stay = head_counted session
 head_after session (change.Configure s) = head_counted session
-head_after session (change.KeepAlive cntlid) = head_counted session
+head_after session (change.KeepAlive start) = head_counted session
 
 abbrev pub reply_of : Session → ℕ → Outcome → Reply
 reply_of session cid (Ok s) =

@@ -1,12 +1,13 @@
 -- What is owed to a PDU, and what a decision sends.
 use Rattle.std.specs.Prelude.{ℕ, ◌*◌, nat_lt, not, ◌==◌, List, [], ◌++◌, length, Option, Some, None, Bool, true, false, if◌then◌else◌}
-use Rattle.fabrics_connect.specs.declared.row.Row.{Row}
+use Rattle.admin_queue.specs.declared.payload.Payload.{Payload}
+use Rattle.admin_queue.specs.Controller.{AdminController}
+use Rattle.admin_queue.specs.Payload.{payload_bytes}
 use Rattle.nvt_fields.specs.FatalErrorStatus.{fatal_code_of}
 use Rattle.nvt_fields.specs.declared.pdu_type.PduType.{PduType}
 use Rattle.nvt_fields.specs.declared.pdu_type.PduType.TheVariants.{IcReq, H2cTermReq, CapsuleCmd, H2cData}
 use Rattle.nvt_fields.specs.declared.termination.FatalErrorStatus.{FatalErrorStatus}
 use Rattle.nvt_fields.specs.declared.termination.FatalErrorStatus.TheVariants.{InvalidHeaderField, SequenceError, LimitExceeded, UnsupportedParameter}
-use Rattle.nvt_fields.specs.Window.{window}
 use Rattle.pdu_codec.specs.declared.initialize.IcReq as ic_req
 use Rattle.pdu_codec.specs.C2hData.{c2h_data}
 use Rattle.pdu_codec.specs.CapsuleResp.{capsule_resp}
@@ -18,14 +19,11 @@ use Rattle.pdu_cut.specs.Pdu.{Pdu, header_part, data_part}
 use Rattle.target_decision.specs.declared.decision.Decision.{Decision}
 use Rattle.target_decision.specs.declared.decision.Decision.TheVariants as decision
 use Rattle.target_decision.specs.declared.decision.Reply.{Reply}
-use Rattle.target_decision.specs.declared.page.PagePart.{PagePart}
 use Rattle.target_decision.specs.declared.session.Conversation.{Conversation}
-use Rattle.target_decision.specs.declared.session.Role.{Role}
-use Rattle.target_decision.specs.declared.session.Role.TheVariants.{Admin, Io}
 use Rattle.target_decision.specs.declared.session.Session.{Session}
 use Rattle.target_decision.specs.declared.session.Session.TheVariants.{Opened, Initialized, Connected, Ended}
 use Rattle.target_decision.specs.Capsule.{command, reply_of}
-use Rattle.target_decision.specs.World.{Pages, World, page_named}
+use Rattle.target_decision.specs.World.{World, admin_controller_in}
 
 -- ---- what is owed to a PDU (TCP Transport 1.0, section 3.6; Base 2.0, sections 5 and 6)
 
@@ -86,47 +84,32 @@ is_end decision.Close = true
 
 -- ---- what a decision sends
 
--- the data of a reply: its part of a page
-abbrev pub part_of : Pages → List ℕ → Option PagePart → List ℕ
-part_of pages host None = []
-part_of pages host (Some part) = window (page_named part.page pages host) part.offset (4 * part.dwords)
+-- the bytes that a controller returns, where it returns any
+abbrev pub payload_at : World → Option AdminController → Option Payload → Option (List ℕ)
+payload_at w c None = None
+payload_at w None (Some payload) = None
+payload_at w (Some c) (Some payload) = Some (payload_bytes w.pages w.config c payload)
 
--- the name of a controller's host
-abbrev pub host_at : Option Row → List ℕ
-host_at None = []
-host_at (Some row) = row.host
-
-abbrev pub host_of_role : World → Role → List ℕ
-host_of_role w (Admin cntlid) = host_at (w.row cntlid)
-host_of_role w (Io cntlid qid) = host_at (w.row cntlid)
-
--- the name of the host that has a controller here
-abbrev pub host_of : World → Session → List ℕ
-host_of w Opened = []
-host_of w Initialized = []
-host_of w (Connected role queue) = host_of_role w role
-host_of w Ended = []
-
--- the data that a decision returns in a session
-abbrev pub data_of : World → Session → Decision → List ℕ
-data_of w session (decision.Reply r) = part_of w.pages (host_of w session) r.«data»
-data_of w session decision.Initialize = []
-data_of w session (decision.Terminate t) = []
-data_of w session decision.Close = []
+-- the data that a decision returns in a session: commands on admin queues alone return data
+abbrev pub data_of : World → Session → Decision → Option (List ℕ)
+data_of w session (decision.Reply r) = payload_at w (admin_controller_in w session) r.«data»
+data_of w session decision.Initialize = None
+data_of w session (decision.Terminate t) = None
+data_of w session decision.Close = None
 
 -- the data of a reply, whole in one PDU, where it has data
-abbrev pub data_pdu : ℕ → Option PagePart → List ℕ → List ℕ
-data_pdu cid None payload = []
-data_pdu cid (Some part) payload = c2h_data (record { cid = cid; offset = 0; last = true; hpda = 0; payload = payload })
+abbrev pub data_pdu : ℕ → Option (List ℕ) → List ℕ
+data_pdu cid None = []
+data_pdu cid (Some payload) = c2h_data (record { cid = cid; offset = 0; last = true; hpda = 0; payload = payload })
 
 abbrev pub response_of : Reply → List ℕ
 response_of r = capsule_resp (record { result = r.result; sqhd = r.sqhd; cid = r.cid; status = r.status })
 
 -- The bytes that a decision sends: head is the header of the PDU that was decided on, or its first
 -- bytes, and payload the data that the reply returns.
-abbrev pub wire_of : Decision → List ℕ → List ℕ → List ℕ
+abbrev pub wire_of : Decision → List ℕ → Option (List ℕ) → List ℕ
 wire_of decision.Initialize head payload = ic_resp (record { pfv = 0; cpda = 0; dgst = 0; maxh2cdata = 16384 })
-wire_of (decision.Reply r) head payload = data_pdu r.cid r.«data» payload ++ response_of r
+wire_of (decision.Reply r) head payload = data_pdu r.cid payload ++ response_of r
 wire_of (decision.Terminate t) head payload = c2h_term_req (fatal_code_of t.fes) t.fei head
 wire_of decision.Close head payload = []
 

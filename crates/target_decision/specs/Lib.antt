@@ -2,8 +2,8 @@ pub mod Begin
 pub mod Capsule
 pub mod Connect
 pub mod Controller
+pub mod Data
 pub mod Decision
-pub mod LogPage
 pub mod Outcome
 pub mod Queue
 pub mod Session

@@ -37,7 +37,7 @@ replied (change.Begin b) session = Connected (Admin b.controller.cntlid) (respon
 replied (change.Join j) session = Connected (Io j.cntlid j.qid) (responded (new_queue j.sqsize))
 replied change.Stay session = responded_in session
 replied (change.Configure s) session = responded_in session
-replied (change.KeepAlive cntlid) session = responded_in session
+replied (change.KeepAlive start) session = responded_in session
 
 abbrev pub session_after : Session → Decision → Session
 session_after session decision.Initialize = Initialized

@@ -1,37 +1,50 @@
-//! Admin commands of a controller (Base 2.0, section 5), by their opcode.
+//! Admin commands of a controller that is ready.
 ghost use Rattle.std.specs.Prelude.{◌≡◌};
-ghost use Rattle.std.specs.Option.{option_copied};
-ghost use Rattle.target_decision.specs.Capsule.{admin_at, admin_command};
-ghost use Rattle.target_decision.specs.World.{pages_in};
+ghost use Rattle.target_decision.specs.Capsule.{admin_at, answered, change_by};
+ghost use Rattle.target_decision.specs.World.{world_in};
 
-use crate::capsule::{Outcome, done, refused};
-use crate::decision::Change;
-use crate::log_page;
-use crate::world::Pages;
-use fabrics_connect::Row;
+use crate::capsule::{Outcome, Success, is_ready, refused};
+use crate::decision::{Change, TimerStart};
+use crate::world::World;
+use admin_queue::{Effect, admin};
 use nvt_fields::Status;
 use pdu_codec::Sqe;
 
-const GET_LOG_PAGE: u8 = 0x02;
-
-const KEEP_ALIVE: u8 = 0x18;
-
-/// Answers an admin command of the controller of this row, which has to be ready.
-pub(crate) fn command(pages: &Pages<'_>, row: Option<&Row>, cntlid: u16, sqe: &Sqe<'_>) -> Outcome
-    ensures { result ≡ admin_at (pages_in pages.now) (option_copied row.entry) cntlid sqe.now.entry.now }
+/// Answers an admin command of the controller of this identifier, which has to be ready.
+pub(crate) fn command(world: &World<'_>, cntlid: u16, sqe: &Sqe<'_>) -> Outcome
+    ensures { result ≡ admin_at (world_in world.now) cntlid sqe.now.entry.now }
 {
-    match row {
-        Some(row) if row.ready => by_opcode(pages, row, cntlid, sqe),
+    match world.admin_controller(cntlid) {
+        Some(controller) if is_ready(world.rows.get(cntlid)) => {
+            answered(cntlid, admin(world.pages, world.config, &controller, sqe))
+        }
         _ => refused(Status::COMMAND_SEQUENCE_ERROR),
     }
 }
 
-fn by_opcode(pages: &Pages<'_>, row: &Row, cntlid: u16, sqe: &Sqe<'_>) -> Outcome
-    ensures { result ≡ admin_command (pages_in pages.now) row.now cntlid sqe.now.entry.now }
+// The outcome of a command of this controller, with what it changes.
+fn answered(cntlid: u16, outcome: admin_queue::Outcome) -> Outcome
+    ensures { result ≡ answered cntlid outcome }
 {
-    match sqe.opcode() {
-        GET_LOG_PAGE => log_page::command(pages, row, sqe),
-        KEEP_ALIVE => done(0, Change::KeepAlive(cntlid)),
-        _ => refused(Status::INVALID_OPCODE),
+    match outcome {
+        Ok(success) => Ok(Success {
+            result: success.result,
+            data: success.payload,
+            change: change_by(cntlid, &success.effect),
+        }),
+        Err(status) => refused(status),
+    }
+}
+
+fn change_by(cntlid: u16, effect: &Effect) -> Change
+    ensures { result ≡ change_by cntlid effect.now }
+{
+    match *effect {
+        Effect::Nothing => Change::Stay,
+        Effect::KeepAlive => Change::KeepAlive(TimerStart { cntlid, kato: None }),
+        Effect::KeepAliveTimeout(kato) => Change::KeepAlive(TimerStart {
+            cntlid,
+            kato: Some(kato),
+        }),
     }
 }

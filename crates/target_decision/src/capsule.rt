@@ -10,11 +10,11 @@ ghost use Rattle.target_decision.specs.World.{world_in};
 
 use crate::decision::{Change, Decision, Reply, terminate};
 use crate::fabrics::{CONNECT, FABRICS};
-use crate::page::PagePart;
 use crate::queue::next_head;
 use crate::session::{Conversation, Role, Session};
 use crate::world::World;
 use crate::{admin, connect, fabrics};
+use admin_queue::Payload;
 use fabrics_connect::Row;
 use nvt_fields::{FatalErrorStatus, PduType, Status};
 use pdu_codec::Sqe;
@@ -30,7 +30,7 @@ pub(crate) type Outcome = Result<Success, Refusal>;
 #[derive(Clone, Copy)]
 pub(crate) struct Success {
     pub result: u64,
-    pub data: Option<PagePart>,
+    pub data: Option<Payload>,
     pub change: Change,
 }
 
@@ -93,7 +93,7 @@ fn on_admin_queue(world: &World<'_>, cntlid: u16, sqe: &Sqe<'_>) -> Outcome
     if sqe.opcode() == FABRICS {
         fabrics::command(&world.registers(cntlid), cntlid, sqe)
     } else {
-        admin::command(world.pages, world.rows.get(cntlid), cntlid, sqe)
+        admin::command(world, cntlid, sqe)
     }
 }
 
@@ -114,7 +114,7 @@ fn on_io_queue(world: &World<'_>, cntlid: u16, sqe: &Sqe<'_>) -> Outcome
     }
 }
 
-fn is_ready(row: Option<&Row>) -> bool
+pub(crate) fn is_ready(row: Option<&Row>) -> bool
     ensures { result ≡ is_ready_at (option_copied row.entry) }
 {
     match row {

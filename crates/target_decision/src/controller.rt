@@ -1,6 +1,6 @@
 //! A controller, as far as its own admin queue alone uses it.
 ghost use Rattle.std.specs.Prelude.{◌≡◌};
-ghost use Rattle.target_decision.specs.Controller.{new_controller, with_property, with_mark};
+ghost use Rattle.target_decision.specs.Controller.{new_controller, with_property, with_timer};
 
 use pdu_codec::Property;
 use property_regs::{ControllerKind, Regs};
@@ -36,10 +36,11 @@ impl Controller {
             .set(property.ofst, property.attrib, property.value);
     }
 
-    /// Starts its Keep Alive Timer again.
-    pub fn keep_alive(&mut self, now: u64)
-        ensures { self.new ≡ with_mark now self.old }
+    /// Starts its Keep Alive Timer again, with this timeout, in ms, where one is set.
+    pub fn keep_alive(&mut self, kato: Option<u32>, now: u64)
+        ensures { self.new ≡ with_timer kato now self.old }
     {
+        self.kato = kato.unwrap_or(self.kato);
         self.mark = now;
     }
 }

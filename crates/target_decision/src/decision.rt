@@ -7,9 +7,9 @@ ghost use Rattle.target_decision.specs.Decision.{is_end, next_by, terminate};
 ghost use Rattle.target_decision.specs.World.{world_in};
 
 use crate::capsule;
-use crate::page::PagePart;
 use crate::session::{Conversation, Session};
 use crate::world::World;
+use admin_queue::Payload;
 use fabrics_connect::NewController;
 use nvt_fields::{FatalErrorStatus, PduType, Status};
 use pdu_codec::{IcReq, Property};
@@ -56,7 +56,7 @@ pub struct Reply {
     pub sqhd: u16,
     pub status: Status,
     pub result: u64,
-    pub data: Option<PagePart>,
+    pub data: Option<Payload>,
     pub change: Change,
 }
 
@@ -70,8 +70,8 @@ pub enum Change {
     Join(Joining),
     /// A Property Set sets Controller Configuration.
     Configure(Setting),
-    /// A Keep Alive starts the Keep Alive Timer of this controller again.
-    KeepAlive(u16),
+    /// A Keep Alive, or a Set Features, starts the Keep Alive Timer of a controller again.
+    KeepAlive(TimerStart),
 }
 
 /// The controller that a Connect makes, and its admin queue.
@@ -102,6 +102,14 @@ pub struct Setting {
     pub property: Property,
     /// What that does to the controller.
     pub effect: property_regs::Change,
+}
+
+/// A start of a controller's Keep Alive Timer.
+#[derive(Clone, Copy)]
+pub struct TimerStart {
+    pub cntlid: u16,
+    /// The keep alive timeout, in ms, where it is set anew.
+    pub kato: Option<u32>,
 }
 
 /// What is owed to what stands at the front of a connection's stream.

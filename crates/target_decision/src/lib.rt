@@ -10,10 +10,9 @@ mod admin;
 mod capsule;
 mod connect;
 mod controller;
+mod data;
 mod decision;
 mod fabrics;
-mod log_page;
-mod page;
 mod queue;
 mod session;
 mod wire;
@@ -21,8 +20,9 @@ mod world;
 
 pub use act::{consumed_of, new_row, perform};
 pub use controller::Controller;
-pub use decision::{Beginning, Change, Decision, Joining, Reply, Setting, Termination, decide};
-pub use page::{Page, PagePart};
+pub use decision::{
+    Beginning, Change, Decision, Joining, Reply, Setting, Termination, TimerStart, decide,
+};
 pub use queue::Queue;
 pub use session::{Conversation, Role, Session};
-pub use world::{CONNECTIONS_MAX, Pages, World};
+pub use world::{CONNECTIONS_MAX, World};

@@ -1,10 +1,13 @@
 //! What a decision may look at beside its own connection.
 ghost use Rattle.std.specs.Prelude.{◌≡◌};
 ghost use Rattle.target_decision.specs.Controller.{registers_at};
-ghost use Rattle.target_decision.specs.World.{world_in};
+ghost use Rattle.std.specs.Option.{option_map};
+ghost use Rattle.admin_queue.specs.Controller.{controller_in};
+ghost use Rattle.target_decision.specs.World.{admin_controller, admin_controller_in, world_in};
 
 use crate::controller::Controller;
-use discovery_view::DiscoveryView;
+use crate::session::{Role, Session};
+use admin_queue::{AdminController, Pages};
 use fabrics_connect::Controllers;
 use number_table::NumberTable;
 use nvt_config::Config;
@@ -12,12 +15,6 @@ use property_regs::{ControllerKind, Regs};
 
 /// The most connections at a time.
 pub const CONNECTIONS_MAX: usize = 64;
-
-/// What log pages are written from. A further log page is a field more.
-#[derive(Drop)]
-pub struct Pages<'a> {
-    pub discovery: &'a DiscoveryView,
-}
 
 /// The pages, the configuration and the controllers.
 #[derive(Drop)]
@@ -38,6 +35,34 @@ impl<'a> World<'a> {
         match self.controllers.get(usize::from(cntlid)) {
             Some(controller) => controller.registers,
             None => Regs::new(ControllerKind::Discovery),
+        }
+    }
+
+    /// The controller of this identifier, as its admin commands see it.
+    pub(crate) fn admin_controller(&self, cntlid: u16) -> Option<AdminController<'a>>
+        ensures { option_map controller_in result ≡ admin_controller (world_in self.now) cntlid }
+    {
+        let row = self.rows.get(cntlid)?;
+        let own = self.controllers.get(usize::from(cntlid))?;
+        Some(AdminController {
+            cntlid,
+            host: &row.host,
+            subsystem: &row.subsystem,
+            kato: own.kato,
+        })
+    }
+
+    /// The controller whose admin queue a connection is.
+    pub(crate) fn admin_controller_in(&self, session: &Session) -> Option<AdminController<'a>>
+        ensures { option_map controller_in result
+            ≡ admin_controller_in (world_in self.now) session.now }
+    {
+        match session {
+            Session::Connected {
+                role: Role::Admin { cntlid },
+                ..
+            } => self.admin_controller(*cntlid),
+            _ => None,
         }
     }
 }

@@ -1,0 +1,57 @@
+//! The data of a reply, and where their bytes come from.
+ghost use Rattle.std.specs.Prelude.{◌≡◌, ◌<◌, ◌^◌, length};
+ghost use Rattle.admin_queue.specs.Payload.{payload_len};
+ghost use Rattle.target_decision.specs.Data.{bytes_of, data_of};
+ghost use Rattle.target_decision.specs.World.{world_in};
+
+use crate::decision::Decision;
+use crate::session::{Role, Session};
+use crate::world::World;
+use admin_queue::{AdminController, Payload};
+
+/// What a reply returns of a controller.
+#[derive(Clone, Copy)]
+pub(crate) struct Data<'a> {
+    world: &'a World<'a>,
+    controller: AdminController<'a>,
+    payload: Payload,
+}
+
+impl<'a> Data<'a> {
+    /// What a decision in this session returns: commands on admin queues alone return data.
+    pub(crate) fn of(
+        world: &'a World<'a>,
+        session: &Session,
+        decision: &Decision,
+    ) -> Option<Data<'a>>
+    {
+        let Decision::Reply(reply) = decision else {
+            return None;
+        };
+        let payload = reply.data?;
+        let controller = world.admin_controller_in(session)?;
+        Some(Data {
+            world,
+            controller,
+            payload,
+        })
+    }
+
+    /// In bytes.
+    pub(crate) fn len(&self) -> usize
+        ensures value { result ≡ payload_len self.now.payload }
+        ensures bound { result < 2 ^ 18 }
+    {
+        self.payload.len()
+    }
+
+    /// Writes the bytes into room for as many.
+    pub(crate) fn write(&self, out: &mut [u8])
+        requires { length out.old ≡ payload_len self.now.payload }
+        ensures { out.new ≡ bytes_of self.now }
+    {
+        let world = self.world;
+        self.payload
+            .write(world.pages, world.config, &self.controller, out);
+    }
+}
