@@ -1,0 +1,85 @@
+-- What is told of a controller: the Identify Controller data structure (Base 2.0, section 5.17.2.1).
+use Rattle.std.specs.Prelude.{ℕ, ◌≤◌, List, [], ◌∷◌, ◌++◌, length, codes}
+use Rattle.nvt_fields.specs.Field.{padded}
+use Rattle.nvt_fields.specs.Name.{discovery_nqn}
+use Rattle.identify_data.specs.declared.controller_data.ControllerIdentity.{ControllerIdentity}
+use Rattle.identify_data.specs.declared.controller_data.ControllerIdentity.TheVariants.{Io, Discovery}
+use Rattle.identify_data.specs.Fields.{Field, at, byte, dword, table, word}
+
+-- whether its texts fit their fields
+abbrev pub Fits : ControllerIdentity → Type 0
+Fits (Io cntlid serial subnqn) = (length serial.now ≤ 20) × (length subnqn.now ≤ 256)
+Fits (Discovery cntlid) = Unit {0}
+
+-- CNTLID, SN and SUBNQN
+abbrev pub cntlid_of : ControllerIdentity → ℕ
+cntlid_of (Io cntlid serial subnqn) = cntlid
+cntlid_of (Discovery cntlid) = cntlid
+
+abbrev pub serial_of : ControllerIdentity → List ℕ
+serial_of (Io cntlid serial subnqn) = serial.now
+serial_of (Discovery cntlid) = codes "DISCOVERY"
+
+abbrev pub subnqn_of : ControllerIdentity → List ℕ
+subnqn_of (Io cntlid serial subnqn) = subnqn.now
+subnqn_of (Discovery cntlid) = discovery_nqn
+
+-- the value on an I/O controller, and that on a discovery controller
+abbrev pub by_kind : {A : Type 0} → ControllerIdentity → A → A → A
+by_kind (Io cntlid serial subnqn) io discovery = io
+by_kind (Discovery cntlid) io discovery = discovery
+
+-- Controller Capabilities and Features
+abbrev pub capabilities : ControllerIdentity → List Field
+capabilities c =
+    at 4 (padded 20 0x20 (serial_of c))  -- SN
+    ∷ at 24 (padded 40 0x20 (codes "NVMe TCP Target"))  -- MN
+    ∷ at 64 (padded 8 0x20 (codes "1.0"))  -- FR
+    ∷ at 76 (byte (by_kind c 0x0B 0))  -- CMIC
+    ∷ at 77 (byte 5)  -- MDTS
+    ∷ at 78 (word (cntlid_of c))  -- CNTLID
+    ∷ at 80 (dword 0x0002_0000)  -- VER
+    ∷ at 92 (dword (by_kind c 0x0000_0900 0x8000_0000))  -- OAES
+    ∷ at 96 (dword 1)  -- CTRATT
+    ∷ at 111 (byte (by_kind c 1 2))  -- CNTRLTYPE
+    ∷ []
+
+-- Admin Command Set Attributes and Optional Controller Capabilities
+abbrev pub admin_attributes : ControllerIdentity → List Field
+admin_attributes c =
+    at 259 (byte 3)  -- AERL
+    ∷ at 261 (byte 0x04)  -- LPA
+    ∷ at 320 (word 10)  -- KAS
+    ∷ at 342 (byte (by_kind c 10 0))  -- ANATT
+    ∷ at 343 (byte (by_kind c 0x1F 0))  -- ANACAP
+    ∷ at 344 (dword (by_kind c 32 0))  -- ANAGRPMAX
+    ∷ at 348 (dword (by_kind c 32 0))  -- NANAGRPID
+    ∷ []
+
+-- NVM Command Set Attributes
+abbrev pub nvm_attributes : ControllerIdentity → List Field
+nvm_attributes c =
+    at 512 (byte (by_kind c 0x66 0))  -- SQES
+    ∷ at 513 (byte (by_kind c 0x44 0))  -- CQES
+    ∷ at 514 (word 64)  -- MAXCMD
+    ∷ at 516 (dword (by_kind c 1024 0))  -- NN
+    ∷ at 520 (word (by_kind c 0x0009 0))  -- ONCS
+    ∷ at 525 (byte (by_kind c 0x05 0))  -- VWC
+    ∷ at 536 (dword 0x0030_0001)  -- SGLS
+    ∷ at 540 (dword (by_kind c 1024 0))  -- MNAN
+    ∷ at 768 (padded 256 0 (subnqn_of c))  -- SUBNQN
+    ∷ []
+
+-- Fabrics Specific
+abbrev pub fabrics_attributes : ControllerIdentity → List Field
+fabrics_attributes c =
+    at 1792 (dword (by_kind c 516 0))  -- IOCCSZ
+    ∷ at 1796 (dword (by_kind c 1 0))  -- IORCSZ
+    ∷ at 1803 (byte 1)  -- MSDBD
+    ∷ []
+
+abbrev pub controller_fields : ControllerIdentity → List Field
+controller_fields c = capabilities c ++ (admin_attributes c ++ (nvm_attributes c ++ fabrics_attributes c))
+
+abbrev pub controller_data : ControllerIdentity → List ℕ
+controller_data c = table (controller_fields c)

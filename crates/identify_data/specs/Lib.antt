@@ -1,0 +1,5 @@
+pub mod Controller
+pub mod Descriptors
+pub mod Fields
+pub mod Laws
+pub mod Namespace

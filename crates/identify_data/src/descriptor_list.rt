@@ -1,0 +1,23 @@
+//! The Namespace Identification Descriptor list (Base 2.0, section 5.17.2.3).
+ghost use Rattle.std.specs.Prelude.{◌≡◌, length};
+ghost use Rattle.identify_data.specs.Descriptors.{descriptor_list};
+
+use crate::fields::put;
+use config_lists::Namespace;
+
+// NIDT and NIDL of a UUID.
+const UUID_TYPE: u8 = 0x03;
+
+const UUID_LEN: u8 = 0x10;
+
+/// Writes the list of the descriptors of a namespace, of 4,096 bytes, whatever stood there: one, its
+/// UUID.
+pub fn descriptors(namespace: &Namespace, out: &mut [u8])
+    requires { length out.old ≡ 4096 }
+    ensures { out.new ≡ descriptor_list namespace.now }
+{
+    out.fill(0);
+    put(out, 0, &[UUID_TYPE]); // NIDT
+    put(out, 1, &[UUID_LEN]); // NIDL
+    put(out, 4, namespace.uuid.as_bytes()); // NID
+}

@@ -1,0 +1,44 @@
+//! The Identify Namespace data structure (NVM Command Set 1.0, section 4.1.5.1).
+ghost use Rattle.std.specs.Prelude.{◌≡◌, length};
+ghost use Rattle.std.specs.Option.{option_copied};
+ghost use Rattle.identify_data.specs.Namespace.{lbads_of, namespace_data, namespace_fields};
+ghost use Rattle.identify_data.specs.Fields.{with_fields};
+
+use crate::fields::put;
+use config_lists::{BlockSize, Namespace};
+
+/// Writes the Identify Namespace data structure, of 4,096 bytes, whatever stood there. `None` is an
+/// identifier that is not active: zeros.
+pub fn namespace(namespace: Option<&Namespace>, out: &mut [u8])
+    requires { length out.old ≡ 4096 }
+    ensures { out.new ≡ namespace_data (option_copied namespace.entry) }
+{
+    out.fill(0);
+    if let Some(namespace) = namespace {
+        put_fields(namespace, out);
+    }
+}
+
+fn put_fields(namespace: &Namespace, out: &mut [u8])
+    requires { length out.old ≡ 4096 }
+    ensures { out.new ≡ with_fields (namespace_fields namespace.now) out.old }
+{
+    let blocks = namespace.blocks.to_le_bytes();
+    put(out, 0, &blocks); // NSZE
+    put(out, 8, &blocks); // NCAP
+    put(out, 16, &blocks); // NUSE
+    put(out, 26, &[0]); // FLBAS
+    put(out, 30, &[1]); // NMIC
+    put(out, 92, &namespace.group.to_le_bytes()); // ANAGRPID
+    put(out, 128, &[0, 0, lbads(namespace.block_size), 0]); // LBAF0
+}
+
+// LBADS: a block has 2 to this power of bytes.
+fn lbads(block_size: BlockSize) -> u8
+    ensures { result ≡ lbads_of block_size }
+{
+    match block_size {
+        BlockSize::Bytes512 => 9,
+        BlockSize::Bytes4096 => 12,
+    }
+}
