@@ -2,8 +2,7 @@
 use Rattle.std.specs.Prelude.{◌≡◌, ℕ, ◌+◌, ◌<◌, ◌≤◌, ◌⊎◌, List, length, replicate, slice_index, slice_range, Some, None}
 use Rattle.std.specs.List.{AllByRecursion}
 use Rattle.config_lists.specs.declared.namespace.Namespace.{Namespace}
-use Rattle.identify_data.specs.declared.controller_data.ControllerIdentity.{ControllerIdentity}
-use Rattle.identify_data.specs.Controller.{Fits, controller_data, controller_fields}
+use Rattle.identify_data.specs.Controller.{Fits, Identity, controller_data, controller_fields}
 use Rattle.identify_data.specs.Descriptors.{descriptor_fields, descriptor_list}
 use Rattle.identify_data.specs.Fields.{Field}
 use Rattle.identify_data.specs.Namespace.{namespace_data, namespace_fields}
@@ -24,7 +23,7 @@ pub record Shows (fields : List Field) (structure : List ℕ) : Type 0 where
 
 -- each data structure shows its fields, and nothing else
 pub record FieldsAreFound : Type 0 where
-  pub controllers : (c : ControllerIdentity) → Fits c → Shows (controller_fields c) (controller_data c)
+  pub controllers : (c : Identity) → Fits c → Shows (controller_fields c) (controller_data c)
   pub namespaces : (n : Namespace) → Shows (namespace_fields n) (namespace_data (Some n))
   pub no_namespace : namespace_data None ≡ replicate 4096 0
   pub descriptors : (n : Namespace) → length n.uuid ≡ 16 → Shows (descriptor_fields n) (descriptor_list n)
