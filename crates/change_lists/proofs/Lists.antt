@@ -1,0 +1,102 @@
+-- The identifiers of a list rise, and are those of the subsystem's namespaces.
+use Rattle.std.proofs.Common.{◌≡◌, ◌==◌, ◌&&◌, ℕ, zero, suc, ◌+◌, ◌<◌, ◌≤◌, Bool, true, not, List, All, AllPairs, nat_lt, nat_eq, filter, refl, ap, sym, ◌∙◌, arith}
+use Rattle.std.proofs.lemmas.Bool.{and_from, and_parts, lt-ltb, ltb-true}
+use Rattle.std.proofs.lemmas.Bool.Decides.{nat_tests}
+use Rattle.std.proofs.lemmas.List.Elements.{All-cons, All-contains, All-nil, All-weaker}
+use Rattle.std.proofs.lemmas.List.Folds.{Any-from_list_any, list_any-from_Any}
+use Rattle.std.proofs.lemmas.List.Kept.{AllPairs-cons, AllPairs-filter}
+use Rattle.std.proofs.lemmas.Map.Views.{Contains-from_any, any-filter_same, list_any-from_Contains}
+use Rattle.std.specs.Cmp.{nat_eq_equiv}
+use Rattle.std.specs.List.{list_any}
+use Rattle.std.specs.Str.{bytes_eq}
+use Rattle.config_lists.specs.declared.namespace.Namespace.{Namespace}
+use Rattle.config_lists.specs.Namespace.{is_named}
+use Rattle.config_lists.proofs.Names.{bytes_eq-same, same_name}
+use Rattle.config_rules.specs.Configuration.{Configuration}
+use Rattle.config_rules.specs.Valid.{IsNamespace, IsValid}
+use Rattle.config_words.specs.declared.numbers.Numbered.TheVariants.{Namespaces}
+use Rattle.config_words.specs.Numbered.{active_nsids, is_there, numbers_from}
+use Rattle.change_lists.specs.ActiveList.{IsActive, IsActiveList, NsidsAreListed, nsids_above}
+use Rattle.change_lists.specs.ActiveView.{Shown, ShowsActive, nsids_in}
+
+pub shows_active : (c : Configuration) (v : Shown) → v ≡ record { now = c } → ShowsActive c v
+unfolding nsids_in
+shows_active c v is = rw is (record { nsids = λ subsystem. refl })
+
+-- numbers in a row rise, and are those between two
+All-above : (low first n : ℕ) → low < first → All (λ m. low < m) (numbers_from first n)
+All-above low first zero below = All-nil (λ m. low < m)
+All-above low first (suc n) below =
+    All-cons (λ m. low < m) first (numbers_from (suc first) n) below (All-above low (suc first) n (omega arith))
+
+numbers_rise : (first n : ℕ) → AllPairs ◌<◌ (numbers_from first n)
+numbers_rise first zero = λ i j d less below. absurd (omega arith)
+numbers_rise first (suc n) =
+    AllPairs-cons ◌<◌ first (numbers_from (suc first) n) (All-above first (suc first) n (omega arith)) (numbers_rise (suc first) n)
+
+numbers_between : (first n k : ℕ) → list_any (nat_eq k) (numbers_from first n) ≡ (nat_lt k (first + n) && not (nat_lt k first))
+numbers_between first zero k = grind (arith, nat_tests)
+numbers_between first (suc n) k = rw (numbers_between (suc first) n k) (grind (arith, nat_tests))
+
+-- a number is kept where it passes
+kept_where : (test : ℕ → Bool) (xs : List ℕ) (k : ℕ) → list_any (nat_eq k) (filter test xs) ≡ (test k && list_any (nat_eq k) xs)
+kept_where test xs k =
+    any-filter_same (nat_eq k) test (test k) (λ j same. ap test (grind (arith, nat_tests, same))) xs
+
+-- a subsystem has a namespace of an identifier
+active_there : (c : Configuration) (subsystem : List ℕ) (k : ℕ) → IsActive c subsystem k → is_there Namespaces c.namespaces subsystem k ≡ true
+active_there c subsystem k (n, (at, below, is), named, numbered) =
+    list_any-from_Any (is_named subsystem k) c.namespaces
+    (at, n, below, is, and_from (bytes_eq n.subsystem subsystem) (n.nsid == k) (bytes_eq-same n.subsystem subsystem named) (grind (arith, nat_tests, numbered)))
+
+there_active : (c : Configuration) (subsystem : List ℕ) (k : ℕ) → is_there Namespaces c.namespaces subsystem k ≡ true → IsActive c subsystem k
+there_active c subsystem k there =
+    let (at, n, below, is, named) = Any-from_list_any (is_named subsystem k) c.namespaces there in
+    let parts = and_parts (bytes_eq n.subsystem subsystem) (n.nsid == k) named in
+    (n, (at, below, is), same_name n.subsystem subsystem parts.0, grind (arith, nat_tests, parts.1))
+
+-- each namespace has one of so many identifiers
+abbrev AreWithin : ℕ → ℕ → List Namespace → Type 0
+AreWithin first n namespaces = All (λ m. (first ≤ m.nsid) × (m.nsid < first + n)) namespaces
+
+-- what a list has is listed, and the other way round
+abbrev Has : Configuration → List ℕ → ℕ → ℕ → ℕ → ℕ → Type 0
+Has c subsystem above first n k =
+    (nat_lt above k && (is_there Namespaces c.namespaces subsystem k && (nat_lt k (first + n) && not (nat_lt k first)))) ≡ true
+
+is_listed : (c : Configuration) (subsystem : List ℕ) (above first n k : ℕ) → Has c subsystem above first n k → (above < k) × IsActive c subsystem k
+is_listed c subsystem above first n k has =
+    let parts = and_parts (nat_lt above k) _ has in
+    let there = and_parts (is_there Namespaces c.namespaces subsystem k) _ parts.1 in
+    (ltb-true above k parts.0, there_active c subsystem k there.0)
+
+has_listed : (c : Configuration) (subsystem : List ℕ) (above first n k : ℕ) → AreWithin first n c.namespaces → (above < k) × IsActive c subsystem k → Has c subsystem above first n k
+has_listed c subsystem above first n k within (over, (m, found, named, numbered)) =
+    let between = All-contains (λ m. (first ≤ m.nsid) × (m.nsid < first + n)) c.namespaces m within found in
+    let there = active_there c subsystem k (m, found, named, numbered) in
+    let range : (nat_lt k (first + n) && not (nat_lt k first)) ≡ true = grind (arith, nat_tests, between.0, between.1, numbered) in
+    and_from (nat_lt above k) _ (lt-ltb above k over) (and_from (is_there Namespaces c.namespaces subsystem k) _ there range)
+
+listed_from : (c : Configuration) (subsystem : List ℕ) (above first n : ℕ) → AreWithin first n c.namespaces → IsActiveList c subsystem above (nsids_above above (filter (is_there Namespaces c.namespaces subsystem) (numbers_from first n)))
+listed_from c subsystem above first n within =
+    let there : ℕ → Bool = is_there Namespaces c.namespaces subsystem in
+    let numbers : List ℕ = numbers_from first n in
+    let all : List ℕ = filter there numbers in
+    let over : ℕ → Bool = λ k. nat_lt above k in
+    record {
+      rising = AllPairs-filter ◌<◌ over all (AllPairs-filter ◌<◌ there numbers (numbers_rise first n));
+      listed = λ k.
+          let counted = kept_where over all k ∙ ap (λ b. over k && b) (kept_where there numbers k ∙ ap (λ b. there k && b) (numbers_between first n k)) in (
+            λ found. is_listed c subsystem above first n k (sym counted ∙ list_any-from_Contains nat_eq_equiv k (filter over all) found),
+            λ listed. Contains-from_any {eq = nat_eq} (λ i j same. grind (arith, nat_tests, same)) k (filter over all) (counted ∙ has_listed c subsystem above first n k within listed),
+          );
+    }
+
+nsids_within : (c : Configuration) → IsValid c → AreWithin 1 1024 c.namespaces
+nsids_within c valid =
+    All-weaker (IsNamespace c.units c.subsystems) (λ m. (1 ≤ m.nsid) × (m.nsid < 1025))
+    (λ m sound. (grind (arith, nat_tests, sound.nsid), grind (arith, nat_tests, sound.nsid))) c.namespaces valid.namespaces.sound
+
+pub nsids_listed : NsidsAreListed
+unfolding active_nsids
+nsids_listed c subsystem above valid = listed_from c subsystem above 1 1024 (nsids_within c valid)

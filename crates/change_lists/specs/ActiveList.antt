@@ -1,0 +1,30 @@
+-- The Active Namespace ID list (Base 2.0, section 5.17.2.3).
+use Rattle.std.specs.Prelude.{◌≡◌, ◌<◌, ◌↔◌, ℕ, List, AllPairs, Contains, filter, nat_lt}
+use Rattle.std.specs.Int.{w32, to_le_bytes}
+use Rattle.std.specs.List.{flat_map}
+use Rattle.config_lists.specs.declared.namespace.Namespace.{Namespace}
+use Rattle.config_rules.specs.Configuration.{Configuration}
+use Rattle.config_rules.specs.Valid.{IsValid}
+use Rattle.config_words.specs.Numbered.{active_nsids}
+
+-- those of these identifiers that are above one
+abbrev pub nsids_above : ℕ → List ℕ → List ℕ
+nsids_above above nsids = filter (λ nsid. nat_lt above nsid) nsids
+
+-- the bytes of a list, 4 for each identifier
+abbrev pub list_page : List ℕ → List ℕ
+list_page nsids = flat_map (to_le_bytes w32) nsids
+
+-- the configuration has a namespace of that subsystem and that identifier
+abbrev pub IsActive : Configuration → List ℕ → ℕ → Type 0
+IsActive c subsystem nsid = (n : Namespace) × Contains c.namespaces n × (n.subsystem ≡ subsystem) × (n.nsid ≡ nsid)
+
+-- each identifier is below the ones after it, and so none is there twice; there are those of the
+-- subsystem's namespaces that are above that one, and no others
+pub record IsActiveList (c : Configuration) (subsystem : List ℕ) (above : ℕ) (nsids : List ℕ) : Type 0 where
+  pub rising : AllPairs ◌<◌ nsids
+  pub listed : (nsid : ℕ) → Contains nsids nsid ↔ ((above < nsid) × IsActive c subsystem nsid)
+
+abbrev pub NsidsAreListed : Type 0
+NsidsAreListed =
+    (c : Configuration) (subsystem : List ℕ) (above : ℕ) → IsValid c → IsActiveList c subsystem above (nsids_above above (active_nsids c.namespaces subsystem))

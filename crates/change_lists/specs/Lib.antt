@@ -1,0 +1,2 @@
+pub mod ActiveList
+pub mod ActiveView
