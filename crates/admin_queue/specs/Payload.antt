@@ -44,9 +44,10 @@ abbrev pub namespace_in : Option (List ℕ) → Configuration → ℕ → Option
 namespace_in None config nsid = None
 namespace_in (Some nqn) config nsid = find (is_named nqn nsid) config.namespaces
 
+-- the identifiers of its subsystem's active namespaces above this one
 abbrev pub active_in : Option (List ℕ) → Pages → ℕ → List ℕ
-active_in None pages above = []
-active_in (Some nqn) pages above = pages.active nqn above
+active_in None pages above = replicate 4096 0
+active_in (Some nqn) pages above = window (pages.active nqn above) 0 4096
 
 abbrev pub descriptors_at : Option Namespace → List ℕ
 descriptors_at None = replicate 4096 0
@@ -55,7 +56,7 @@ descriptors_at (Some n) = descriptor_list n
 abbrev pub structure_bytes : Structure → Pages → Configuration → AdminController → List ℕ
 structure_bytes structure.Controller pages config c = controller_data (identity_of config c)
 structure_bytes (structure.Namespace nsid) pages config c = namespace_data (namespace_in c.subsystem config nsid)
-structure_bytes (structure.ActiveList above) pages config c = window (active_in c.subsystem pages above) 0 4096
+structure_bytes (structure.ActiveList above) pages config c = active_in c.subsystem pages above
 structure_bytes (structure.Descriptors nsid) pages config c = descriptors_at (namespace_in c.subsystem config nsid)
 
 -- ---- the data

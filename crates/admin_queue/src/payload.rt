@@ -1,6 +1,6 @@
 //! The data that a command returns, by where its bytes come from. They are written straight into the
 //! room that a reply has for them.
-ghost use Rattle.std.specs.Prelude.{◌≡◌, ◌≤◌, ◌<◌, ◌^◌, length};
+ghost use Rattle.std.specs.Prelude.{◌≡◌, ◌≤◌, ◌<◌, ◌^◌, length, replicate};
 ghost use Rattle.std.specs.Option.{option_copied};
 ghost use Rattle.admin_queue.specs.Controller.{controller_in};
 ghost use Rattle.admin_queue.specs.Pages.{log_page_bytes, pages_in};
@@ -13,6 +13,7 @@ use crate::pages::Pages;
 use config_lists::Namespace;
 use identify_data::{ControllerIdentity, DATA_LEN};
 use nvt_config::Config;
+use nvt_fields::Nqn;
 
 /// The data of a reply.
 #[derive(Clone, Copy)]
@@ -118,7 +119,7 @@ impl Structure {
             Structure::ActiveList(above) => write_active(pages, controller, above, out),
             Structure::Descriptors(nsid) => match namespace_of(config, controller, nsid) {
                 Some(namespace) => identify_data::descriptors(namespace, out),
-                None => out.fill(0),
+                None => write_zeros(out),
             },
         }
     }
@@ -133,11 +134,19 @@ fn write_controller(config: &Config, controller: &AdminController<'_>, out: &mut
         Some(nqn) => ControllerIdentity::Io {
             cntlid,
             serial: serial_of(config, nqn.as_bytes()),
-            subnqn: nqn.as_bytes(),
+            subnqn: name_of(nqn),
         },
         None => ControllerIdentity::Discovery { cntlid },
     };
     identify_data::controller(&identity, out);
+}
+
+// A name's bytes, of which there are at most 223.
+fn name_of(nqn: &Nqn) -> &[u8]
+    ensures value { result.now ≡ nqn.now }
+    ensures bound { length result.now ≤ 256 }
+{
+    &nqn.as_bytes()[..nqn.len()]
 }
 
 // The serial number of a subsystem; no byte where it is not there.
@@ -157,7 +166,7 @@ fn namespace_of<'a>(
     controller: &AdminController<'_>,
     nsid: u32,
 ) -> Option<&'a Namespace>
-    ensures { option_copied result.entry
+    ensures { option_copied result
         ≡ namespace_in (controller_in controller.now).subsystem config.now nsid }
 {
     match controller.subsystem {
@@ -168,11 +177,18 @@ fn namespace_of<'a>(
 
 fn write_active(pages: &Pages<'_>, controller: &AdminController<'_>, above: u32, out: &mut [u8])
     requires { length out.old ≡ 4096 }
-    ensures { let list = active_in (controller_in controller.now).subsystem (pages_in pages.now) above in
-        out.new ≡ window list 0 4096 }
+    ensures { out.new
+        ≡ active_in (controller_in controller.now).subsystem (pages_in pages.now) above }
 {
     match controller.subsystem {
         Some(nqn) => pages.active.window(nqn.as_bytes(), above, out),
-        None => out.fill(0),
+        None => write_zeros(out),
     }
+}
+
+fn write_zeros(out: &mut [u8])
+    requires { length out.old ≡ 4096 }
+    ensures { out.new ≡ replicate 4096 0 }
+{
+    out.fill(0);
 }

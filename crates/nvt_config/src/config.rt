@@ -181,8 +181,9 @@ impl Config {
 
     /// The subsystem of that name, if there is one.
     pub fn subsystem(&self, nqn: &[u8]) -> Option<&Subsystem>
-        ensures { option_copied result
+        ensures found { option_copied result
             ≡ find (λ subsystem. bytes_eq subsystem.nqn nqn.now) self.now.subsystems }
+        ensures valid { IsValid self.now }
     {
         self.subsystems
             .iter()
