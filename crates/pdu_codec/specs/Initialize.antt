@@ -23,6 +23,15 @@ ic_req_of bytes = record {
   maxr2t = field_at 4 12 bytes;
 }
 
+-- what an ICResp of these bytes answers
+abbrev pub ic_resp_of : List ℕ → IcResp
+ic_resp_of bytes = record {
+  pfv = field_at 2 8 bytes;
+  cpda = slice_index bytes 10;
+  dgst = slice_index bytes 11;
+  maxh2cdata = field_at 4 12 bytes;
+}
+
 -- what an ICResp says after its common header, before 112 reserved bytes
 abbrev pub ic_resp_fields : IcResp → List ℕ
 ic_resp_fields r = to_le_bytes w16 r.pfv ++ (r.cpda ∷ r.dgst ∷ []) ++ to_le_bytes w32 r.maxh2cdata

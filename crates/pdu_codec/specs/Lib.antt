@@ -2,8 +2,11 @@ pub mod C2hData
 pub mod CapsuleResp
 pub mod CommonHeader
 pub mod ConnectData
+pub mod Cqe
+pub mod DataHead
 pub mod Initialize
 pub mod Output
+pub mod R2t
 pub mod Sgl
 pub mod Sqe
 pub mod TermReq

@@ -55,8 +55,21 @@ pub struct IcResp {
 }
 
 impl IcResp {
-    ghost use Rattle.pdu_codec.specs.Initialize.{ic_resp, ic_resp_fields};
+    ghost use Rattle.pdu_codec.specs.Initialize.{ic_resp, ic_resp_fields, ic_resp_of};
     ghost use Rattle.pdu_codec.specs.Output.{AppendsOrFull};
+
+    /// The response in a header of 128 bytes.
+    pub fn read(header: &[u8]) -> IcResp
+        requires { 16 ≤ length header.now }
+        ensures { result ≡ ic_resp_of header.now }
+    {
+        IcResp {
+            pfv: u16_at(header, 8),
+            cpda: header[10],
+            dgst: header[11],
+            maxh2cdata: u32_at(header, 12),
+        }
+    }
 
     /// Appends the PDU, of 128 bytes.
     pub fn write(&self, out: &mut BytesMut) -> Result<(), Full>

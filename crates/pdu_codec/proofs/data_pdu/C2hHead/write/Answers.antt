@@ -1,4 +1,4 @@
-use Rattle.std.proofs.Common.{◌≡◌, ◌+◌, ◌-◌, ℕ, List, [], ◌∷◌, ◌++◌, length, take, replicate, sym, ap, ◌∙◌, refl, Result, Ok, Err, OnOk, arith, length-append, append_assoc, rules}
+use Rattle.std.proofs.Common.{◌≡◌, ◌+◌, ◌-◌, ℕ, List, ◌++◌, length, take, replicate, sym, ap, ◌∙◌, refl, Result, Ok, Err, OnOk, length-append, append_assoc, rules}
 use Rattle.std.proofs.lemmas.List.{length-replicate}
 use Rattle.std.proofs.Math.Seq.{take-append_seam}
 use Rattle.bytes.specs.Filled.{Filled}

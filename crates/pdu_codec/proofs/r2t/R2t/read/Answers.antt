@@ -1,0 +1,5 @@
+use Rattle.std.proofs.Common.{refl}
+use Rattle.pdu_codec.proofs.r2t.R2t.read.Goals as goal
+
+pub returns : goal.returns
+returns c = rw (c.u16_at.ensures, c.u16_at-2.ensures, c.u32_at.ensures, c.u32_at-2.ensures) refl
