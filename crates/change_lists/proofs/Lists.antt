@@ -18,6 +18,7 @@ use Rattle.config_words.specs.declared.numbers.Numbered.TheVariants.{Namespaces}
 use Rattle.config_words.specs.Numbered.{active_nsids, is_there, numbers_from}
 use Rattle.change_lists.specs.ActiveList.{IsActive, IsActiveList, NsidsAreListed, nsids_above}
 use Rattle.change_lists.specs.ActiveView.{Shown, ShowsActive, nsids_in}
+use Rattle.change_lists.proofs.Pages.{few_from, length-kept, length-page}
 
 pub shows_active : (c : Configuration) (v : Shown) → v ≡ record { now = c } → ShowsActive c v
 unfolding nsids_in
@@ -77,8 +78,8 @@ has_listed c subsystem above first n k within (over, (m, found, named, numbered)
     let range : (nat_lt k (first + n) && not (nat_lt k first)) ≡ true = grind (arith, nat_tests, between.0, between.1, numbered) in
     and_from (nat_lt above k) _ (lt-ltb above k over) (and_from (is_there Namespaces c.namespaces subsystem k) _ there range)
 
-listed_from : (c : Configuration) (subsystem : List ℕ) (above first n : ℕ) → AreWithin first n c.namespaces → IsActiveList c subsystem above (nsids_above above (filter (is_there Namespaces c.namespaces subsystem) (numbers_from first n)))
-listed_from c subsystem above first n within =
+listed_from : (c : Configuration) (subsystem : List ℕ) (above first n : ℕ) → n ≤ 1024 → AreWithin first n c.namespaces → IsActiveList c subsystem above (nsids_above above (filter (is_there Namespaces c.namespaces subsystem) (numbers_from first n)))
+listed_from c subsystem above first n few within =
     let there : ℕ → Bool = is_there Namespaces c.namespaces subsystem in
     let numbers : List ℕ = numbers_from first n in
     let all : List ℕ = filter there numbers in
@@ -90,6 +91,7 @@ listed_from c subsystem above first n within =
             λ found. is_listed c subsystem above first n k (sym counted ∙ list_any-from_Contains nat_eq_equiv k (filter over all) found),
             λ listed. Contains-from_any {eq = nat_eq} (λ i j same. grind (arith, nat_tests, same)) k (filter over all) (counted ∙ has_listed c subsystem above first n k within listed),
           );
+      fits = omega (arith, length-page (filter over all), length-kept over all, few_from c.namespaces subsystem first n, few);
     }
 
 nsids_within : (c : Configuration) → IsValid c → AreWithin 1 1024 c.namespaces
@@ -99,4 +101,4 @@ nsids_within c valid =
 
 pub nsids_listed : NsidsAreListed
 unfolding active_nsids
-nsids_listed c subsystem above valid = listed_from c subsystem above 1 1024 (nsids_within c valid)
+nsids_listed c subsystem above valid = listed_from c subsystem above 1 1024 (omega arith) (nsids_within c valid)

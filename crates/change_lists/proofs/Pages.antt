@@ -25,7 +25,7 @@ length-numbers : (first n : ℕ) → length (numbers_from first n) ≡ n
 length-numbers first zero = refl
 length-numbers first (suc n) = ap suc (length-numbers (suc first) n)
 
-few_from : (namespaces : List Namespace) (subsystem : List ℕ) (first n : ℕ) → length (filter (is_there Namespaces namespaces subsystem) (numbers_from first n)) ≤ n
+pub few_from : (namespaces : List Namespace) (subsystem : List ℕ) (first n : ℕ) → length (filter (is_there Namespaces namespaces subsystem) (numbers_from first n)) ≤ n
 few_from namespaces subsystem first n =
     omega (arith, length-kept (is_there Namespaces namespaces subsystem) (numbers_from first n), length-numbers first n)
 

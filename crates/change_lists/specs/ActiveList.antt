@@ -1,5 +1,5 @@
 -- The Active Namespace ID list (Base 2.0, section 5.17.2.3).
-use Rattle.std.specs.Prelude.{◌≡◌, ◌<◌, ◌↔◌, ℕ, List, AllPairs, Contains, filter, nat_lt}
+use Rattle.std.specs.Prelude.{◌≡◌, ◌<◌, ◌≤◌, ◌↔◌, ℕ, List, AllPairs, Contains, filter, length, nat_lt}
 use Rattle.std.specs.Int.{w32, to_le_bytes}
 use Rattle.std.specs.List.{flat_map}
 use Rattle.config_lists.specs.declared.namespace.Namespace.{Namespace}
@@ -20,10 +20,11 @@ abbrev pub IsActive : Configuration → List ℕ → ℕ → Type 0
 IsActive c subsystem nsid = (n : Namespace) × Contains c.namespaces n × (n.subsystem ≡ subsystem) × (n.nsid ≡ nsid)
 
 -- each identifier is below the ones after it, and so none is there twice; there are those of the
--- subsystem's namespaces that are above that one, and no others
+-- subsystem's namespaces that are above that one, and no others; the 4,096 bytes of an Identify hold them
 pub record IsActiveList (c : Configuration) (subsystem : List ℕ) (above : ℕ) (nsids : List ℕ) : Type 0 where
   pub rising : AllPairs ◌<◌ nsids
   pub listed : (nsid : ℕ) → Contains nsids nsid ↔ ((above < nsid) × IsActive c subsystem nsid)
+  pub fits : length (list_page nsids) ≤ 4096
 
 abbrev pub NsidsAreListed : Type 0
 NsidsAreListed =
