@@ -7,9 +7,9 @@ use Rattle.identify_data.specs.declared.controller_data.ControllerIdentity.TheVa
 use Rattle.identify_data.specs.Fields.{Field, at, byte, dword, table, word}
 
 -- whether its texts fit their fields
-abbrev pub Fits : ControllerIdentity → Type 0
-Fits (Io cntlid serial subnqn) = (length serial.now ≤ 20) × (length subnqn.now ≤ 256)
-Fits (Discovery cntlid) = Unit {0}
+abbrev pub TextsFit : ControllerIdentity → Type 0
+TextsFit (Io cntlid serial subnqn) = (length serial.now ≤ 20) × (length subnqn.now ≤ 256)
+TextsFit (Discovery cntlid) = Unit {0}
 
 -- CNTLID, SN and SUBNQN
 abbrev pub cntlid_of : ControllerIdentity → ℕ

@@ -1,6 +1,6 @@
 //! The Identify Controller data structure (Base 2.0, section 5.17.2.1).
 ghost use Rattle.std.specs.Prelude.{◌≡◌, ◌≤◌, length};
-ghost use Rattle.identify_data.specs.Controller.{Fits, by_kind, cntlid_of, controller_data};
+ghost use Rattle.identify_data.specs.Controller.{TextsFit, by_kind, cntlid_of, controller_data};
 ghost use Rattle.identify_data.specs.Controller.{serial_of, subnqn_of};
 ghost use Rattle.identify_data.specs.Controller.{admin_attributes, capabilities};
 ghost use Rattle.identify_data.specs.Controller.{fabrics_attributes, nvm_attributes};
@@ -44,7 +44,7 @@ impl<'a> ControllerIdentity<'a> {
     }
 
     fn serial(&self) -> &'a [u8]
-        requires { Fits self.now }
+        requires { TextsFit self.now }
         ensures value { result.now ≡ serial_of self.now }
         ensures bound { length result.now ≤ 20 }
     {
@@ -55,7 +55,7 @@ impl<'a> ControllerIdentity<'a> {
     }
 
     fn subnqn(&self) -> &'a [u8]
-        requires { Fits self.now }
+        requires { TextsFit self.now }
         ensures value { result.now ≡ subnqn_of self.now }
         ensures bound { length result.now ≤ 256 }
     {
@@ -78,7 +78,7 @@ impl<'a> ControllerIdentity<'a> {
 
 /// Writes the Identify Controller data structure, of 4,096 bytes, whatever stood there.
 pub fn controller(identity: &ControllerIdentity<'_>, out: &mut [u8])
-    requires texts { Fits identity.now }
+    requires texts { TextsFit identity.now }
     requires len { length out.old ≡ 4096 }
     ensures { out.new ≡ controller_data identity.now }
 {
@@ -91,7 +91,7 @@ pub fn controller(identity: &ControllerIdentity<'_>, out: &mut [u8])
 
 // Controller Capabilities and Features.
 fn put_capabilities(identity: &ControllerIdentity<'_>, out: &mut [u8])
-    requires texts { Fits identity.now }
+    requires texts { TextsFit identity.now }
     requires len { length out.old ≡ 4096 }
     ensures { out.new ≡ with_fields (capabilities identity.now) out.old }
 {
@@ -127,7 +127,7 @@ fn put_admin_attributes(identity: &ControllerIdentity<'_>, out: &mut [u8])
 
 // NVM Command Set Attributes.
 fn put_nvm_attributes(identity: &ControllerIdentity<'_>, out: &mut [u8])
-    requires texts { Fits identity.now }
+    requires texts { TextsFit identity.now }
     requires len { length out.old ≡ 4096 }
     ensures { out.new ≡ with_fields (nvm_attributes identity.now) out.old }
 {
