@@ -18,9 +18,9 @@ identity_in (Io cntlid serial subnqn) = io cntlid serial.now subnqn.now
 identity_in (Discovery cntlid) = discovery cntlid
 
 -- whether its texts fit their fields
-abbrev pub Fits : Identity → Type 0
-Fits (io cntlid serial subnqn) = (length serial ≤ 20) × (length subnqn ≤ 256)
-Fits (discovery cntlid) = Unit {0}
+abbrev pub TextsFit : Identity → Type 0
+TextsFit (io cntlid serial subnqn) = (length serial ≤ 20) × (length subnqn ≤ 256)
+TextsFit (discovery cntlid) = Unit {0}
 
 -- CNTLID, SN and SUBNQN
 abbrev pub cntlid_of : Identity → ℕ

@@ -1,12 +1,12 @@
 //! The Identify Controller data structure (Base 2.0, section 5.17.2.1).
 ghost use Rattle.std.specs.Prelude.{◌≡◌, ◌≤◌, length};
-ghost use Rattle.identify_data.specs.Controller.{Fits, by_kind, cntlid_of, controller_data, identity_in};
+ghost use Rattle.identify_data.specs.Controller.{TextsFit, by_kind, cntlid_of, controller_data, identity_in};
 ghost use Rattle.identify_data.specs.Controller.{serial_of, subnqn_of};
 ghost use Rattle.identify_data.specs.Controller.{admin_attributes, capabilities};
 ghost use Rattle.identify_data.specs.Controller.{fabrics_attributes, nvm_attributes};
 ghost use Rattle.identify_data.specs.Fields.{with_fields};
 
-use crate::fields::{put, put_spaced, put_zeroed};
+use crate::fields::{put_byte, put_dword, put_spaced, put_word, put_zeroed};
 use nvt_fields::DISCOVERY_NQN;
 
 const MODEL: &[u8; 15] = b"NVMe TCP Target";
@@ -44,7 +44,7 @@ impl<'a> ControllerIdentity<'a> {
     }
 
     fn serial(&self) -> &'a [u8]
-        requires { Fits (identity_in self.now) }
+        requires { TextsFit (identity_in self.now) }
         ensures value { result.now ≡ serial_of (identity_in self.now) }
         ensures bound { length result.now ≤ 20 }
     {
@@ -55,7 +55,7 @@ impl<'a> ControllerIdentity<'a> {
     }
 
     fn subnqn(&self) -> &'a [u8]
-        requires { Fits (identity_in self.now) }
+        requires { TextsFit (identity_in self.now) }
         ensures value { result.now ≡ subnqn_of (identity_in self.now) }
         ensures bound { length result.now ≤ 256 }
     {
@@ -78,7 +78,7 @@ impl<'a> ControllerIdentity<'a> {
 
 /// Writes the Identify Controller data structure, of 4,096 bytes, whatever stood there.
 pub fn controller(identity: &ControllerIdentity<'_>, out: &mut [u8])
-    requires texts { Fits (identity_in identity.now) }
+    requires texts { TextsFit (identity_in identity.now) }
     requires len { length out.old ≡ 4096 }
     ensures { out.new ≡ controller_data (identity_in identity.now) }
 {
@@ -91,24 +91,20 @@ pub fn controller(identity: &ControllerIdentity<'_>, out: &mut [u8])
 
 // Controller Capabilities and Features.
 fn put_capabilities(identity: &ControllerIdentity<'_>, out: &mut [u8])
-    requires texts { Fits (identity_in identity.now) }
+    requires texts { TextsFit (identity_in identity.now) }
     requires len { length out.old ≡ 4096 }
     ensures { out.new ≡ with_fields (capabilities (identity_in identity.now)) out.old }
 {
     put_spaced(out, 4, 20, identity.serial()); // SN
     put_spaced(out, 24, 40, MODEL); // MN
     put_spaced(out, 64, 8, FIRMWARE); // FR
-    put(out, 76, &[identity.by_kind(0x0B, 0)]); // CMIC
-    put(out, 77, &[5]); // MDTS
-    put(out, 78, &identity.cntlid().to_le_bytes()); // CNTLID
-    put(out, 80, &0x0002_0000u32.to_le_bytes()); // VER
-    put(
-        out,
-        92,
-        &identity.by_kind(0x0000_0900u32, 0x8000_0000).to_le_bytes(),
-    ); // OAES
-    put(out, 96, &1u32.to_le_bytes()); // CTRATT
-    put(out, 111, &[identity.by_kind(1, 2)]); // CNTRLTYPE
+    put_byte(out, 76, identity.by_kind(0x0B, 0)); // CMIC
+    put_byte(out, 77, 5); // MDTS
+    put_word(out, 78, identity.cntlid()); // CNTLID
+    put_dword(out, 80, 0x0002_0000); // VER
+    put_dword(out, 92, identity.by_kind(0x0000_0900, 0x8000_0000)); // OAES
+    put_dword(out, 96, 1); // CTRATT
+    put_byte(out, 111, identity.by_kind(1, 2)); // CNTRLTYPE
 }
 
 // Admin Command Set Attributes and Optional Controller Capabilities.
@@ -116,29 +112,29 @@ fn put_admin_attributes(identity: &ControllerIdentity<'_>, out: &mut [u8])
     requires { length out.old ≡ 4096 }
     ensures { out.new ≡ with_fields (admin_attributes (identity_in identity.now)) out.old }
 {
-    put(out, 259, &[3]); // AERL
-    put(out, 261, &[0x04]); // LPA
-    put(out, 320, &10u16.to_le_bytes()); // KAS
-    put(out, 342, &[identity.by_kind(10, 0)]); // ANATT
-    put(out, 343, &[identity.by_kind(0x1F, 0)]); // ANACAP
-    put(out, 344, &identity.by_kind(32u32, 0).to_le_bytes()); // ANAGRPMAX
-    put(out, 348, &identity.by_kind(32u32, 0).to_le_bytes()); // NANAGRPID
+    put_byte(out, 259, 3); // AERL
+    put_byte(out, 261, 0x04); // LPA
+    put_word(out, 320, 10); // KAS
+    put_byte(out, 342, identity.by_kind(10, 0)); // ANATT
+    put_byte(out, 343, identity.by_kind(0x1F, 0)); // ANACAP
+    put_dword(out, 344, identity.by_kind(32, 0)); // ANAGRPMAX
+    put_dword(out, 348, identity.by_kind(32, 0)); // NANAGRPID
 }
 
 // NVM Command Set Attributes.
 fn put_nvm_attributes(identity: &ControllerIdentity<'_>, out: &mut [u8])
-    requires texts { Fits (identity_in identity.now) }
+    requires texts { TextsFit (identity_in identity.now) }
     requires len { length out.old ≡ 4096 }
     ensures { out.new ≡ with_fields (nvm_attributes (identity_in identity.now)) out.old }
 {
-    put(out, 512, &[identity.by_kind(0x66, 0)]); // SQES
-    put(out, 513, &[identity.by_kind(0x44, 0)]); // CQES
-    put(out, 514, &64u16.to_le_bytes()); // MAXCMD
-    put(out, 516, &identity.by_kind(1024u32, 0).to_le_bytes()); // NN
-    put(out, 520, &identity.by_kind(0x0009u16, 0).to_le_bytes()); // ONCS
-    put(out, 525, &[identity.by_kind(0x05, 0)]); // VWC
-    put(out, 536, &0x0030_0001u32.to_le_bytes()); // SGLS
-    put(out, 540, &identity.by_kind(1024u32, 0).to_le_bytes()); // MNAN
+    put_byte(out, 512, identity.by_kind(0x66, 0)); // SQES
+    put_byte(out, 513, identity.by_kind(0x44, 0)); // CQES
+    put_word(out, 514, 64); // MAXCMD
+    put_dword(out, 516, identity.by_kind(1024, 0)); // NN
+    put_word(out, 520, identity.by_kind(0x0009, 0)); // ONCS
+    put_byte(out, 525, identity.by_kind(0x05, 0)); // VWC
+    put_dword(out, 536, 0x0030_0001); // SGLS
+    put_dword(out, 540, identity.by_kind(1024, 0)); // MNAN
     put_zeroed(out, 768, 256, identity.subnqn()); // SUBNQN
 }
 
@@ -147,7 +143,7 @@ fn put_fabrics_attributes(identity: &ControllerIdentity<'_>, out: &mut [u8])
     requires { length out.old ≡ 4096 }
     ensures { out.new ≡ with_fields (fabrics_attributes (identity_in identity.now)) out.old }
 {
-    put(out, 1792, &identity.by_kind(516u32, 0).to_le_bytes()); // IOCCSZ
-    put(out, 1796, &identity.by_kind(1u32, 0).to_le_bytes()); // IORCSZ
-    put(out, 1803, &[1]); // MSDBD
+    put_dword(out, 1792, identity.by_kind(516, 0)); // IOCCSZ
+    put_dword(out, 1796, identity.by_kind(1, 0)); // IORCSZ
+    put_byte(out, 1803, 1); // MSDBD
 }

@@ -2,7 +2,7 @@
 ghost use Rattle.std.specs.Prelude.{◌≡◌, length};
 ghost use Rattle.identify_data.specs.Descriptors.{descriptor_list};
 
-use crate::fields::put;
+use crate::fields::{put, put_byte};
 use config_lists::Namespace;
 
 // NIDT and NIDL of a UUID.
@@ -17,7 +17,7 @@ pub fn descriptors(namespace: &Namespace, out: &mut [u8])
     ensures { out.new ≡ descriptor_list namespace.now }
 {
     out.fill(0);
-    put(out, 0, &[UUID_TYPE]); // NIDT
-    put(out, 1, &[UUID_LEN]); // NIDL
+    put_byte(out, 0, UUID_TYPE); // NIDT
+    put_byte(out, 1, UUID_LEN); // NIDL
     put(out, 4, namespace.uuid.as_bytes()); // NID
 }

@@ -1,12 +1,9 @@
 //! Fields at their offsets in a data structure.
 ghost use Rattle.std.specs.Prelude.{◌≡◌, ◌+◌, ◌≤◌, length};
 ghost use Rattle.nvt_fields.specs.Field.{padded};
-ghost use Rattle.identify_data.specs.Fields.{with_bytes};
+ghost use Rattle.identify_data.specs.Fields.{byte, dword, qword, with_bytes, word};
 
 use nvt_fields::{write_spaced, write_zeroed};
-
-/// The length of each data structure, in bytes.
-pub const DATA_LEN: usize = 4096;
 
 /// Writes a field's bytes at its offset.
 pub(crate) fn put(structure: &mut [u8], offset: usize, bytes: &[u8])
@@ -14,6 +11,38 @@ pub(crate) fn put(structure: &mut [u8], offset: usize, bytes: &[u8])
     ensures { structure.new ≡ with_bytes offset bytes.now structure.old }
 {
     structure[offset..offset + bytes.len()].copy_from_slice(bytes);
+}
+
+/// Writes a number of 1 byte at its offset.
+pub(crate) fn put_byte(structure: &mut [u8], offset: usize, n: u8)
+    requires { offset + 1 ≤ length structure.old }
+    ensures { structure.new ≡ with_bytes offset (byte n) structure.old }
+{
+    put(structure, offset, &[n]);
+}
+
+/// Writes a number of 2 bytes at its offset, the lowest first.
+pub(crate) fn put_word(structure: &mut [u8], offset: usize, n: u16)
+    requires { offset + 2 ≤ length structure.old }
+    ensures { structure.new ≡ with_bytes offset (word n) structure.old }
+{
+    put(structure, offset, &n.to_le_bytes());
+}
+
+/// Writes a number of 4 bytes at its offset, the lowest first.
+pub(crate) fn put_dword(structure: &mut [u8], offset: usize, n: u32)
+    requires { offset + 4 ≤ length structure.old }
+    ensures { structure.new ≡ with_bytes offset (dword n) structure.old }
+{
+    put(structure, offset, &n.to_le_bytes());
+}
+
+/// Writes a number of 8 bytes at its offset, the lowest first.
+pub(crate) fn put_qword(structure: &mut [u8], offset: usize, n: u64)
+    requires { offset + 8 ≤ length structure.old }
+    ensures { structure.new ≡ with_bytes offset (qword n) structure.old }
+{
+    put(structure, offset, &n.to_le_bytes());
 }
 
 /// Writes a text at the offset of its field, and spaces up to the field's length.

@@ -6,6 +6,7 @@
 pub mod controller_data;
 pub mod descriptor_list;
 mod fields;
+pub mod laws;
 pub mod namespace_data;
 
 pub use controller_data::{ControllerIdentity, controller};

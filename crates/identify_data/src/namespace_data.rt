@@ -4,7 +4,7 @@ ghost use Rattle.std.specs.Option.{option_copied};
 ghost use Rattle.identify_data.specs.Namespace.{lbads_of, namespace_data, namespace_fields};
 ghost use Rattle.identify_data.specs.Fields.{with_fields};
 
-use crate::fields::put;
+use crate::fields::{put_byte, put_dword, put_qword};
 use config_lists::{BlockSize, Namespace};
 
 /// Writes the Identify Namespace data structure, of 4,096 bytes, whatever stood there. `None` is an
@@ -23,18 +23,17 @@ fn put_fields(namespace: &Namespace, out: &mut [u8])
     requires { length out.old ≡ 4096 }
     ensures { out.new ≡ with_fields (namespace_fields namespace.now) out.old }
 {
-    let blocks = namespace.blocks.to_le_bytes();
-    put(out, 0, &blocks); // NSZE
-    put(out, 8, &blocks); // NCAP
-    put(out, 16, &blocks); // NUSE
-    put(out, 26, &[0]); // FLBAS
-    put(out, 30, &[1]); // NMIC
-    put(out, 92, &namespace.group.to_le_bytes()); // ANAGRPID
-    put(out, 128, &[0, 0, lbads(namespace.block_size), 0]); // LBAF0
+    put_qword(out, 0, namespace.blocks); // NSZE
+    put_qword(out, 8, namespace.blocks); // NCAP
+    put_qword(out, 16, namespace.blocks); // NUSE
+    put_byte(out, 26, 0); // FLBAS
+    put_byte(out, 30, 1); // NMIC
+    put_dword(out, 92, namespace.group); // ANAGRPID
+    put_dword(out, 128, lbads(namespace.block_size) << 16); // LBAF0, with LBADS in bits 23:16
 }
 
 // LBADS: a block has 2 to this power of bytes.
-fn lbads(block_size: BlockSize) -> u8
+fn lbads(block_size: BlockSize) -> u32
     ensures { result ≡ lbads_of block_size }
 {
     match block_size {

@@ -1,0 +1,43 @@
+-- The fields of each of the tables lie apart, so that they are found.
+use Rattle.std.proofs.Common.{◌≡◌, ℕ, ◌+◌, ◌≤◌, List, [], length, replicate, refl, arith, rules}
+use Rattle.config_lists.specs.declared.namespace.Namespace.{Namespace}
+use Rattle.nvt_fields.specs.Field.{padded}
+use Rattle.identify_data.specs.Controller.{Identity, TextsFit, controller_fields, serial_of, subnqn_of}
+use Rattle.identify_data.specs.Descriptors.{descriptor_fields}
+use Rattle.identify_data.specs.Fields.{Field, table}
+use Rattle.identify_data.specs.Laws.{FieldsAreFound}
+use Rattle.identify_data.specs.Namespace.{namespace_fields}
+use Rattle.identify_data.proofs.Tables.{AreApart, shown}
+use Rattle.identify_data.proofs.Written.{length-padded}
+
+serial_fits : (c : Identity) → TextsFit c → length (padded 20 0x20 (serial_of c)) ≡ 20
+serial_fits (io cntlid serial subnqn) fits = length-padded 20 0x20 serial.now fits.0
+serial_fits (discovery cntlid) fits = refl
+
+pub subnqn_fits : (c : Identity) → TextsFit c → length (padded 256 0 (subnqn_of c)) ≡ 256
+subnqn_fits (io cntlid serial subnqn) fits = length-padded 256 0 subnqn.now fits.1
+subnqn_fits (discovery cntlid) fits = refl
+
+namespace_apart : (n : Namespace) → AreApart 4096 0 (namespace_fields n)
+namespace_apart n = search rules
+
+descriptors_apart : (n : Namespace) → length n.uuid ≡ 16 → AreApart 4096 0 (descriptor_fields n)
+descriptors_apart n whole = (omega arith, (omega arith, (omega arith, omega arith)))
+
+controller_apart : (c : Identity) → TextsFit c → AreApart 4096 0 (controller_fields c)
+controller_apart c fits =
+    let serial : 4 + length (padded 20 0x20 (serial_of c)) ≤ 24 = omega (arith, serial_fits c fits) in
+    let subnqn : 768 + length (padded 256 0 (subnqn_of c)) ≤ 1792 = omega (arith, subnqn_fits c fits) in
+    search (rules, serial, subnqn)
+
+no_fields : table [] ≡ replicate 4096 0
+unfolding table
+no_fields = refl
+
+pub fields_are_found : FieldsAreFound
+fields_are_found = record {
+  controllers = λ c fits. shown (controller_fields c) (controller_apart c fits);
+  namespaces = λ n. shown (namespace_fields n) (namespace_apart n);
+  no_namespace = no_fields;
+  descriptors = λ n whole. shown (descriptor_fields n) (descriptors_apart n whole);
+}

@@ -1,0 +1,101 @@
+//! Controllers: an I/O controller and a discovery controller.
+use crate::fields::{Field, OLD, shows};
+use identify_data::{ControllerIdentity, controller};
+
+// Of an I/O controller with identifier 2105h.
+const IO: &[Field] = &[
+    // SN, MN, FR
+    (4, b"SER-0017            "),
+    (24, b"NVMe TCP Target                         "),
+    (64, b"1.0     "),
+    // CMIC, MDTS, CNTLID, VER, OAES, CTRATT, CNTRLTYPE
+    (76, b"\x0B"),
+    (77, b"\x05"),
+    (78, b"\x05\x21"),
+    (80, b"\x00\x00\x02\x00"),
+    (92, b"\x00\x09\x00\x00"),
+    (96, b"\x01\x00\x00\x00"),
+    (111, b"\x01"),
+    // AERL, LPA, KAS, ANATT, ANACAP, ANAGRPMAX, NANAGRPID
+    (259, b"\x03"),
+    (261, b"\x04"),
+    (320, b"\x0A\x00"),
+    (342, b"\x0A"),
+    (343, b"\x1F"),
+    (344, b"\x20\x00\x00\x00"),
+    (348, b"\x20\x00\x00\x00"),
+    // SQES, CQES, MAXCMD, NN, ONCS, VWC, SGLS, MNAN, SUBNQN
+    (512, b"\x66"),
+    (513, b"\x44"),
+    (514, b"\x40\x00"),
+    (516, b"\x00\x04\x00\x00"),
+    (520, b"\x09\x00"),
+    (525, b"\x05"),
+    (536, b"\x01\x00\x30\x00"),
+    (540, b"\x00\x04\x00\x00"),
+    (768, b"nqn.2019-10.example:disks"),
+    // IOCCSZ, IORCSZ, MSDBD
+    (1792, b"\x04\x02\x00\x00"),
+    (1796, b"\x01\x00\x00\x00"),
+    (1803, b"\x01"),
+];
+
+// Of a discovery controller with identifier 3.
+const DISCOVERY: &[Field] = &[
+    // SN, MN, FR
+    (4, b"DISCOVERY           "),
+    (24, b"NVMe TCP Target                         "),
+    (64, b"1.0     "),
+    // MDTS, CNTLID, VER, OAES, CTRATT, CNTRLTYPE
+    (77, b"\x05"),
+    (78, b"\x03\x00"),
+    (80, b"\x00\x00\x02\x00"),
+    (92, b"\x00\x00\x00\x80"),
+    (96, b"\x01\x00\x00\x00"),
+    (111, b"\x02"),
+    // AERL, LPA, KAS
+    (259, b"\x03"),
+    (261, b"\x04"),
+    (320, b"\x0A\x00"),
+    // MAXCMD, SGLS, SUBNQN
+    (514, b"\x40\x00"),
+    (536, b"\x01\x00\x30\x00"),
+    (768, b"nqn.2014-08.org.nvmexpress.discovery"),
+    // MSDBD
+    (1803, b"\x01"),
+];
+
+#[test]
+fn an_io_controller(rt: HostRuntime) {
+    let identity = ControllerIdentity::Io {
+        cntlid: 0x2105,
+        serial: b"SER-0017",
+        subnqn: b"nqn.2019-10.example:disks",
+    };
+    let mut out = OLD;
+    controller(&identity, &mut out);
+    assert!(rt; shows(&out, IO));
+}
+
+#[test]
+fn a_discovery_controller(rt: HostRuntime) {
+    let mut out = OLD;
+    controller(&ControllerIdentity::Discovery { cntlid: 3 }, &mut out);
+    assert!(rt; shows(&out, DISCOVERY));
+}
+
+// Texts that fill their fields.
+#[test]
+fn long_texts(rt: HostRuntime) {
+    let name = [b'n'; 256];
+    let identity = ControllerIdentity::Io {
+        cntlid: 1,
+        serial: b"12345678901234567890",
+        subnqn: &name,
+    };
+    let mut out = OLD;
+    controller(&identity, &mut out);
+    assert!(rt; &out[4..24] == b"12345678901234567890".as_slice());
+    assert!(rt; out[24] == b'N');
+    assert!(rt; out[767] == 0 && &out[768..1024] == name.as_slice() && out[1024] == 0);
+}
