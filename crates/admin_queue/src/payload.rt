@@ -11,9 +11,11 @@ ghost use Rattle.nvt_fields.specs.Window.{window};
 use crate::controller::AdminController;
 use crate::pages::Pages;
 use config_lists::Namespace;
-use identify_data::{ControllerIdentity, DATA_LEN};
+use identify_data::ControllerIdentity;
 use nvt_config::Config;
 use nvt_fields::Nqn;
+
+const IDENTIFY_LEN: usize = 4_096;
 
 /// The data of a reply.
 #[derive(Clone, Copy)]
@@ -32,7 +34,7 @@ impl Payload {
     {
         match self {
             Payload::LogPage(part) => 4 * usize::from(part.dwords),
-            Payload::Identify(_) => DATA_LEN,
+            Payload::Identify(_) => IDENTIFY_LEN,
         }
     }
 

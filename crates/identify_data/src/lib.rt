@@ -11,5 +11,4 @@ pub mod namespace_data;
 
 pub use controller_data::{ControllerIdentity, controller};
 pub use descriptor_list::descriptors;
-pub use fields::DATA_LEN;
 pub use namespace_data::namespace;
