@@ -2,7 +2,7 @@
 use Rattle.std.proofs.Common.{◌≡◌, ℕ, ◌+◌, ◌≤◌, List, [], length, replicate, refl, arith, rules}
 use Rattle.config_lists.specs.declared.namespace.Namespace.{Namespace}
 use Rattle.nvt_fields.specs.Field.{padded}
-use Rattle.identify_data.specs.Controller.{Identity, TextsFit, controller_fields, serial_of, subnqn_of}
+use Rattle.identify_data.specs.Controller.{Identity, TextsFit, controller_fields, discovery, io, serial_of, subnqn_of}
 use Rattle.identify_data.specs.Descriptors.{descriptor_fields}
 use Rattle.identify_data.specs.Fields.{Field, table}
 use Rattle.identify_data.specs.Laws.{FieldsAreFound}
