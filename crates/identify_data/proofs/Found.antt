@@ -11,11 +11,11 @@ use Rattle.identify_data.proofs.Tables.{AreApart, shown}
 use Rattle.identify_data.proofs.Written.{length-padded}
 
 serial_fits : (c : Identity) → TextsFit c → length (padded 20 0x20 (serial_of c)) ≡ 20
-serial_fits (io cntlid serial subnqn) fits = length-padded 20 0x20 serial.now fits.0
+serial_fits (io cntlid serial subnqn) fits = length-padded 20 0x20 serial fits.0
 serial_fits (discovery cntlid) fits = refl
 
 pub subnqn_fits : (c : Identity) → TextsFit c → length (padded 256 0 (subnqn_of c)) ≡ 256
-subnqn_fits (io cntlid serial subnqn) fits = length-padded 256 0 subnqn.now fits.1
+subnqn_fits (io cntlid serial subnqn) fits = length-padded 256 0 subnqn fits.1
 subnqn_fits (discovery cntlid) fits = refl
 
 namespace_apart : (n : Namespace) → AreApart 4096 0 (namespace_fields n)
