@@ -1,6 +1,10 @@
 -- A controller is begun under an identifier that is free, by a capsule that names its subsystem and its host well.
 use Rattle.std.proofs.Common.{◌≡◌, ℕ, Bool, true, false, List, Option, Some, None, Result, Ok, Err, refl, sym, ap, ◌∙◌}
 use Rattle.std.specs.Prelude.{if◌then◌else◌, not, ◌==◌, nat_lt, length}
+use Rattle.admin_queue.specs.declared.outcome.Effect.{Effect}
+use Rattle.admin_queue.specs.declared.outcome.Effect.TheVariants as effect
+use Rattle.admin_queue.specs.Controller.{AdminController}
+use Rattle.admin_queue.specs.Outcome.{Outcome as AdminOutcome}
 use Rattle.fabrics_connect.specs.declared.decision.AdmitAs.{AdmitAs}
 use Rattle.fabrics_connect.specs.declared.decision.AdmitAs.TheVariants as admit
 use Rattle.fabrics_connect.specs.declared.decision.Decision as connect_decision
@@ -21,26 +25,24 @@ use Rattle.pdu_codec.specs.Initialize.{hpda_at, ic_req_of, pfv_at}
 use Rattle.pdu_codec.specs.Sqe.{cid_of}
 use Rattle.pdu_cut.specs.Front.{Front, incomplete, whole, faulty}
 use Rattle.pdu_cut.specs.Pdu.{Pdu, data_part, header_part}
-use Rattle.property_regs.specs.declared.regs.Change.{Change as Effect}
+use Rattle.property_regs.specs.declared.regs.Change.{Change as RegsChange}
 use Rattle.property_regs.specs.declared.regs.InvalidField.{InvalidField}
 use Rattle.property_regs.specs.declared.regs.Regs.{Regs}
 use Rattle.target_decision.specs.declared.decision.Change.{Change}
 use Rattle.target_decision.specs.declared.decision.Change.TheVariants as change
 use Rattle.target_decision.specs.declared.decision.Decision.{Decision}
 use Rattle.target_decision.specs.declared.decision.Decision.TheVariants as decision
-use Rattle.target_decision.specs.declared.page.Page.{Page}
 use Rattle.target_decision.specs.declared.session.Conversation.{Conversation}
 use Rattle.target_decision.specs.declared.session.Role.{Role}
 use Rattle.target_decision.specs.declared.session.Role.TheVariants.{Admin, Io}
 use Rattle.target_decision.specs.declared.session.Session.{Session}
 use Rattle.target_decision.specs.declared.session.Session.TheVariants.{Opened, Initialized, Connected, Ended}
 use Rattle.target_decision.specs.Begin.{BeginsFree, NamesWell}
-use Rattle.target_decision.specs.Capsule.{admin_at, admin_command, command, command_in, fabrics_command, first_command, given_by, on_admin_queue, on_io_queue, queue_command, reply_of, set_by}
+use Rattle.target_decision.specs.Capsule.{admin_answered, admin_at, admin_by, change_by, command, command_in, fabrics_command, first_command, given_by, is_ready_at, on_admin_queue, on_io_queue, queue_command, reply_of, set_by}
 use Rattle.target_decision.specs.Connect.{answered, connect_on}
 use Rattle.target_decision.specs.Decision.{capsule, decide, decide_in, entry_of, first_by, initialize, next_by, terminate}
-use Rattle.target_decision.specs.LogPage.{read_known}
 use Rattle.target_decision.specs.Outcome.{Outcome}
-use Rattle.target_decision.specs.World.{Pages, World}
+use Rattle.target_decision.specs.World.{World, admin_controller}
 
 -- what a command with this entry and this data comes to begins nothing, or soundly
 abbrev IsSoundChange : World → Change → List ℕ → List ℕ → Type 0
@@ -84,8 +86,8 @@ connect_sound w port entry bytes = answered_sound w port entry bytes (connect w.
 
 -- ---- the other commands
 
-set_sound : (w : World) (effect : Result Effect InvalidField) (cntlid : ℕ) (p : Property) (entry bytes : List ℕ) → IsSound w (set_by effect cntlid p) entry bytes
-set_sound w (Ok effect) cntlid p entry bytes = tt
+set_sound : (w : World) (made : Result RegsChange InvalidField) (cntlid : ℕ) (p : Property) (entry bytes : List ℕ) → IsSound w (set_by made cntlid p) entry bytes
+set_sound w (Ok change) cntlid p entry bytes = tt
 set_sound w (Err fault) cntlid p entry bytes = tt
 
 given_sound : (w : World) (value : Result ℕ InvalidField) (entry bytes : List ℕ) → IsSound w (given_by value) entry bytes
@@ -95,13 +97,21 @@ given_sound w (Err fault) entry bytes = tt
 fabrics_sound : (w : World) (registers : Regs) (cntlid : ℕ) (entry bytes : List ℕ) → IsSound w (fabrics_command registers cntlid entry) entry bytes
 fabrics_sound w registers cntlid entry bytes = search (either_sound, set_sound, given_sound)
 
-read_sound : (w : World) (page : Option Page) (pages : Pages) (host entry bytes : List ℕ) → IsSound w (read_known page pages host entry) entry bytes
-read_sound w None pages host entry bytes = tt
-read_sound w (Some page) pages host entry bytes = search (either_sound)
+effect_sound : (w : World) (cntlid : ℕ) (e : Effect) (entry bytes : List ℕ) → IsSoundChange w (change_by cntlid e) entry bytes
+effect_sound w cntlid effect.Nothing entry bytes = tt
+effect_sound w cntlid effect.KeepAlive entry bytes = tt
+effect_sound w cntlid (effect.KeepAliveTimeout kato) entry bytes = tt
 
-admin_sound : (w : World) (o : Option Row) (cntlid : ℕ) (entry bytes : List ℕ) → IsSound w (admin_at w.pages o cntlid entry) entry bytes
-admin_sound w None cntlid entry bytes = tt
-admin_sound w (Some row) cntlid entry bytes = search (either_sound, read_sound)
+outcome_sound : (w : World) (cntlid : ℕ) (o : AdminOutcome) (entry bytes : List ℕ) → IsSound w (admin_answered cntlid o) entry bytes
+outcome_sound w cntlid (Ok s) entry bytes = effect_sound w cntlid s.effect entry bytes
+outcome_sound w cntlid (Err status) entry bytes = tt
+
+admin_by_sound : (w : World) (ready : Bool) (o : Option AdminController) (cntlid : ℕ) (entry bytes : List ℕ) → IsSound w (admin_by ready o w cntlid entry) entry bytes
+admin_by_sound w ready None cntlid entry bytes = tt
+admin_by_sound w ready (Some c) cntlid entry bytes = search (either_sound, outcome_sound)
+
+admin_sound : (w : World) (cntlid : ℕ) (entry bytes : List ℕ) → IsSound w (admin_at w cntlid entry) entry bytes
+admin_sound w cntlid entry bytes = admin_by_sound w (is_ready_at (w.row cntlid)) (admin_controller w cntlid) cntlid entry bytes
 
 queue_sound : (w : World) (role : Role) (entry bytes : List ℕ) → IsSound w (queue_command w role entry) entry bytes
 queue_sound w (Admin cntlid) entry bytes = search (either_sound, fabrics_sound, admin_sound)

@@ -80,15 +80,15 @@ change_by cntlid effect.Nothing = change.Stay
 change_by cntlid effect.KeepAlive = change.KeepAlive (record { cntlid = cntlid; kato = None })
 change_by cntlid (effect.KeepAliveTimeout kato) = change.KeepAlive (record { cntlid = cntlid; kato = Some kato })
 
-abbrev pub answered : ℕ → AdminOutcome → Outcome
-answered cntlid (Ok s) = Ok (record { result = s.result; «data» = s.payload; change = change_by cntlid s.effect })
-answered cntlid (Err status) = refused status
+abbrev pub admin_answered : ℕ → AdminOutcome → Outcome
+admin_answered cntlid (Ok s) = Ok (record { result = s.result; «data» = s.payload; change = change_by cntlid s.effect })
+admin_answered cntlid (Err status) = refused status
 
 -- an admin command of a controller that is ready, or not
 abbrev pub admin_by : Bool → Option AdminController → World → ℕ → List ℕ → Outcome
 admin_by ready None w cntlid entry = refused command_sequence_error
 admin_by ready (Some c) w cntlid entry =
-    refuse (not ready) command_sequence_error (answered cntlid (admin w.pages w.config c entry))
+    refuse (not ready) command_sequence_error (admin_answered cntlid (admin w.pages w.config c entry))
 
 -- .. of the controller of this identifier
 abbrev pub admin_at : World → ℕ → List ℕ → Outcome

@@ -1,9 +1,18 @@
 -- The data of a reply, and where their bytes come from.
-use Rattle.std.specs.Prelude.{ℕ, List}
+use Rattle.std.specs.Prelude.{ℕ, List, Option, Some, None}
+use Rattle.std.specs.Option.{option_map}
 use Rattle.admin_queue.specs.Controller.{controller_in}
-use Rattle.admin_queue.specs.Payload.{payload_bytes}
+use Rattle.admin_queue.specs.Payload.{payload_bytes, payload_len}
 use Rattle.target_decision.specs.declared.data.Data.{Data}
 use Rattle.target_decision.specs.World.{world_in}
 
 abbrev pub bytes_of : Data → List ℕ
-bytes_of d = payload_bytes (world_in d.world.now).pages (world_in d.world.now).config (controller_in d.controller) d.payload
+bytes_of d = payload_bytes d.payload (world_in d.world.now).pages (world_in d.world.now).config (controller_in d.controller)
+
+-- .. where there are any
+abbrev pub bytes_in : Option Data → Option (List ℕ)
+bytes_in d = option_map bytes_of d
+
+abbrev pub len_in : Option Data → ℕ
+len_in None = 0
+len_in (Some d) = payload_len d.payload

@@ -88,7 +88,7 @@ is_end decision.Close = true
 abbrev pub payload_at : World → Option AdminController → Option Payload → Option (List ℕ)
 payload_at w c None = None
 payload_at w None (Some payload) = None
-payload_at w (Some c) (Some payload) = Some (payload_bytes w.pages w.config c payload)
+payload_at w (Some c) (Some payload) = Some (payload_bytes payload w.pages w.config c)
 
 -- the data that a decision returns in a session: commands on admin queues alone return data
 abbrev pub data_of : World → Session → Decision → Option (List ℕ)

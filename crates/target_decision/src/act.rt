@@ -5,13 +5,13 @@ ghost use Rattle.pdu_cut.specs.Front.{whole};
 ghost use Rattle.fabrics_connect.specs.Row.{row_begun};
 ghost use Rattle.pdu_cut.specs.Pdu.{data_part};
 ghost use Rattle.target_decision.specs.Begin.{NamesIn, NamesWell, row_decided};
-ghost use Rattle.target_decision.specs.Decision.{consumed_of, entry_of, head_of, host_of, host_of_role, sent_by};
+ghost use Rattle.target_decision.specs.Decision.{consumed_of, entry_of, head_of, sent_by};
 ghost use Rattle.target_decision.specs.Session.{session_after};
 ghost use Rattle.target_decision.specs.World.{world_in};
 
 use crate::decision::{Change, Decision};
-use crate::page;
-use crate::session::{Role, Session};
+use crate::data::{Data, len_in};
+use crate::session::Session;
 use crate::wire::{self, WIRE_MAX};
 use crate::world::World;
 use bytes::BytesMut;
@@ -23,7 +23,6 @@ use std::alloc::{AllocError, Global};
 /// Sends what the decision on this front owes in the session, and moves the session. All growth
 /// comes first: want of memory changes nothing.
 pub fn perform(
-    alloc: Global,
     world: &World<'_>,
     session: &mut Session,
     output: &mut BytesMut,
@@ -39,14 +38,9 @@ pub fn perform(
         ((session.new ≡ session.old) × (output.new.items ≡ output.old.items)) }
 {
     let head = head_of(front);
-    let data = match decision {
-        Decision::Reply(reply) => {
-            page::data(alloc, world.pages, host_of(world, session), &reply.data)?
-        }
-        _ => BytesMut::new(alloc),
-    };
-    output.reserve(WIRE_MAX + head.len() + data.len())?;
-    wire::write(output, decision, head, data.as_slice());
+    let data = Data::of(world, session, decision);
+    output.reserve(WIRE_MAX + head.len() + len_in(&data))?;
+    wire::write(output, decision, head, &data);
     session.turn(decision);
     Ok(())
 }
@@ -107,25 +101,5 @@ fn head_of<'a>(front: &Cut<'a>) -> &'a [u8]
         Cut::More => &[],
         Cut::Pdu(pdu) => pdu.header(),
         Cut::Fault { head, .. } => head,
-    }
-}
-
-// The name of the host that has a controller here; no byte where none has.
-fn host_of<'a>(world: &World<'a>, session: &Session) -> &'a [u8]
-    ensures { result.now ≡ host_of (world_in world.now) session.now }
-{
-    match session {
-        Session::Connected { role, .. } => host_of_role(world, *role),
-        Session::Opened | Session::Initialized | Session::Ended => &[],
-    }
-}
-
-fn host_of_role<'a>(world: &World<'a>, role: Role) -> &'a [u8]
-    ensures { result.now ≡ host_of_role (world_in world.now) role }
-{
-    let (Role::Admin { cntlid } | Role::Io { cntlid, .. }) = role;
-    match world.rows.get(cntlid) {
-        Some(row) => row.host.as_bytes(),
-        None => &[],
     }
 }

@@ -1,6 +1,6 @@
 //! Admin commands of a controller that is ready.
 ghost use Rattle.std.specs.Prelude.{◌≡◌};
-ghost use Rattle.target_decision.specs.Capsule.{admin_at, answered, change_by};
+ghost use Rattle.target_decision.specs.Capsule.{admin_answered, admin_at, change_by};
 ghost use Rattle.target_decision.specs.World.{world_in};
 
 use crate::capsule::{Outcome, Success, is_ready, refused};
@@ -24,7 +24,7 @@ pub(crate) fn command(world: &World<'_>, cntlid: u16, sqe: &Sqe<'_>) -> Outcome
 
 // The outcome of a command of this controller, with what it changes.
 fn answered(cntlid: u16, outcome: admin_queue::Outcome) -> Outcome
-    ensures { result ≡ answered cntlid outcome }
+    ensures { result ≡ admin_answered cntlid outcome }
 {
     match outcome {
         Ok(success) => Ok(Success {

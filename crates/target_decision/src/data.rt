@@ -1,7 +1,8 @@
 //! The data of a reply, and where their bytes come from.
-ghost use Rattle.std.specs.Prelude.{◌≡◌, ◌<◌, ◌^◌, length};
+ghost use Rattle.std.specs.Prelude.{◌≡◌, ◌<◌, ◌≤◌, ◌^◌, length};
 ghost use Rattle.admin_queue.specs.Payload.{payload_len};
-ghost use Rattle.target_decision.specs.Data.{bytes_of, data_of};
+ghost use Rattle.target_decision.specs.Data.{bytes_in, bytes_of, len_in};
+ghost use Rattle.target_decision.specs.Decision.{data_of};
 ghost use Rattle.target_decision.specs.World.{world_in};
 
 use crate::decision::Decision;
@@ -24,6 +25,7 @@ impl<'a> Data<'a> {
         session: &Session,
         decision: &Decision,
     ) -> Option<Data<'a>>
+        ensures { bytes_in result ≡ data_of (world_in world.now) session.now decision.now }
     {
         let Decision::Reply(reply) = decision else {
             return None;
@@ -53,5 +55,16 @@ impl<'a> Data<'a> {
         let world = self.world;
         self.payload
             .write(world.pages, world.config, &self.controller, out);
+    }
+}
+
+/// How many bytes of data a reply returns.
+pub(crate) fn len_in(returned: &Option<Data<'_>>) -> usize
+    ensures value { result ≡ len_in returned.now }
+    ensures bound { result < 2 ^ 18 }
+{
+    match returned {
+        Some(data) => data.len(),
+        None => 0,
     }
 }

@@ -1,14 +1,16 @@
 //! The PDUs of a decision, written into room that is there.
-ghost use Rattle.std.specs.Prelude.{◌≡◌, ◌+◌, ◌^◌, ◌<◌, ◌≤◌, ◌++◌, length};
+ghost use Rattle.std.specs.Prelude.{◌≡◌, ◌+◌, ◌≤◌, ◌++◌, Some, length};
+ghost use Rattle.admin_queue.specs.Payload.{payload_len};
+ghost use Rattle.target_decision.specs.Data.{bytes_in, bytes_of, len_in};
 ghost use Rattle.target_decision.specs.Decision.{data_pdu, response_of, wire_of};
 ghost use Rattle.nvt_fields.specs.FatalErrorStatus.{fatal_code_of};
 ghost use Rattle.pdu_codec.specs.Initialize.{ic_resp};
 ghost use Rattle.pdu_codec.specs.TermReq.{c2h_term_req};
 
 use crate::decision::{Decision, Reply, Termination};
-use crate::page::PagePart;
+use crate::data::Data;
 use bytes::BytesMut;
-use pdu_codec::{C2hData, CapsuleResp, IcResp, TermReq};
+use pdu_codec::{C2hHead, CapsuleResp, IcResp, TermReq};
 
 /// The most data bytes that the target takes in one H2CData.
 const MAX_H2C_DATA: u32 = 16_384;
@@ -16,18 +18,22 @@ const MAX_H2C_DATA: u32 = 16_384;
 /// The most bytes that a decision sends beside its data and the header in error: an ICResp's.
 pub(crate) const WIRE_MAX: usize = 128;
 
-/// Appends the PDUs of a decision. `head` is the header of the PDU decided on, or its first bytes,
-/// and `payload` the data that a reply returns.
-pub(crate) fn write(output: &mut BytesMut, decision: &Decision, head: &[u8], payload: &[u8])
-    requires room { WIRE_MAX + length head.now + length payload.now ≤ output.old.spare }
+/// Appends the PDUs of a decision. `head` is the header of the PDU decided on, or its first bytes.
+pub(crate) fn write(
+    output: &mut BytesMut,
+    decision: &Decision,
+    head: &[u8],
+    returned: &Option<Data<'_>>,
+)
+    requires room { WIRE_MAX + length head.now + len_in returned.now ≤ output.old.spare }
     requires head { length head.now ≤ 128 }
-    requires payload { length payload.now < 2 ^ 18 }
-    ensures { output.new.items ≡ output.old.items ++ wire_of decision.now head.now payload.now }
+    ensures { output.new.items
+        ≡ output.old.items ++ wire_of decision.now head.now (bytes_in returned.now) }
 {
     match decision {
         Decision::Initialize => write_initialized(output),
         Decision::Reply(reply) => {
-            write_data(output, reply.cid, &reply.data, payload);
+            write_data(output, reply.cid, returned);
             write_response(output, reply);
         }
         Decision::Terminate(termination) => write_termination(output, termination, head),
@@ -49,23 +55,33 @@ fn write_initialized(output: &mut BytesMut)
     response.write(output).unwrap();
 }
 
-fn write_data(output: &mut BytesMut, cid: u16, part: &Option<PagePart>, payload: &[u8])
-    requires room { 24 + length payload.now ≤ output.old.spare }
-    requires payload { length payload.now < 2 ^ 18 }
-    ensures items { output.new.items ≡ output.old.items ++ data_pdu cid part.now payload.now }
-    ensures spare { output.old.spare ≤ output.new.spare + 24 + length payload.now }
+// The data of a reply, if there are any, written straight into their place in the output.
+fn write_data(output: &mut BytesMut, cid: u16, returned: &Option<Data<'_>>)
+    requires { 24 + len_in returned.now ≤ output.old.spare }
+    ensures items { output.new.items ≡ output.old.items ++ data_pdu cid (bytes_in returned.now) }
+    ensures spare { output.old.spare ≤ output.new.spare + 24 + len_in returned.now }
 {
-    if part.is_none() {
-        return;
+    if let Some(payload) = returned {
+        write_payload(output, cid, payload);
     }
-    let data = C2hData {
+}
+
+fn write_payload(output: &mut BytesMut, cid: u16, payload: &Data<'_>)
+    requires { 24 + payload_len payload.now.payload ≤ output.old.spare }
+    ensures items { output.new.items ≡ output.old.items ++ data_pdu cid (Some (bytes_of payload.now)) }
+    ensures spare { output.old.spare ≤ output.new.spare + 24 + payload_len payload.now.payload }
+{
+    let len = payload.len();
+    let head = C2hHead {
         cid,
         offset: 0,
         last: true,
         hpda: 0,
-        payload,
+        len: len as u32,
     };
-    data.write(output).unwrap();
+    head.write(output).unwrap();
+    let start = output.len() - len;
+    payload.write(&mut output.as_mut_slice()[start..]);
 }
 
 fn write_response(output: &mut BytesMut, reply: &Reply)
