@@ -2,6 +2,7 @@ pub mod Commands
 pub mod Controller
 pub mod Features
 pub mod Identify
+pub mod Laws
 pub mod LogPage
 pub mod Outcome
 pub mod Pages

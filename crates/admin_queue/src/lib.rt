@@ -7,6 +7,7 @@ pub mod commands;
 pub mod controller;
 mod features;
 mod identify;
+pub mod laws;
 mod log_page;
 pub mod outcome;
 pub mod pages;

@@ -1,0 +1,30 @@
+-- Laws of the admin commands, in the words of the subject.
+use Rattle.std.specs.Prelude.{◌≡◌, ℕ, List, Some, is_some, IfOk, IfSome}
+use Rattle.config_rules.specs.Configuration.{Configuration}
+use Rattle.pdu_codec.specs.Sqe.{sgl1_of}
+use Rattle.admin_queue.specs.declared.payload.LogPage.{LogPage}
+use Rattle.admin_queue.specs.declared.payload.Payload.{Payload}
+use Rattle.admin_queue.specs.declared.payload.Structure.{Structure}
+use Rattle.admin_queue.specs.Commands.{admin}
+use Rattle.admin_queue.specs.Controller.{AdminController}
+use Rattle.admin_queue.specs.Pages.{Pages, log_page_bytes}
+use Rattle.admin_queue.specs.Payload.{namespace_in, payload_bytes, payload_len, structure_bytes}
+
+-- Two worlds tell the same of a controller: each log page and each structure, and which namespaces of its subsystem
+-- are active.
+pub record ToldAlike (c : AdminController) (p q : Pages) (d e : Configuration) : Type 0 where
+  pub log_pages : (page : LogPage) → log_page_bytes page p c ≡ log_page_bytes page q c
+  pub structures : (s : Structure) → structure_bytes s p d c ≡ structure_bytes s q e c
+  pub active : (nsid : ℕ) → is_some (namespace_in c.subsystem d nsid) ≡ is_some (namespace_in c.subsystem e nsid)
+
+-- .. then each command comes to the same, with the same data, whatever else they show
+pub record AnsweredByOwnAlone : Type 0 where
+  pub outcome : (c : AdminController) (p q : Pages) (d e : Configuration) (entry : List ℕ) → ToldAlike c p q d e
+      → admin p d c entry ≡ admin q e c entry
+  pub payload : (c : AdminController) (p q : Pages) (d e : Configuration) (r : Payload) → ToldAlike c p q d e
+      → payload_bytes r p d c ≡ payload_bytes r q e c
+
+-- a command that returns data returns as many bytes as its descriptor asks for
+pub record AsMuchAsAsked : Type 0 where
+  pub len : (p : Pages) (d : Configuration) (c : AdminController) (entry : List ℕ)
+      → IfOk (admin p d c entry) (λ s. IfSome s.payload (λ r. payload_len r ≡ (sgl1_of entry).len))
