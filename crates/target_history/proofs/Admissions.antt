@@ -2,6 +2,10 @@
 -- queue that its controller has not.
 use Rattle.std.proofs.Common.{◌≡◌, ◌≤◌, ℕ, Bool, true, false, List, Option, Some, None, Result, Ok, Err, refl, subst}
 use Rattle.std.specs.Prelude.{if◌then◌else◌, not, ◌==◌, nat_lt, length, IsSomeAnd}
+use Rattle.admin_queue.specs.declared.outcome.Effect.{Effect as AdminEffect}
+use Rattle.admin_queue.specs.declared.outcome.Effect.TheVariants as effect
+use Rattle.admin_queue.specs.Controller.{AdminController}
+use Rattle.admin_queue.specs.Outcome.{Outcome as AdminOutcome}
 use Rattle.fabrics_connect.specs.declared.decision.AdmitAs.{AdmitAs}
 use Rattle.fabrics_connect.specs.declared.decision.AdmitAs.TheVariants as admit
 use Rattle.fabrics_connect.specs.declared.decision.Decision as connect_decision
@@ -29,19 +33,17 @@ use Rattle.target_decision.specs.declared.decision.Change.{Change}
 use Rattle.target_decision.specs.declared.decision.Change.TheVariants as change
 use Rattle.target_decision.specs.declared.decision.Decision.{Decision}
 use Rattle.target_decision.specs.declared.decision.Decision.TheVariants as decision
-use Rattle.target_decision.specs.declared.page.Page.{Page}
 use Rattle.target_decision.specs.declared.session.Conversation.{Conversation}
 use Rattle.target_decision.specs.declared.session.Role.{Role}
 use Rattle.target_decision.specs.declared.session.Role.TheVariants.{Admin, Io}
 use Rattle.target_decision.specs.declared.session.Session.{Session}
 use Rattle.target_decision.specs.declared.session.Session.TheVariants.{Opened, Initialized, Connected, Ended}
-use Rattle.target_decision.specs.Capsule.{admin_at, command, command_in, fabrics_command, first_command, given_by, queue_command, reply_of, set_by}
+use Rattle.target_decision.specs.Capsule.{admin_answered, admin_by, change_by, command, command_in, fabrics_command, first_command, given_by, queue_command, reply_of, set_by}
 use Rattle.target_decision.specs.Connect.{answered, connect_on}
 use Rattle.target_decision.specs.Decision.{decide, decide_in, entry_of, first_by, next_by, terminate}
-use Rattle.target_decision.specs.LogPage.{read_known}
 use Rattle.target_decision.specs.Outcome.{Outcome}
 use Rattle.target_decision.specs.Session.{is_ended}
-use Rattle.target_decision.specs.World.{Pages, World}
+use Rattle.target_decision.specs.World.{World}
 use Rattle.target_history.specs.Event.{front_in, steps}
 use Rattle.target_history.specs.Happening.{Happening, change_decided, change_of, decided, decided_on, port_at, stepping}
 use Rattle.target_history.specs.Laws.{role_at, role_in}
@@ -115,9 +117,9 @@ first_admits w port entry bytes = search (either_admits, connect_admits)
 
 -- ---- the other commands
 
-set_admits : (row : ℕ → Option Row) (role : Option Role) (port : ℕ) (effect : Result Effect InvalidField) (cntlid : ℕ) (p : Property)
-    → AdmitsIn row role port (set_by effect cntlid p)
-set_admits row role port (Ok effect) cntlid p = tt
+set_admits : (row : ℕ → Option Row) (role : Option Role) (port : ℕ) (made : Result Effect InvalidField) (cntlid : ℕ) (p : Property)
+    → AdmitsIn row role port (set_by made cntlid p)
+set_admits row role port (Ok change) cntlid p = tt
 set_admits row role port (Err fault) cntlid p = tt
 
 given_admits : (row : ℕ → Option Row) (role : Option Role) (port : ℕ) (value : Result ℕ InvalidField) → AdmitsIn row role port (given_by value)
@@ -128,15 +130,19 @@ fabrics_admits : (row : ℕ → Option Row) (role : Option Role) (port : ℕ) (r
     → AdmitsIn row role port (fabrics_command registers cntlid entry)
 fabrics_admits row role port registers cntlid entry = search (either_admits, set_admits, given_admits)
 
-read_admits : (row : ℕ → Option Row) (role : Option Role) (port : ℕ) (page : Option Page) (pages : Pages) (host entry : List ℕ)
-    → AdmitsIn row role port (read_known page pages host entry)
-read_admits row role port None pages host entry = tt
-read_admits row role port (Some page) pages host entry = search (either_admits)
+effect_admits : (row : ℕ → Option Row) (role : Option Role) (port cntlid : ℕ) (e : AdminEffect) → AdmitsBy row role port (change_by cntlid e)
+effect_admits row role port cntlid effect.Nothing = tt
+effect_admits row role port cntlid effect.KeepAlive = tt
+effect_admits row role port cntlid (effect.KeepAliveTimeout kato) = tt
 
-admin_admits : (row : ℕ → Option Row) (role : Option Role) (port : ℕ) (pages : Pages) (o : Option Row) (cntlid : ℕ) (entry : List ℕ)
-    → AdmitsIn row role port (admin_at pages o cntlid entry)
-admin_admits row role port pages None cntlid entry = tt
-admin_admits row role port pages (Some r) cntlid entry = search (either_admits, read_admits)
+outcome_admits : (row : ℕ → Option Row) (role : Option Role) (port cntlid : ℕ) (o : AdminOutcome) → AdmitsIn row role port (admin_answered cntlid o)
+outcome_admits row role port cntlid (Ok s) = effect_admits row role port cntlid s.effect
+outcome_admits row role port cntlid (Err status) = tt
+
+admin_admits : (row : ℕ → Option Row) (role : Option Role) (port : ℕ) (ready : Bool) (o : Option AdminController) (w : World) (cntlid : ℕ) (entry : List ℕ)
+    → AdmitsIn row role port (admin_by ready o w cntlid entry)
+admin_admits row role port ready None w cntlid entry = tt
+admin_admits row role port ready (Some c) w cntlid entry = search (either_admits, outcome_admits)
 
 queue_admits : (row : ℕ → Option Row) (now : Option Role) (port : ℕ) (w : World) (role : Role) (entry : List ℕ)
     → AdmitsIn row now port (queue_command w role entry)

@@ -1,43 +1,40 @@
 -- What a connection is sent depends on what happened to it alone, and on what its worlds show it.
 use Rattle.std.proofs.Common.{◌≡◌, ℕ, ◌*◌, Bool, true, false, ◌||◌, ◌&&◌, List, [], ◌∷◌, ◌++◌, Option, Some, None, Ok, Err, refl, sym, ap, ◌∙◌, append-nil}
 use Rattle.std.specs.Prelude.{if◌then◌else◌, not, ◌==◌, nat_lt, length}
-use Rattle.std.specs.Option.{option_map}
+use Rattle.admin_queue.specs.declared.payload.Payload.{Payload}
+use Rattle.admin_queue.specs.Controller.{AdminController}
+use Rattle.admin_queue.proofs.Asking.{answered_alike}
 use Rattle.fabrics_connect.specs.declared.decision.AdmitAs.TheVariants as admit
 use Rattle.fabrics_connect.specs.declared.decision.Decision as connect_decision
 use Rattle.fabrics_connect.specs.declared.decision.Decision.TheVariants.{Admit, Deny}
-use Rattle.fabrics_connect.specs.declared.row.Row.{Row}
 use Rattle.fabrics_connect.specs.Command.{Parameters, parameters_of}
 use Rattle.fabrics_connect.specs.Connect.{admitted, begun, connect, joined_by, names_verdict, permission_verdict}
 use Rattle.nvt_fields.specs.declared.pdu_type.PduType.{PduType}
 use Rattle.nvt_fields.specs.declared.pdu_type.PduType.TheVariants.{IcReq, IcResp, H2cTermReq, C2hTermReq, CapsuleCmd, CapsuleResp, H2cData, C2hData, R2t}
 use Rattle.nvt_fields.specs.declared.termination.FatalErrorStatus.TheVariants.{InvalidHeaderField, LimitExceeded, UnsupportedParameter}
 use Rattle.nvt_fields.specs.Status.{command_sequence_error}
-use Rattle.nvt_fields.specs.Window.{window}
 use Rattle.pdu_codec.specs.Initialize.{ic_req_of}
-use Rattle.pdu_codec.specs.Sqe.{cid_of, fctype_of, get_log_page_of, opcode_of}
+use Rattle.pdu_codec.specs.Sqe.{cid_of, fctype_of, opcode_of}
 use Rattle.pdu_cut.specs.Front.{Front, incomplete, whole, faulty}
 use Rattle.pdu_cut.specs.Pdu.{Pdu, data_part, header_part}
 use Rattle.target_decision.specs.declared.decision.Decision.{Decision}
 use Rattle.target_decision.specs.declared.decision.Decision.TheVariants as decision
-use Rattle.target_decision.specs.declared.page.Page.{Page}
-use Rattle.target_decision.specs.declared.page.PagePart.{PagePart}
 use Rattle.target_decision.specs.declared.queue.Queue.{Queue}
 use Rattle.target_decision.specs.declared.session.Conversation.{Conversation}
 use Rattle.target_decision.specs.declared.session.Role.{Role}
 use Rattle.target_decision.specs.declared.session.Role.TheVariants.{Admin, Io}
 use Rattle.target_decision.specs.declared.session.Session.{Session}
 use Rattle.target_decision.specs.declared.session.Session.TheVariants.{Opened, Initialized, Connected, Ended}
-use Rattle.target_decision.specs.Capsule.{admin_at, command, command_in, connect_type, fabrics_opcode, first_command, on_admin_queue, on_io_queue, queue_command, reply_of}
+use Rattle.target_decision.specs.Capsule.{admin_at, admin_by, command, command_in, connect_type, fabrics_opcode, first_command, is_ready_at, on_admin_queue, on_io_queue, queue_command, reply_of}
 use Rattle.target_decision.specs.Connect.{answered, connect_on}
-use Rattle.target_decision.specs.Decision.{data_of, decide, decide_in, entry_of, first_by, head_of, host_at, next_by, part_of, sent_by, terminate, wire_of}
-use Rattle.target_decision.specs.LogPage.{page_of_lid, read_known, read_page}
+use Rattle.target_decision.specs.Decision.{data_of, decide, decide_in, entry_of, first_by, head_of, next_by, payload_at, sent_by, terminate, wire_of}
 use Rattle.target_decision.specs.Outcome.{Outcome, refused}
 use Rattle.target_decision.specs.Session.{is_ended}
-use Rattle.target_decision.specs.World.{Pages, World}
+use Rattle.target_decision.specs.World.{World, admin_controller, admin_controller_in}
 use Rattle.target_history.specs.Event.{Event, front_in, gives_up, opens, steps}
 use Rattle.target_history.specs.Happening.{Happening, decided_on, sends, sends_on}
 use Rattle.target_history.specs.History.{sent}
-use Rattle.target_history.specs.Laws.{AdminAlike, AreAlikeFor, ConnectAlike, HappenedAlike, RoleAlike, SameFor, SentByOwnAlone, SessionAlike, WorldAlike, is_command, is_of, own, without_queues}
+use Rattle.target_history.specs.Laws.{AdminAlike, AreToldAlike, ConnectAlike, HappenedAlike, RoleAlike, SameFor, SentByOwnAlone, SessionAlike, WorldAlike, is_command, is_of, own}
 
 -- ---- a Connect
 
@@ -76,33 +73,22 @@ first_alike v w port entry bytes h = by ((opcode_of entry == fabrics_opcode) && 
 
 -- ---- a command on a queue
 
-read_alike : (v w : Pages) (host entry : List ℕ) (page : Option Page) → AreAlikeFor host v w
-    → read_known page v host entry ≡ read_known page w host entry
-read_alike v w host entry None h = refl
-read_alike v w host entry (Some page) h = ap (λ (bytes : List ℕ). read_page page bytes entry) (h page)
+-- an admin command, and the data that it returns, of a controller of which the same can be told
+told_alike : (v w : World) (ready : Bool) (o : Option AdminController) (cntlid : ℕ) (entry : List ℕ) → AreToldAlike o v w
+    → admin_by ready o v cntlid entry ≡ admin_by ready o w cntlid entry
+told_alike v w ready None cntlid entry h = refl
+told_alike v w ready (Some c) cntlid entry h =
+    rw (answered_alike.outcome c v.pages w.pages v.config w.config entry h) refl
 
-admin_alike : (v w : Pages) (o : Option Row) (cntlid : ℕ) (entry : List ℕ) → AreAlikeFor (host_at o) v w
-    → admin_at v o cntlid entry ≡ admin_at w o cntlid entry
-admin_alike v w None cntlid entry h = refl
-admin_alike v w (Some row) cntlid entry h =
-    rw (read_alike v w row.host entry (page_of_lid row.subsystem (get_log_page_of entry).lid) h) refl
-
--- without its I/O queues a row shows its admin queue the same
-admin_shown : (pages : Pages) (o : Option Row) (cntlid : ℕ) (entry : List ℕ) → admin_at pages (option_map without_queues o) cntlid entry ≡ admin_at pages o cntlid entry
-admin_shown pages None cntlid entry = refl
-admin_shown pages (Some row) cntlid entry = refl
-
-host_shown : (o : Option Row) → host_at (option_map without_queues o) ≡ host_at o
-host_shown None = refl
-host_shown (Some row) = refl
+admin_alike : (v w : World) (cntlid : ℕ) (entry : List ℕ) → AdminAlike v w cntlid → admin_at v cntlid entry ≡ admin_at w cntlid entry
+admin_alike v w cntlid entry h =
+    told_alike v w (is_ready_at (v.row cntlid)) (admin_controller v cntlid) cntlid entry h.told
+    ∙ ap (λ (ready : Bool). admin_by ready (admin_controller v cntlid) w cntlid entry) h.ready
+    ∙ ap (λ (o : Option AdminController). admin_by (is_ready_at (w.row cntlid)) o w cntlid entry) h.controller
 
 on_admin_alike : (v w : World) (cntlid : ℕ) (entry : List ℕ) → AdminAlike v w cntlid
     → on_admin_queue v cntlid entry ≡ on_admin_queue w cntlid entry
-on_admin_alike v w cntlid entry h =
-    let same : admin_at v.pages (v.row cntlid) cntlid entry ≡ admin_at w.pages (w.row cntlid) cntlid entry =
-    admin_alike v.pages w.pages (v.row cntlid) cntlid entry h.pages ∙ sym (admin_shown w.pages (v.row cntlid) cntlid entry)
-    ∙ ap (λ (o : Option Row). admin_at w.pages o cntlid entry) h.row ∙ admin_shown w.pages (w.row cntlid) cntlid entry in
-    rw (h.registers, same) refl
+on_admin_alike v w cntlid entry h = rw (h.registers, admin_alike v w cntlid entry h) refl
 
 queue_alike : (v w : World) (role : Role) (entry : List ℕ) → RoleAlike v w role → queue_command v role entry ≡ queue_command w role entry
 queue_alike v w (Admin cntlid) entry h = on_admin_alike v w cntlid entry h
@@ -236,15 +222,16 @@ ended_none w port (faulty fault head) = tt
 
 -- ---- what is sent
 
-part_alike : (v w : Pages) (host : List ℕ) (part : Option PagePart) → AreAlikeFor host v w → part_of v host part ≡ part_of w host part
-part_alike v w host None h = refl
-part_alike v w host (Some part) h = ap (λ (bytes : List ℕ). window bytes part.offset (4 * part.dwords)) (h part.page)
+payload_alike : (v w : World) (o : Option AdminController) (r : Option Payload) → AreToldAlike o v w → payload_at v o r ≡ payload_at w o r
+payload_alike v w o None h = refl
+payload_alike v w None (Some r) h = refl
+payload_alike v w (Some c) (Some r) h = ap Some (answered_alike.payload c v.pages w.pages v.config w.config r h)
 
 admin_data : (v w : World) (cntlid : ℕ) (queue : Queue) (d : Decision) → AdminAlike v w cntlid
     → data_of v (Connected (Admin cntlid) queue) d ≡ data_of w (Connected (Admin cntlid) queue) d
 admin_data v w cntlid queue (decision.Reply r) h =
-    part_alike v.pages w.pages (host_at (v.row cntlid)) r.«data» h.pages
-    ∙ ap (λ (host : List ℕ). part_of w.pages host r.«data») (sym (host_shown (v.row cntlid)) ∙ ap host_at h.row ∙ host_shown (w.row cntlid))
+    payload_alike v w (admin_controller v cntlid) r.«data» h.told
+    ∙ ap (λ (o : Option AdminController). payload_at w o r.«data») h.controller
 admin_data v w cntlid queue decision.Initialize h = refl
 admin_data v w cntlid queue (decision.Terminate t) h = refl
 admin_data v w cntlid queue decision.Close h = refl

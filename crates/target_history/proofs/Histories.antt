@@ -142,7 +142,15 @@ page_stays (stepped k front) c n host h = refl
 page_stays (given_up k) c n host h = refl
 page_stays (ticked now) c n host h = refl
 
+config_stays : (event : Event) (c : Configuration) → is_edit event ≡ false → config_after event c ≡ c
+config_stays (edited edit) c h = cc
+config_stays (opened port k) c h = refl
+config_stays (stepped k front) c h = refl
+config_stays (given_up k) c h = refl
+config_stays (ticked now) c h = refl
+
 pub pages_change_by_edits : PagesChangeByEdits
 pages_change_by_edits = record {
   stays = λ units x before host unedited. page_stays x.event (config_of units before) (generation_of units before host) host unedited;
+  lists = λ units x before subsystem above unedited. rw (config_stays x.event (config_of units before) unedited) refl;
 }

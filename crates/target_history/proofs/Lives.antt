@@ -1,7 +1,7 @@
 -- What one more event makes of what the history says of a controller.
 use Rattle.std.proofs.Common.{◌≡◌, ℕ, Bool, true, false, not, ◌&&◌, ◌||◌, List, ◌∷◌, map, Option, Some, None, refl, sym, ap, ◌∙◌}
 use Rattle.std.proofs.Math.Path.{fun_ext}
-use Rattle.std.specs.Prelude.{if◌then◌else◌, ◌==◌, is_some}
+use Rattle.std.specs.Prelude.{if◌then◌else◌, ◌==◌, is_some, unwrap_or}
 use Rattle.std.specs.List.{range_with_len}
 use Rattle.std.specs.Option.{option_map}
 use Rattle.fabrics_connect.specs.declared.row.Row.{Row}
@@ -15,12 +15,12 @@ use Rattle.target_decision.specs.declared.decision.Change.{Change}
 use Rattle.target_decision.specs.declared.decision.Change.TheVariants as change
 use Rattle.target_decision.specs.declared.decision.Setting.{Setting}
 use Rattle.target_decision.specs.Begin.{row_by}
-use Rattle.target_decision.specs.Controller.{new_controller, with_mark, with_property}
+use Rattle.target_decision.specs.Controller.{new_controller, with_property, with_timer}
 use Rattle.target_history.specs.declared.ending.Ending.{Ending}
 use Rattle.target_history.specs.declared.ending.Ending.TheVariants as ending
 use Rattle.target_history.specs.Event.{front_in}
 use Rattle.target_history.specs.Happening.{Happening, Start, begins, begins_by, change_of, controller_after, controller_changed, ending_of, ends_live, port_met, ready_after, row_after, row_changed, row_kept, row_left, started}
-use Rattle.target_history.specs.History.{beats_by, controller_of, controller_with, drops_by, has_queue, joins_by, mark_of, registers_by, registers_of, row_of, row_with, start_of, start_or}
+use Rattle.target_history.specs.History.{beats_by, controller_of, controller_with, drops_by, has_queue, joins_by, kato_by, kato_of, mark_of, registers_by, registers_of, row_of, row_with, start_of, start_or}
 
 -- ---- the queues of a controller
 
@@ -65,7 +65,7 @@ set_by s registers = regs_after registers s.property.ofst s.property.attrib s.pr
 
 -- ---- one more event
 
-module _ (x : Happening) (c : ℕ) (gone : Bool) (registers : Regs) (queue : ℕ → Bool) (mark : ℕ) (o : Option Start) where
+module _ (x : Happening) (c : ℕ) (gone : Bool) (registers : Regs) (queue : ℕ → Bool) (kato mark : ℕ) (o : Option Start) where
   abbrev e : Ending
   e = ending_of x
 
@@ -77,7 +77,7 @@ module _ (x : Happening) (c : ℕ) (gone : Bool) (registers : Regs) (queue : ℕ
   row_by_change : (ch : Change)
       → option_map (row_with (registers_by ch c registers) (λ q. joins_by ch c q || (not (is_some (begins_by x ch c) || drops_by e c q) && queue q)))
       (start_or (begins_by x ch c) (if gone then None else o))
-      ≡ row_changed ch (row_by ch (port_met x) (front_in x.event)) (option_map (controller_with registers mark) o) c rest
+      ≡ row_changed ch (row_by ch (port_met x) (front_in x.event)) (option_map (controller_with registers kato mark) o) c rest
   row_by_change change.Stay = left_row e c gone registers queue o
   row_by_change (change.KeepAlive d) = left_row e c gone registers queue o
   row_by_change (change.Begin b) = by (c == b.controller.cntlid) where
@@ -97,54 +97,54 @@ module _ (x : Happening) (c : ℕ) (gone : Bool) (registers : Regs) (queue : ℕ
   row_by_change (change.Configure s) = by (c == s.cntlid) where
     by_start : (gone : Bool) (o : Option Start)
         → option_map (row_with (set_by s registers) (kept e c queue)) (if gone then None else o)
-        ≡ option_map (with_ready (ready_after (option_map (controller_with registers mark) o) s)) (option_map (row_with registers (kept e c queue)) (if gone then None else o))
+        ≡ option_map (with_ready (ready_after (option_map (controller_with registers kato mark) o) s)) (option_map (row_with registers (kept e c queue)) (if gone then None else o))
     by_start true o = refl
     by_start false None = refl
     by_start false (Some start) = refl
 
     by : (same : Bool)
         → option_map (row_with (if same then set_by s registers else registers) (kept e c queue)) (if gone then None else o)
-        ≡ (if same then option_map (with_ready (ready_after (option_map (controller_with registers mark) o) s)) rest else rest)
-    by true = by_start gone o ∙ ap (option_map (with_ready (ready_after (option_map (controller_with registers mark) o) s))) (left_row e c gone registers queue o)
+        ≡ (if same then option_map (with_ready (ready_after (option_map (controller_with registers kato mark) o) s)) rest else rest)
+    by true = by_start gone o ∙ ap (option_map (with_ready (ready_after (option_map (controller_with registers kato mark) o) s))) (left_row e c gone registers queue o)
     by false = left_row e c gone registers queue o
 
   controller_by_change : (ch : Change)
-      → option_map (controller_with (registers_by ch c registers) (if beats_by ch c then x.clock else mark)) (start_or (begins_by x ch c) (if gone then None else o))
-      ≡ controller_changed ch x.clock c (if gone then None else option_map (controller_with registers mark) o)
+      → option_map (controller_with (registers_by ch c registers) (kato_by ch c kato) (if beats_by ch c then x.clock else mark)) (start_or (begins_by x ch c) (if gone then None else o))
+      ≡ controller_changed ch x.clock c (if gone then None else option_map (controller_with registers kato mark) o)
   controller_by_change change.Stay = stays gone o where
     stays : (gone : Bool) (o : Option Start)
-        → option_map (controller_with registers mark) (if gone then None else o) ≡ (if gone then None else option_map (controller_with registers mark) o)
+        → option_map (controller_with registers kato mark) (if gone then None else o) ≡ (if gone then None else option_map (controller_with registers kato mark) o)
     stays true o = refl
     stays false o = refl
   controller_by_change (change.Join j) = stays gone o where
     stays : (gone : Bool) (o : Option Start)
-        → option_map (controller_with registers mark) (if gone then None else o) ≡ (if gone then None else option_map (controller_with registers mark) o)
+        → option_map (controller_with registers kato mark) (if gone then None else o) ≡ (if gone then None else option_map (controller_with registers kato mark) o)
     stays true o = refl
     stays false o = refl
-  controller_by_change (change.KeepAlive d) = by (c == d) gone o where
+  controller_by_change (change.KeepAlive s) = by (c == s.cntlid) gone o where
     by : (same gone : Bool) (o : Option Start)
-        → option_map (controller_with registers (if same then x.clock else mark)) (if gone then None else o)
-        ≡ (if same then option_map (with_mark x.clock) (if gone then None else option_map (controller_with registers mark) o) else
-        if gone then None else option_map (controller_with registers mark) o)
+        → option_map (controller_with registers (if same then unwrap_or s.kato kato else kato) (if same then x.clock else mark)) (if gone then None else o)
+        ≡ (if same then option_map (with_timer s.kato x.clock) (if gone then None else option_map (controller_with registers kato mark) o) else
+        if gone then None else option_map (controller_with registers kato mark) o)
     by true true o = refl
     by true false None = refl
-    by true false (Some s) = refl
+    by true false (Some start) = refl
     by false true o = refl
     by false false o = refl
   controller_by_change (change.Begin b) = by (c == b.controller.cntlid) gone o where
     by : (same gone : Bool) (o : Option Start)
-        → option_map (controller_with (if same then regs_at_connect b.controller.kind else registers) (if same then x.clock else mark))
+        → option_map (controller_with (if same then regs_at_connect b.controller.kind else registers) (if same then b.kato else kato) (if same then x.clock else mark))
         (start_or (if same then Some (started x b) else None) (if gone then None else o))
         ≡ (if same then Some (new_controller b.controller.kind b.kato x.clock) else
-        if gone then None else option_map (controller_with registers mark) o)
+        if gone then None else option_map (controller_with registers kato mark) o)
     by true gone o = refl
     by false true o = refl
     by false false o = refl
   controller_by_change (change.Configure s) = by (c == s.cntlid) gone o where
     by : (same gone : Bool) (o : Option Start)
-        → option_map (controller_with (if same then regs_after registers s.property.ofst s.property.attrib s.property.value else registers) mark) (if gone then None else o)
-        ≡ (if same then option_map (with_property s.property) (if gone then None else option_map (controller_with registers mark) o) else
-        if gone then None else option_map (controller_with registers mark) o)
+        → option_map (controller_with (if same then regs_after registers s.property.ofst s.property.attrib s.property.value else registers) kato mark) (if gone then None else o)
+        ≡ (if same then option_map (with_property s.property) (if gone then None else option_map (controller_with registers kato mark) o) else
+        if gone then None else option_map (controller_with registers kato mark) o)
     by true true o = refl
     by true false None = refl
     by true false (Some start) = refl
@@ -155,11 +155,11 @@ module _ (x : Happening) (c : ℕ) (gone : Bool) (registers : Regs) (queue : ℕ
 pub row_step : (x : Happening) (before : List Happening) (c : ℕ) → x.world.controller c ≡ controller_of before c
     → row_of (x ∷ before) c ≡ row_after x c (row_of before c)
 row_step x before c met =
-    row_by_change x c (ends_live x c) (registers_of before c) (has_queue before c) (mark_of before c) (start_of before c) (change_of x)
+    row_by_change x c (ends_live x c) (registers_of before c) (has_queue before c) (kato_of before c) (mark_of before c) (start_of before c) (change_of x)
     ∙ ap (λ (o : Option Controller). row_changed (change_of x) (row_by (change_of x) (port_met x) (front_in x.event)) o c (row_left x c (row_of before c)))
     (sym met)
 
 pub controller_step : (x : Happening) (before : List Happening) (c : ℕ)
     → controller_of (x ∷ before) c ≡ controller_after x c (controller_of before c)
 controller_step x before c =
-    controller_by_change x c (ends_live x c) (registers_of before c) (has_queue before c) (mark_of before c) (start_of before c) (change_of x)
+    controller_by_change x c (ends_live x c) (registers_of before c) (has_queue before c) (kato_of before c) (mark_of before c) (start_of before c) (change_of x)

@@ -20,7 +20,7 @@ use Rattle.target_decision.specs.declared.session.Conversation.{Conversation}
 use Rattle.target_decision.specs.declared.session.Session.{Session}
 use Rattle.target_decision.specs.declared.session.Session.TheVariants.{Ended}
 use Rattle.target_decision.specs.Begin.{bytes_at, entry_at, row_by}
-use Rattle.target_decision.specs.Controller.{new_controller, registers_at, with_mark, with_property}
+use Rattle.target_decision.specs.Controller.{new_controller, registers_at, with_property, with_timer}
 use Rattle.target_decision.specs.Decision.{decide, is_end, sent_by}
 use Rattle.target_decision.specs.Session.{is_ended, opened_on, session_after}
 use Rattle.target_decision.specs.World.{World}
@@ -254,7 +254,7 @@ row_after x c o =
 abbrev pub controller_changed : Change → ℕ → ℕ → Option Controller → Option Controller
 controller_changed (change.Begin b) now c o = if c == b.controller.cntlid then Some (new_controller b.controller.kind b.kato now) else o
 controller_changed (change.Configure s) now c o = if c == s.cntlid then option_map (with_property s.property) o else o
-controller_changed (change.KeepAlive d) now c o = if c == d then option_map (with_mark now) o else o
+controller_changed (change.KeepAlive s) now c o = if c == s.cntlid then option_map (with_timer s.kato now) o else o
 controller_changed (change.Join j) now c o = o
 controller_changed change.Stay now c o = o
 

@@ -1,8 +1,11 @@
 -- What a history of events makes of a target. Each definition looks back over the list of what happened,
 -- the newest first; none keeps anything.
-use Rattle.std.specs.Prelude.{ℕ, ◌+◌, ◌%◌, ◌^◌, Bool, true, false, not, ◌==◌, ◌||◌, ◌&&◌, List, [], ◌∷◌, ◌++◌, map, Option, Some, None, is_some, if◌then◌else◌}
+use Rattle.std.specs.Prelude.{ℕ, ◌+◌, ◌%◌, ◌^◌, Bool, true, false, not, ◌==◌, ◌||◌, ◌&&◌, List, [], ◌∷◌, ◌++◌, map, Option, Some, None, is_some, unwrap_or, if◌then◌else◌}
 use Rattle.std.specs.List.{range_with_len}
 use Rattle.std.specs.Option.{option_map}
+use Rattle.admin_queue.specs.Pages.{Pages}
+use Rattle.change_lists.specs.ActiveList.{list_page, nsids_above}
+use Rattle.config_words.specs.Numbered.{active_nsids}
 use Rattle.discovery_view.specs.Page.{discovery_page}
 use Rattle.discovery_view.specs.Records.{records_of}
 use Rattle.discovery_view.specs.View.{changes_records}
@@ -21,7 +24,7 @@ use Rattle.target_decision.specs.declared.session.Role.{Role}
 use Rattle.target_decision.specs.declared.session.Role.TheVariants.{Admin, Io}
 use Rattle.target_decision.specs.declared.session.Session.{Session}
 use Rattle.target_decision.specs.declared.session.Session.TheVariants.{Opened, Initialized, Connected, Ended}
-use Rattle.target_decision.specs.World.{Pages, World}
+use Rattle.target_decision.specs.World.{World}
 use Rattle.target_history.specs.declared.ending.Ending.{Ending}
 use Rattle.target_history.specs.declared.ending.Ending.TheVariants as ending
 use Rattle.target_history.specs.Event.{Event, edited, front_in, gives_up, opened, opens, port_in, steps, stepped, given_up, ticked}
@@ -57,9 +60,15 @@ generation_of units (x ∷ before) host = generation_after x.event (config_of un
 abbrev pub page_of : List ℕ → List Happening → List ℕ → List ℕ
 page_of units happened host = discovery_page (generation_of units happened host % 2 ^ 64) (records_of (config_of units happened) host)
 
--- the log pages; a further one is a field more
+-- ---- the list of active namespaces (Base 2.0, section 5.17.2.2)
+
+-- the identifiers of a subsystem's namespaces above one, rising
+abbrev pub active_of : List ℕ → List Happening → List ℕ → ℕ → List ℕ
+active_of units happened subsystem above = list_page (nsids_above above (active_nsids (config_of units happened).namespaces subsystem))
+
+-- what log pages and lists show; a further one is a field more
 abbrev pub pages_of : List ℕ → List Happening → Pages
-pages_of units happened = record { discovery = page_of units happened }
+pages_of units happened = record { discovery = page_of units happened; active = active_of units happened }
 
 -- ---- connections (TCP Transport 1.0, section 3)
 
@@ -164,15 +173,28 @@ registers_of (x ∷ before) c = registers_by (change_of x) c (registers_of befor
 
 abbrev pub beats_by : Change → ℕ → Bool
 beats_by (change.Begin b) c = c == b.controller.cntlid
-beats_by (change.KeepAlive d) c = c == d
+beats_by (change.KeepAlive s) c = c == s.cntlid
 beats_by change.Stay c = false
 beats_by (change.Join j) c = false
 beats_by (change.Configure s) c = false
 
--- the clock at its Connect or, where one came later, at its latest Keep Alive (Base 2.0, section 3.9)
+-- the clock at its Connect or, where one came later, at its latest Keep Alive or Set Features that set its timeout
+-- (Base 2.0, section 3.9)
 abbrev pub mark_of : List Happening → ℕ → ℕ
 mark_of [] c = 0
 mark_of (x ∷ before) c = if beats_by (change_of x) c then x.clock else mark_of before c
+
+abbrev pub kato_by : Change → ℕ → ℕ → ℕ
+kato_by (change.Begin b) c kato = if c == b.controller.cntlid then b.kato else kato
+kato_by (change.KeepAlive s) c kato = if c == s.cntlid then unwrap_or s.kato kato else kato
+kato_by change.Stay c kato = kato
+kato_by (change.Join j) c kato = kato
+kato_by (change.Configure s) c kato = kato
+
+-- its keep alive timeout, in ms: that of its Connect or, where one came later, of its latest Set Features that set it
+abbrev pub kato_of : List Happening → ℕ → ℕ
+kato_of [] c = 0
+kato_of (x ∷ before) c = kato_by (change_of x) c (kato_of before c)
 
 abbrev pub joins_by : Change → ℕ → ℕ → Bool
 joins_by (change.Join j) c qid = (c == j.cntlid) && (qid == j.qid)
@@ -204,12 +226,12 @@ row_with registers queue s = record s.row { ready = is_ready registers; qids = m
 abbrev pub row_of : List Happening → ℕ → Option Row
 row_of happened c = option_map (row_with (registers_of happened c) (has_queue happened c)) (start_of happened c)
 
-abbrev pub controller_with : Regs → ℕ → Start → Controller
-controller_with registers mark s = record { registers = registers; kato = s.beginning.kato; mark = mark }
+abbrev pub controller_with : Regs → ℕ → ℕ → Start → Controller
+controller_with registers kato mark s = record { registers = registers; kato = kato; mark = mark }
 
 -- what its own admin queue alone uses of it
 abbrev pub controller_of : List Happening → ℕ → Option Controller
-controller_of happened c = option_map (controller_with (registers_of happened c) (mark_of happened c)) (start_of happened c)
+controller_of happened c = option_map (controller_with (registers_of happened c) (kato_of happened c) (mark_of happened c)) (start_of happened c)
 
 -- ---- its stream
 

@@ -1,6 +1,7 @@
 -- Laws of histories.
 use Rattle.std.specs.Prelude.{◌≡◌, ◌≤◌, ℕ, ◌+◌, ◌%◌, Bool, true, false, ◌==◌, ◌||◌, ◌&&◌, List, [], ◌∷◌, Option, Some, None, IsSomeAnd, if◌then◌else◌}
-use Rattle.std.specs.Option.{option_map}
+use Rattle.admin_queue.specs.Controller.{AdminController}
+use Rattle.admin_queue.specs.Laws.{ToldAlike}
 use Rattle.config_edits.specs.declared.edit.Edit.{Edit}
 use Rattle.config_edits.specs.declared.edit.Edit.TheVariants.{PortDel}
 use Rattle.config_rules.specs.Configuration.{Configuration}
@@ -9,7 +10,6 @@ use Rattle.fabrics_connect.specs.declared.row.Row.{Row}
 use Rattle.fabrics_connect.specs.Command.{Parameters, parameters_of}
 use Rattle.fabrics_connect.specs.Connect.{is_served}
 use Rattle.fabrics_connect.specs.Controllers.{free_cntlid}
-use Rattle.fabrics_connect.specs.QueueIds.{no_queues}
 use Rattle.fabrics_connect.specs.Row.{has_queue as has_qid}
 use Rattle.nvt_fields.specs.declared.pdu_type.PduType.{PduType}
 use Rattle.nvt_fields.specs.declared.pdu_type.PduType.TheVariants.{CapsuleCmd}
@@ -21,7 +21,6 @@ use Rattle.target_decision.specs.declared.decision.Change.TheVariants as change
 use Rattle.target_decision.specs.declared.decision.Decision.TheVariants as decision
 use Rattle.target_decision.specs.declared.decision.Reply.{Reply}
 use Rattle.target_decision.specs.declared.decision.Setting.{Setting}
-use Rattle.target_decision.specs.declared.page.Page.{Page}
 use Rattle.target_decision.specs.declared.session.Conversation.{Conversation}
 use Rattle.target_decision.specs.declared.session.Role.{Role}
 use Rattle.target_decision.specs.declared.session.Role.TheVariants.{Admin, Io}
@@ -30,12 +29,11 @@ use Rattle.target_decision.specs.declared.session.Session.TheVariants.{Opened, I
 use Rattle.target_decision.specs.Begin.{bytes_at, entry_at}
 use Rattle.target_decision.specs.Capsule.{connect_type, fabrics_opcode, is_ready_at}
 use Rattle.target_decision.specs.Controller.{registers_at}
-use Rattle.target_decision.specs.Decision.{host_at}
-use Rattle.target_decision.specs.World.{Pages, World, page_named}
+use Rattle.target_decision.specs.World.{World, admin_controller}
 use Rattle.target_history.specs.Ending.{ends_timer}
 use Rattle.target_history.specs.Event.{Event, edited, front_in, gives_up, opened, opens, steps, stepped, given_up, ticked}
 use Rattle.target_history.specs.Happening.{Happening, change_of, decided, ending_of, ends, ends_live, responses}
-use Rattle.target_history.specs.History.{Admission, admission_of, clock_of, config_of, controller_of, conversation_of, happened, has_ended, is_known, is_live, mark_of, meets_after, page_of, port_of, responses_since, row_of, sent}
+use Rattle.target_history.specs.History.{Admission, active_of, admission_of, clock_of, config_of, controller_of, conversation_of, happened, has_ended, is_known, is_live, mark_of, meets_after, page_of, port_of, responses_since, row_of, sent}
 
 -- ---- what connections are sent
 
@@ -83,6 +81,8 @@ is_edit (ticked now) = false
 pub record PagesChangeByEdits : Type 0 where
   pub stays : (units : List ℕ) (x : Happening) (before : List Happening) (host : List ℕ) → is_edit x.event ≡ false
       → page_of units (x ∷ before) host ≡ page_of units before host
+  pub lists : (units : List ℕ) (x : Happening) (before : List Happening) (subsystem : List ℕ) (above : ℕ) → is_edit x.event ≡ false
+      → active_of units (x ∷ before) subsystem above ≡ active_of units before subsystem above
 
 -- the size of the queue that a Connect made, and 0 where there is none
 abbrev pub sqsize_of : Option Admission → ℕ
@@ -121,18 +121,18 @@ pub record ConnectAlike (v w : World) (port : ℕ) (p : Parameters) : Type 0 whe
   pub free : (p.qid == 0) ≡ true → free_cntlid v.row ≡ free_cntlid w.row
   pub named : (p.qid == 0) ≡ false → v.row p.cntlid ≡ w.row p.cntlid
 
--- each log page is the same for this host
-abbrev pub AreAlikeFor : List ℕ → Pages → Pages → Type 0
-AreAlikeFor host v w = (page : Page) → page_named page v host ≡ page_named page w host
+-- .. and what can be told of a controller that lives
+abbrev pub AreToldAlike : Option AdminController → World → World → Type 0
+AreToldAlike None v w = Unit {0}
+AreToldAlike (Some c) v w = ToldAlike c v.pages w.pages v.config w.config
 
--- .. and the admin queue of a controller its row, but for its I/O queues, its properties, and its host's pages
-abbrev pub without_queues : Row → Row
-without_queues row = record row { qids = no_queues }
-
+-- .. and the admin queue of a controller whether it is ready, its properties, its host, subsystem and timeout, and
+-- what can be told of it
 pub record AdminAlike (v w : World) (cntlid : ℕ) : Type 0 where
-  pub row : option_map without_queues (v.row cntlid) ≡ option_map without_queues (w.row cntlid)
+  pub ready : is_ready_at (v.row cntlid) ≡ is_ready_at (w.row cntlid)
   pub registers : registers_at (v.controller cntlid) ≡ registers_at (w.controller cntlid)
-  pub pages : AreAlikeFor (host_at (v.row cntlid)) v.pages w.pages
+  pub controller : admin_controller v cntlid ≡ admin_controller w cntlid
+  pub told : AreToldAlike (admin_controller v cntlid) v w
 
 -- .. and an I/O queue whether its controller is ready
 abbrev pub RoleAlike : World → World → Role → Type 0
