@@ -6,7 +6,7 @@ use rand_pcg::Pcg32;
 use std::alloc::{AllocError, Global};
 use test_edits::Line;
 
-const LISTS: u32 = 10;
+const LISTS: u32 = 25;
 
 const EDITS: u32 = 30;
 
@@ -100,5 +100,5 @@ fn lists_are_those_of_a_filter_and_sort(rt: HostRuntime) {
     for _ in 0..LISTS {
         agree &= agree_after_edits(rt.alloc(), &mut random, &mut seen);
     }
-    assert!(rt; agree && seen > 400);
+    assert!(rt; agree && seen > 1_000);
 }
