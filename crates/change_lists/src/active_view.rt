@@ -38,7 +38,7 @@ impl Model for Plan {
 }
 
 impl ActiveView {
-    /// The view of a configuration. The growths are those of its lists.
+    /// The view of a configuration, of which it keeps a copy.
     pub fn new(_alloc: Global, config: &Config) -> Result<ActiveView, AllocError>
         ensures { IfOk result (ShowsActive config.now) }
     {
