@@ -6,7 +6,7 @@ ghost use Rattle.identify_data.specs.Controller.{admin_attributes, capabilities}
 ghost use Rattle.identify_data.specs.Controller.{fabrics_attributes, nvm_attributes};
 ghost use Rattle.identify_data.specs.Fields.{with_fields};
 
-use crate::fields::{put_byte, put_dword, put_spaced, put_word, put_zeroed};
+use crate::fields::{clear, put_byte, put_dword, put_spaced, put_word, put_zeroed};
 use nvt_fields::DISCOVERY_NQN;
 
 const MODEL: &[u8; 15] = b"NVMe TCP Target";
@@ -77,12 +77,13 @@ impl<'a> ControllerIdentity<'a> {
 }
 
 /// Writes the Identify Controller data structure, of 4,096 bytes, whatever stood there.
+#[tactic(auto, using(crate::proofs::Parts::table_of))]
 pub fn controller(identity: &ControllerIdentity<'_>, out: &mut [u8])
     requires texts { TextsFit identity.now }
     requires len { length out.old ≡ 4096 }
     ensures { out.new ≡ controller_data identity.now }
 {
-    out.fill(0);
+    clear(out);
     put_capabilities(identity, out);
     put_admin_attributes(identity, out);
     put_nvm_attributes(identity, out);

@@ -4,16 +4,17 @@ ghost use Rattle.std.specs.Option.{option_copied};
 ghost use Rattle.identify_data.specs.Namespace.{lbads_of, namespace_data, namespace_fields};
 ghost use Rattle.identify_data.specs.Fields.{with_fields};
 
-use crate::fields::{put_byte, put_dword, put_qword};
+use crate::fields::{clear, put_byte, put_dword, put_qword};
 use config_lists::{BlockSize, Namespace};
 
 /// Writes the Identify Namespace data structure, of 4,096 bytes, whatever stood there. `None` is an
 /// identifier that is not active: zeros.
+#[tactic(auto, using(crate::proofs::Parts::table_of))]
 pub fn namespace(namespace: Option<&Namespace>, out: &mut [u8])
     requires { length out.old ≡ 4096 }
     ensures { out.new ≡ namespace_data (option_copied namespace.entry) }
 {
-    out.fill(0);
+    clear(out);
     if let Some(namespace) = namespace {
         put_fields(namespace, out);
     }
