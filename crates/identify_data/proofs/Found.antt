@@ -1,12 +1,12 @@
 -- The fields of each of the tables lie apart, so that they are found.
-use Rattle.std.proofs.Common.{◌≡◌, ℕ, ◌+◌, ◌≤◌, List, [], length, replicate, refl, arith, rules}
+use Rattle.std.proofs.Common.{◌≡◌, ◌+◌, ◌≤◌, [], length, replicate, refl, arith, rules}
 use Rattle.config_lists.specs.declared.namespace.Namespace.{Namespace}
 use Rattle.identify_data.specs.declared.controller_data.ControllerIdentity.{ControllerIdentity}
 use Rattle.identify_data.specs.declared.controller_data.ControllerIdentity.TheVariants.{Io, Discovery}
 use Rattle.nvt_fields.specs.Field.{padded}
 use Rattle.identify_data.specs.Controller.{TextsFit, controller_fields, serial_of, subnqn_of}
 use Rattle.identify_data.specs.Descriptors.{descriptor_fields}
-use Rattle.identify_data.specs.Fields.{Field, table}
+use Rattle.identify_data.specs.Fields.{table}
 use Rattle.identify_data.specs.Laws.{FieldsAreFound}
 use Rattle.identify_data.specs.Namespace.{namespace_fields}
 use Rattle.identify_data.proofs.Tables.{AreApart, shown}

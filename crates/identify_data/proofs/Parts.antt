@@ -1,5 +1,5 @@
 -- A table, written field by field over zeros.
-use Rattle.std.proofs.Common.{◌≡◌, ℕ, List, [], replicate, refl, ap, sym, ◌∙◌}
+use Rattle.std.proofs.Common.{◌≡◌, ℕ, List, [], replicate, refl, ap, ◌∙◌}
 use Rattle.identify_data.specs.Fields.{Field, table, with_fields}
 
 pub table_of : (fields : List Field) → table fields ≡ with_fields fields (table [])

@@ -1,5 +1,5 @@
 -- What is read back of the fields that are found.
-use Rattle.std.proofs.Common.{◌≡◌, ℕ, ◌+◌, ◌-◌, ◌*◌, ◌<◌, ◌≤◌, ◌^◌, Bool, true, false, not, List, [], ◌∷◌, ◌++◌, ◌==◌, ◌&&◌, zero, suc, length, get_or, take, drop, replicate, slice_index, slice_range, cond, refl, ap, sym, ◌∙◌, arith, subst, nat_lt, slice_get, Option, Some, None}
+use Rattle.std.proofs.Common.{◌≡◌, ℕ, ◌+◌, ◌-◌, ◌*◌, ◌<◌, ◌≤◌, ◌^◌, Bool, true, false, not, List, [], ◌∷◌, ◌++◌, ◌==◌, ◌&&◌, zero, suc, length, get_or, take, drop, replicate, slice_index, slice_range, cond, refl, ap, sym, ◌∙◌, arith, subst, nat_lt, slice_get, Some, None}
 use Rattle.std.proofs.lemmas.Grind.{common_steps}
 use Rattle.std.proofs.Math.Seq.{take-append_seam}
 use Rattle.std.proofs.lemmas.List.{get_or-drop, get_or-take, take-append-drop}

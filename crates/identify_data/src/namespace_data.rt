@@ -15,9 +15,10 @@ pub fn namespace(namespace: Option<&Namespace>, out: &mut [u8])
     ensures { out.new ≡ namespace_data (option_copied namespace.entry) }
 {
     clear(out);
-    if let Some(namespace) = namespace {
-        put_fields(namespace, out);
-    }
+    let Some(namespace) = namespace else {
+        return;
+    };
+    put_fields(namespace, out);
 }
 
 fn put_fields(namespace: &Namespace, out: &mut [u8])

@@ -2,5 +2,5 @@ use Rattle.identify_data.specs.Namespace.{namespace_fields}
 use Rattle.identify_data.proofs.Parts.{table_of}
 use Rattle.identify_data.proofs.namespace_data.namespace.Goals as goal
 
-pub returns-in-Some : goal.returns-in-Some
-returns-in-Some c = rw (c.in-Some.is, table_of (namespace_fields c.in-Some.namespace.now)) (cc)
+pub returns : goal.returns
+returns c = rw (c.in-Some.is, table_of (namespace_fields c.in-Some.namespace.now)) (cc)
