@@ -6,31 +6,41 @@ use Rattle.identify_data.specs.declared.controller_data.ControllerIdentity.{Cont
 use Rattle.identify_data.specs.declared.controller_data.ControllerIdentity.TheVariants.{Io, Discovery}
 use Rattle.identify_data.specs.Fields.{Field, at, byte, dword, table, word}
 
--- whether its texts fit their fields
-abbrev pub TextsFit : ControllerIdentity → Type 0
-TextsFit (Io cntlid serial subnqn) = (length serial.now ≤ 20) × (length subnqn.now ≤ 256)
-TextsFit (Discovery cntlid) = Unit {0}
+-- A controller, apart from where its texts lie: of a subsystem with namespaces, with its identifier, its serial number
+-- and the subsystem's name; or of the discovery subsystem, with its identifier.
+pub data Controller : Type 0 where
+  io : ℕ → List ℕ → List ℕ → Controller
+  discovery : ℕ → Controller
+
+abbrev pub controller_of : ControllerIdentity → Controller
+controller_of (Io cntlid serial subnqn) = io cntlid serial.now subnqn.now
+controller_of (Discovery cntlid) = discovery cntlid
+
+-- its texts fit their fields
+abbrev pub TextsFit : Controller → Type 0
+TextsFit (io cntlid serial subnqn) = (length serial ≤ 20) × (length subnqn ≤ 256)
+TextsFit (discovery cntlid) = Unit {0}
 
 -- CNTLID, SN and SUBNQN
-abbrev pub cntlid_of : ControllerIdentity → ℕ
-cntlid_of (Io cntlid serial subnqn) = cntlid
-cntlid_of (Discovery cntlid) = cntlid
+abbrev pub cntlid_of : Controller → ℕ
+cntlid_of (io cntlid serial subnqn) = cntlid
+cntlid_of (discovery cntlid) = cntlid
 
-abbrev pub serial_of : ControllerIdentity → List ℕ
-serial_of (Io cntlid serial subnqn) = serial.now
-serial_of (Discovery cntlid) = codes "DISCOVERY"
+abbrev pub serial_of : Controller → List ℕ
+serial_of (io cntlid serial subnqn) = serial
+serial_of (discovery cntlid) = codes "DISCOVERY"
 
-abbrev pub subnqn_of : ControllerIdentity → List ℕ
-subnqn_of (Io cntlid serial subnqn) = subnqn.now
-subnqn_of (Discovery cntlid) = discovery_nqn
+abbrev pub subnqn_of : Controller → List ℕ
+subnqn_of (io cntlid serial subnqn) = subnqn
+subnqn_of (discovery cntlid) = discovery_nqn
 
 -- the value on an I/O controller, and that on a discovery controller
-abbrev pub by_kind : {A : Type 0} → ControllerIdentity → A → A → A
-by_kind (Io cntlid serial subnqn) io discovery = io
-by_kind (Discovery cntlid) io discovery = discovery
+abbrev pub by_kind : {A : Type 0} → Controller → A → A → A
+by_kind (io cntlid serial subnqn) on_io on_discovery = on_io
+by_kind (discovery cntlid) on_io on_discovery = on_discovery
 
 -- Controller Capabilities and Features
-abbrev pub capabilities : ControllerIdentity → List Field
+abbrev pub capabilities : Controller → List Field
 capabilities c =
     at 4 (padded 20 0x20 (serial_of c))  -- SN
     ∷ at 24 (padded 40 0x20 (codes "NVMe TCP Target"))  -- MN
@@ -45,7 +55,7 @@ capabilities c =
     ∷ []
 
 -- Admin Command Set Attributes and Optional Controller Capabilities
-abbrev pub admin_attributes : ControllerIdentity → List Field
+abbrev pub admin_attributes : Controller → List Field
 admin_attributes c =
     at 259 (byte 3)  -- AERL
     ∷ at 261 (byte 0x04)  -- LPA
@@ -57,7 +67,7 @@ admin_attributes c =
     ∷ []
 
 -- NVM Command Set Attributes
-abbrev pub nvm_attributes : ControllerIdentity → List Field
+abbrev pub nvm_attributes : Controller → List Field
 nvm_attributes c =
     at 512 (byte (by_kind c 0x66 0))  -- SQES
     ∷ at 513 (byte (by_kind c 0x44 0))  -- CQES
@@ -71,15 +81,15 @@ nvm_attributes c =
     ∷ []
 
 -- Fabrics Specific
-abbrev pub fabrics_attributes : ControllerIdentity → List Field
+abbrev pub fabrics_attributes : Controller → List Field
 fabrics_attributes c =
     at 1792 (dword (by_kind c 516 0))  -- IOCCSZ
     ∷ at 1796 (dword (by_kind c 1 0))  -- IORCSZ
     ∷ at 1803 (byte 1)  -- MSDBD
     ∷ []
 
-abbrev pub controller_fields : ControllerIdentity → List Field
+abbrev pub controller_fields : Controller → List Field
 controller_fields c = capabilities c ++ (admin_attributes c ++ (nvm_attributes c ++ fabrics_attributes c))
 
-abbrev pub controller_data : ControllerIdentity → List ℕ
+abbrev pub controller_data : Controller → List ℕ
 controller_data c = table (controller_fields c)

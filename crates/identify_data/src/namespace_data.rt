@@ -9,7 +9,6 @@ use config_lists::{BlockSize, Namespace};
 
 /// Writes the Identify Namespace data structure, of 4,096 bytes, whatever stood there. `None` is an
 /// identifier that is not active: zeros.
-#[tactic(auto, using(crate::proofs::Parts::table_of))]
 pub fn namespace(namespace: Option<&Namespace>, out: &mut [u8])
     requires { length out.old ≡ 4096 }
     ensures { out.new ≡ namespace_data (option_copied namespace.entry) }
