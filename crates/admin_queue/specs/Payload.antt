@@ -5,7 +5,7 @@ use Rattle.config_lists.specs.declared.namespace.Namespace.{Namespace}
 use Rattle.config_lists.specs.declared.subsystem.Subsystem.{Subsystem}
 use Rattle.config_lists.specs.Namespace.{is_named}
 use Rattle.config_rules.specs.Configuration.{Configuration}
-use Rattle.identify_data.specs.Controller.{Identity, controller_data, discovery, io}
+use Rattle.identify_data.specs.Controller.{Controller, controller_data, discovery, io}
 use Rattle.identify_data.specs.Descriptors.{descriptor_list}
 use Rattle.identify_data.specs.Namespace.{namespace_data}
 use Rattle.nvt_fields.specs.Window.{window}
@@ -31,12 +31,12 @@ serial_at (Some s) = s.serial
 abbrev pub serial_in : Configuration → List ℕ → List ℕ
 serial_in config nqn = serial_at (find (λ s. bytes_eq s.nqn nqn) config.subsystems)
 
-abbrev pub identity_by : ℕ → Option (List ℕ) → Configuration → Identity
+abbrev pub identity_by : ℕ → Option (List ℕ) → Configuration → Controller
 identity_by cntlid None config = discovery cntlid
 identity_by cntlid (Some nqn) config = io cntlid (serial_in config nqn) nqn
 
 -- what tells the controller from others
-abbrev pub identity_of : Configuration → AdminController → Identity
+abbrev pub identity_of : Configuration → AdminController → Controller
 identity_of config c = identity_by c.cntlid c.subsystem config
 
 -- the namespace of this identifier in its subsystem

@@ -1,20 +1,20 @@
 -- The fields of each of the tables lie apart, so that they are found.
-use Rattle.std.proofs.Common.{◌≡◌, ℕ, ◌+◌, ◌≤◌, List, [], length, replicate, refl, arith, rules}
+use Rattle.std.proofs.Common.{◌≡◌, ◌+◌, ◌≤◌, [], length, replicate, refl, arith, rules}
 use Rattle.config_lists.specs.declared.namespace.Namespace.{Namespace}
 use Rattle.nvt_fields.specs.Field.{padded}
-use Rattle.identify_data.specs.Controller.{Identity, TextsFit, controller_fields, discovery, io, serial_of, subnqn_of}
+use Rattle.identify_data.specs.Controller.{Controller, io, discovery, TextsFit, controller_fields, serial_of, subnqn_of}
 use Rattle.identify_data.specs.Descriptors.{descriptor_fields}
-use Rattle.identify_data.specs.Fields.{Field, table}
+use Rattle.identify_data.specs.Fields.{table}
 use Rattle.identify_data.specs.Laws.{FieldsAreFound}
 use Rattle.identify_data.specs.Namespace.{namespace_fields}
 use Rattle.identify_data.proofs.Tables.{AreApart, shown}
 use Rattle.identify_data.proofs.Written.{length-padded}
 
-serial_fits : (c : Identity) → TextsFit c → length (padded 20 0x20 (serial_of c)) ≡ 20
+serial_fits : (c : Controller) → TextsFit c → length (padded 20 0x20 (serial_of c)) ≡ 20
 serial_fits (io cntlid serial subnqn) fits = length-padded 20 0x20 serial fits.0
 serial_fits (discovery cntlid) fits = refl
 
-pub subnqn_fits : (c : Identity) → TextsFit c → length (padded 256 0 (subnqn_of c)) ≡ 256
+pub subnqn_fits : (c : Controller) → TextsFit c → length (padded 256 0 (subnqn_of c)) ≡ 256
 subnqn_fits (io cntlid serial subnqn) fits = length-padded 256 0 subnqn fits.1
 subnqn_fits (discovery cntlid) fits = refl
 
@@ -24,7 +24,7 @@ namespace_apart n = search rules
 descriptors_apart : (n : Namespace) → length n.uuid ≡ 16 → AreApart 4096 0 (descriptor_fields n)
 descriptors_apart n whole = (omega arith, (omega arith, (omega arith, omega arith)))
 
-controller_apart : (c : Identity) → TextsFit c → AreApart 4096 0 (controller_fields c)
+controller_apart : (c : Controller) → TextsFit c → AreApart 4096 0 (controller_fields c)
 controller_apart c fits =
     let serial : 4 + length (padded 20 0x20 (serial_of c)) ≤ 24 = omega (arith, serial_fits c fits) in
     let subnqn : 768 + length (padded 256 0 (subnqn_of c)) ≤ 1792 = omega (arith, subnqn_fits c fits) in

@@ -1,5 +1,5 @@
 -- What is read back of the fields that are found.
-use Rattle.std.proofs.Common.{◌≡◌, ℕ, ◌+◌, ◌-◌, ◌*◌, ◌<◌, ◌≤◌, ◌^◌, Bool, true, false, not, List, [], ◌∷◌, ◌++◌, ◌==◌, ◌&&◌, zero, suc, length, get_or, take, drop, replicate, slice_index, slice_range, cond, refl, ap, sym, ◌∙◌, arith, subst, nat_lt, slice_get, Option, Some, None}
+use Rattle.std.proofs.Common.{◌≡◌, ℕ, ◌+◌, ◌-◌, ◌*◌, ◌<◌, ◌≤◌, ◌^◌, Bool, true, false, not, List, [], ◌∷◌, ◌++◌, ◌==◌, ◌&&◌, zero, suc, length, get_or, take, drop, replicate, slice_index, slice_range, cond, refl, ap, sym, ◌∙◌, arith, subst, nat_lt, slice_get, Some, None}
 use Rattle.std.proofs.lemmas.Grind.{common_steps}
 use Rattle.std.proofs.Math.Seq.{take-append_seam}
 use Rattle.std.proofs.lemmas.List.{get_or-drop, get_or-take, take-append-drop}
@@ -15,7 +15,7 @@ use Rattle.config_lists.specs.declared.namespace.Namespace.{Namespace}
 use Rattle.config_lists.specs.Namespace.{bytes_of}
 use Rattle.nvt_fields.specs.Field.{field_at, padded}
 use Rattle.nvt_fields.specs.Name.{IsName, up_to_zero}
-use Rattle.identify_data.specs.Controller.{Identity, TextsFit, by_kind, cntlid_of, controller_data, controller_fields, subnqn_of}
+use Rattle.identify_data.specs.Controller.{Controller, TextsFit, by_kind, cntlid_of, controller_data, controller_fields, subnqn_of}
 use Rattle.identify_data.specs.Descriptors.{descriptor_list}
 use Rattle.identify_data.specs.Fields.{Field, at, byte, dword, qword, word}
 use Rattle.identify_data.specs.Laws.{HostsReadBack, IsFound}
@@ -83,13 +83,13 @@ found_of structure (first ∷ fields) zero f found is = let same : first ≡ f =
 found_of structure (first ∷ fields) (suc k) f found is = found_of structure fields k f found.1 is
 
 -- of a controller and of a namespace
-of_controller : (c : Identity) → TextsFit c → (k : ℕ) (f : Field) → slice_get (controller_fields c) k ≡ Some f → IsFound (controller_data c) f
+of_controller : (c : Controller) → TextsFit c → (k : ℕ) (f : Field) → slice_get (controller_fields c) k ≡ Some f → IsFound (controller_data c) f
 of_controller c fits k f is = found_of (controller_data c) (controller_fields c) k f (fields_are_found.controllers c fits).found is
 
 of_namespace : (n : Namespace) (k : ℕ) (f : Field) → slice_get (namespace_fields n) k ≡ Some f → IsFound (namespace_data (Some n)) f
 of_namespace n k f is = found_of (namespace_data (Some n)) (namespace_fields n) k f (fields_are_found.namespaces n).found is
 
-subnqn_found : (c : Identity) → TextsFit c → slice_range (controller_data c) 768 1024 ≡ padded 256 0 (subnqn_of c)
+subnqn_found : (c : Controller) → TextsFit c → slice_range (controller_data c) 768 1024 ≡ padded 256 0 (subnqn_of c)
 subnqn_found c fits =
     let end : 1024 ≡ 768 + length (padded 256 0 (subnqn_of c)) = omega (arith, subnqn_fits c fits) in
     ap (λ e. slice_range (controller_data c) 768 e) end

@@ -6,42 +6,41 @@ use Rattle.identify_data.specs.declared.controller_data.ControllerIdentity.{Cont
 use Rattle.identify_data.specs.declared.controller_data.ControllerIdentity.TheVariants.{Io, Discovery}
 use Rattle.identify_data.specs.Fields.{Field, at, byte, dword, table, word}
 
--- What tells one controller from another: the identifier, serial number and subsystem name of an I/O controller, and
--- the identifier of a discovery controller.
-pub data Identity : Type 0 where
-  io : ℕ → List ℕ → List ℕ → Identity
-  discovery : ℕ → Identity
+-- A controller, apart from where its texts lie: of a subsystem with namespaces, with its identifier, its serial number
+-- and the subsystem's name; or of the discovery subsystem, with its identifier.
+pub data Controller : Type 0 where
+  io : ℕ → List ℕ → List ℕ → Controller
+  discovery : ℕ → Controller
 
--- the identity that is lent
-abbrev pub identity_in : ControllerIdentity → Identity
-identity_in (Io cntlid serial subnqn) = io cntlid serial.now subnqn.now
-identity_in (Discovery cntlid) = discovery cntlid
+abbrev pub controller_of : ControllerIdentity → Controller
+controller_of (Io cntlid serial subnqn) = io cntlid serial.now subnqn.now
+controller_of (Discovery cntlid) = discovery cntlid
 
--- whether its texts fit their fields
-abbrev pub TextsFit : Identity → Type 0
+-- its texts fit their fields
+abbrev pub TextsFit : Controller → Type 0
 TextsFit (io cntlid serial subnqn) = (length serial ≤ 20) × (length subnqn ≤ 256)
 TextsFit (discovery cntlid) = Unit {0}
 
 -- CNTLID, SN and SUBNQN
-abbrev pub cntlid_of : Identity → ℕ
+abbrev pub cntlid_of : Controller → ℕ
 cntlid_of (io cntlid serial subnqn) = cntlid
 cntlid_of (discovery cntlid) = cntlid
 
-abbrev pub serial_of : Identity → List ℕ
+abbrev pub serial_of : Controller → List ℕ
 serial_of (io cntlid serial subnqn) = serial
 serial_of (discovery cntlid) = codes "DISCOVERY"
 
-abbrev pub subnqn_of : Identity → List ℕ
+abbrev pub subnqn_of : Controller → List ℕ
 subnqn_of (io cntlid serial subnqn) = subnqn
 subnqn_of (discovery cntlid) = discovery_nqn
 
 -- the value on an I/O controller, and that on a discovery controller
-abbrev pub by_kind : {A : Type 0} → Identity → A → A → A
-by_kind (io cntlid serial subnqn) a b = a
-by_kind (discovery cntlid) a b = b
+abbrev pub by_kind : {A : Type 0} → Controller → A → A → A
+by_kind (io cntlid serial subnqn) on_io on_discovery = on_io
+by_kind (discovery cntlid) on_io on_discovery = on_discovery
 
 -- Controller Capabilities and Features
-abbrev pub capabilities : Identity → List Field
+abbrev pub capabilities : Controller → List Field
 capabilities c =
     at 4 (padded 20 0x20 (serial_of c))  -- SN
     ∷ at 24 (padded 40 0x20 (codes "NVMe TCP Target"))  -- MN
@@ -56,7 +55,7 @@ capabilities c =
     ∷ []
 
 -- Admin Command Set Attributes and Optional Controller Capabilities
-abbrev pub admin_attributes : Identity → List Field
+abbrev pub admin_attributes : Controller → List Field
 admin_attributes c =
     at 259 (byte 3)  -- AERL
     ∷ at 261 (byte 0x04)  -- LPA
@@ -68,7 +67,7 @@ admin_attributes c =
     ∷ []
 
 -- NVM Command Set Attributes
-abbrev pub nvm_attributes : Identity → List Field
+abbrev pub nvm_attributes : Controller → List Field
 nvm_attributes c =
     at 512 (byte (by_kind c 0x66 0))  -- SQES
     ∷ at 513 (byte (by_kind c 0x44 0))  -- CQES
@@ -82,15 +81,15 @@ nvm_attributes c =
     ∷ []
 
 -- Fabrics Specific
-abbrev pub fabrics_attributes : Identity → List Field
+abbrev pub fabrics_attributes : Controller → List Field
 fabrics_attributes c =
     at 1792 (dword (by_kind c 516 0))  -- IOCCSZ
     ∷ at 1796 (dword (by_kind c 1 0))  -- IORCSZ
     ∷ at 1803 (byte 1)  -- MSDBD
     ∷ []
 
-abbrev pub controller_fields : Identity → List Field
+abbrev pub controller_fields : Controller → List Field
 controller_fields c = capabilities c ++ (admin_attributes c ++ (nvm_attributes c ++ fabrics_attributes c))
 
-abbrev pub controller_data : Identity → List ℕ
+abbrev pub controller_data : Controller → List ℕ
 controller_data c = table (controller_fields c)

@@ -1,12 +1,12 @@
 //! The Identify Controller data structure (Base 2.0, section 5.17.2.1).
 ghost use Rattle.std.specs.Prelude.{◌≡◌, ◌≤◌, length};
-ghost use Rattle.identify_data.specs.Controller.{TextsFit, by_kind, cntlid_of, controller_data, identity_in};
-ghost use Rattle.identify_data.specs.Controller.{serial_of, subnqn_of};
+ghost use Rattle.identify_data.specs.Controller.{TextsFit, controller_data, controller_of};
+ghost use Rattle.identify_data.specs.Controller.{by_kind, cntlid_of, serial_of, subnqn_of};
 ghost use Rattle.identify_data.specs.Controller.{admin_attributes, capabilities};
 ghost use Rattle.identify_data.specs.Controller.{fabrics_attributes, nvm_attributes};
 ghost use Rattle.identify_data.specs.Fields.{with_fields};
 
-use crate::fields::{put_byte, put_dword, put_spaced, put_word, put_zeroed};
+use crate::fields::{clear, put_byte, put_dword, put_spaced, put_word, put_zeroed};
 use nvt_fields::DISCOVERY_NQN;
 
 const MODEL: &[u8; 15] = b"NVMe TCP Target";
@@ -34,7 +34,7 @@ pub enum ControllerIdentity<'a> {
 
 impl<'a> ControllerIdentity<'a> {
     fn cntlid(&self) -> u16
-        ensures { result ≡ cntlid_of (identity_in self.now) }
+        ensures { result ≡ cntlid_of (controller_of self.now) }
     {
         match *self {
             ControllerIdentity::Io { cntlid, .. } | ControllerIdentity::Discovery { cntlid } => {
@@ -44,8 +44,8 @@ impl<'a> ControllerIdentity<'a> {
     }
 
     fn serial(&self) -> &'a [u8]
-        requires { TextsFit (identity_in self.now) }
-        ensures value { result.now ≡ serial_of (identity_in self.now) }
+        requires { TextsFit (controller_of self.now) }
+        ensures value { result.now ≡ serial_of (controller_of self.now) }
         ensures bound { length result.now ≤ 20 }
     {
         match *self {
@@ -55,8 +55,8 @@ impl<'a> ControllerIdentity<'a> {
     }
 
     fn subnqn(&self) -> &'a [u8]
-        requires { TextsFit (identity_in self.now) }
-        ensures value { result.now ≡ subnqn_of (identity_in self.now) }
+        requires { TextsFit (controller_of self.now) }
+        ensures value { result.now ≡ subnqn_of (controller_of self.now) }
         ensures bound { length result.now ≤ 256 }
     {
         match *self {
@@ -67,7 +67,7 @@ impl<'a> ControllerIdentity<'a> {
 
     // The first value on an I/O controller, and the second on a discovery controller.
     fn by_kind<T: Copy>(&self, io: T, discovery: T) -> T
-        ensures { result ≡ by_kind (identity_in self.now) io discovery }
+        ensures { result ≡ by_kind (controller_of self.now) io discovery }
     {
         match *self {
             ControllerIdentity::Io { .. } => io,
@@ -78,11 +78,11 @@ impl<'a> ControllerIdentity<'a> {
 
 /// Writes the Identify Controller data structure, of 4,096 bytes, whatever stood there.
 pub fn controller(identity: &ControllerIdentity<'_>, out: &mut [u8])
-    requires texts { TextsFit (identity_in identity.now) }
+    requires texts { TextsFit (controller_of identity.now) }
     requires len { length out.old ≡ 4096 }
-    ensures { out.new ≡ controller_data (identity_in identity.now) }
+    ensures { out.new ≡ controller_data (controller_of identity.now) }
 {
-    out.fill(0);
+    clear(out);
     put_capabilities(identity, out);
     put_admin_attributes(identity, out);
     put_nvm_attributes(identity, out);
@@ -91,9 +91,9 @@ pub fn controller(identity: &ControllerIdentity<'_>, out: &mut [u8])
 
 // Controller Capabilities and Features.
 fn put_capabilities(identity: &ControllerIdentity<'_>, out: &mut [u8])
-    requires texts { TextsFit (identity_in identity.now) }
+    requires texts { TextsFit (controller_of identity.now) }
     requires len { length out.old ≡ 4096 }
-    ensures { out.new ≡ with_fields (capabilities (identity_in identity.now)) out.old }
+    ensures { out.new ≡ with_fields (capabilities (controller_of identity.now)) out.old }
 {
     put_spaced(out, 4, 20, identity.serial()); // SN
     put_spaced(out, 24, 40, MODEL); // MN
@@ -110,7 +110,7 @@ fn put_capabilities(identity: &ControllerIdentity<'_>, out: &mut [u8])
 // Admin Command Set Attributes and Optional Controller Capabilities.
 fn put_admin_attributes(identity: &ControllerIdentity<'_>, out: &mut [u8])
     requires { length out.old ≡ 4096 }
-    ensures { out.new ≡ with_fields (admin_attributes (identity_in identity.now)) out.old }
+    ensures { out.new ≡ with_fields (admin_attributes (controller_of identity.now)) out.old }
 {
     put_byte(out, 259, 3); // AERL
     put_byte(out, 261, 0x04); // LPA
@@ -123,9 +123,9 @@ fn put_admin_attributes(identity: &ControllerIdentity<'_>, out: &mut [u8])
 
 // NVM Command Set Attributes.
 fn put_nvm_attributes(identity: &ControllerIdentity<'_>, out: &mut [u8])
-    requires texts { TextsFit (identity_in identity.now) }
+    requires texts { TextsFit (controller_of identity.now) }
     requires len { length out.old ≡ 4096 }
-    ensures { out.new ≡ with_fields (nvm_attributes (identity_in identity.now)) out.old }
+    ensures { out.new ≡ with_fields (nvm_attributes (controller_of identity.now)) out.old }
 {
     put_byte(out, 512, identity.by_kind(0x66, 0)); // SQES
     put_byte(out, 513, identity.by_kind(0x44, 0)); // CQES
@@ -141,7 +141,7 @@ fn put_nvm_attributes(identity: &ControllerIdentity<'_>, out: &mut [u8])
 // Fabrics Specific.
 fn put_fabrics_attributes(identity: &ControllerIdentity<'_>, out: &mut [u8])
     requires { length out.old ≡ 4096 }
-    ensures { out.new ≡ with_fields (fabrics_attributes (identity_in identity.now)) out.old }
+    ensures { out.new ≡ with_fields (fabrics_attributes (controller_of identity.now)) out.old }
 {
     put_dword(out, 1792, identity.by_kind(516, 0)); // IOCCSZ
     put_dword(out, 1796, identity.by_kind(1, 0)); // IORCSZ

@@ -1,9 +1,17 @@
 //! Fields at their offsets in a data structure.
-ghost use Rattle.std.specs.Prelude.{◌≡◌, ◌+◌, ◌≤◌, length};
+ghost use Rattle.std.specs.Prelude.{◌≡◌, ◌+◌, ◌≤◌, [], length};
 ghost use Rattle.nvt_fields.specs.Field.{padded};
-ghost use Rattle.identify_data.specs.Fields.{byte, dword, qword, with_bytes, word};
+ghost use Rattle.identify_data.specs.Fields.{byte, dword, qword, table, with_bytes, word};
 
 use nvt_fields::{write_spaced, write_zeroed};
+
+/// Writes zeros: the structure before any field.
+pub(crate) fn clear(structure: &mut [u8])
+    requires { length structure.old ≡ 4096 }
+    ensures { structure.new ≡ table [] }
+{
+    structure.fill(0);
+}
 
 /// Writes a field's bytes at its offset.
 pub(crate) fn put(structure: &mut [u8], offset: usize, bytes: &[u8])
@@ -46,6 +54,7 @@ pub(crate) fn put_qword(structure: &mut [u8], offset: usize, n: u64)
 }
 
 /// Writes a text at the offset of its field, and spaces up to the field's length.
+#[tactic(auto, using(crate::proofs::Written::padded_with_bytes))]
 pub(crate) fn put_spaced(structure: &mut [u8], offset: usize, len: usize, text: &[u8])
     requires fits { length text.now ≤ len }
     requires room { offset + len ≤ length structure.old }
@@ -55,6 +64,7 @@ pub(crate) fn put_spaced(structure: &mut [u8], offset: usize, len: usize, text: 
 }
 
 /// Writes a name at the offset of its field, and zeros up to the field's length.
+#[tactic(auto, using(crate::proofs::Written::padded_with_bytes))]
 pub(crate) fn put_zeroed(structure: &mut [u8], offset: usize, len: usize, name: &[u8])
     requires fits { length name.now ≤ len }
     requires room { offset + len ≤ length structure.old }

@@ -4,7 +4,7 @@ ghost use Rattle.std.specs.Option.{option_copied};
 ghost use Rattle.identify_data.specs.Namespace.{lbads_of, namespace_data, namespace_fields};
 ghost use Rattle.identify_data.specs.Fields.{with_fields};
 
-use crate::fields::{put_byte, put_dword, put_qword};
+use crate::fields::{clear, put_byte, put_dword, put_qword};
 use config_lists::{BlockSize, Namespace};
 
 /// Writes the Identify Namespace data structure, of 4,096 bytes, whatever stood there. `None` is an
@@ -13,10 +13,11 @@ pub fn namespace(namespace: Option<&Namespace>, out: &mut [u8])
     requires { length out.old ≡ 4096 }
     ensures { out.new ≡ namespace_data (option_copied namespace.entry) }
 {
-    out.fill(0);
-    if let Some(namespace) = namespace {
-        put_fields(namespace, out);
-    }
+    clear(out);
+    let Some(namespace) = namespace else {
+        return;
+    };
+    put_fields(namespace, out);
 }
 
 fn put_fields(namespace: &Namespace, out: &mut [u8])

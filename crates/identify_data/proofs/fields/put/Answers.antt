@@ -1,5 +1,4 @@
-use Rattle.std.proofs.Common.{length, take, drop, ◌+◌, ◌-◌, ap, ◌∙◌, ◌≡◌, refl, length-take, length-drop}
-use Rattle.identify_data.specs.Fields.{with_bytes}
+use Rattle.std.proofs.Common.{length, refl}
 use Rattle.identify_data.proofs.Written.{put_mid-with_bytes}
 use Rattle.identify_data.proofs.fields.put.Goals as goal
 
