@@ -21,7 +21,8 @@ use Rattle.target_core.specs.Target.{TargetState, conversation_at, meets, IsNewT
 use Rattle.target_decision.specs.declared.controller.Controller.{Controller}
 use Rattle.target_decision.specs.declared.session.Conversation.{Conversation}
 use Rattle.target_decision.specs.Decision.{consumed_of}
-use Rattle.target_decision.specs.World.{Pages, World, connections_max}
+use Rattle.admin_queue.specs.Pages.{Pages}
+use Rattle.target_decision.specs.World.{World, connections_max}
 use Rattle.target_history.specs.Event.{Event, edited, port_in, front_in, gives_up, opened, opens, steps, stepped, given_up, ticked}
 use Rattle.target_history.specs.Happening.{Happening, clock_after, config_after, controller_after, conversation_after, conversation_moved, row_after, sends}
 use Rattle.target_history.specs.History.{config_of, conversation_of, happened, last_front, meets_after, pdus_of, sent, with_pdu, world_of}

@@ -1,28 +1,39 @@
 -- The views go on as the history does.
 use Rattle.std.proofs.Common.{◌≡◌, ℕ, List, [], ◌∷◌, Result, Ok, refl, sym, ap, ◌∙◌}
 use Rattle.std.proofs.Math.Path.{fun_ext}
+use Rattle.admin_queue.specs.Pages.{Pages}
+use Rattle.change_lists.specs.ActiveView.{active_page}
+use Rattle.discovery_view.specs.View.{page_in}
 use Rattle.discovery_view.proofs.Counts.{count_goes_on}
 use Rattle.config_rules.specs.Configuration.{Configuration, disks_alone}
 use Rattle.config_edits.specs.declared.fault.EditFault.{EditFault}
 use Rattle.target_core.specs.declared.views.Plans.{Plans}
 use Rattle.target_core.specs.Views.{ArePlansOf, ShowAfter, ShowFirst, ShowHistory, ShowNext, ShowPlanned, ViewsShown, pages_shown}
-use Rattle.target_decision.specs.World.{Pages}
 use Rattle.target_history.specs.Event.{Event, edited, opened, stepped, given_up, ticked}
 use Rattle.target_history.specs.Happening.{Happening, config_after}
-use Rattle.target_history.specs.History.{config_of, generation_of, pages_of}
+use Rattle.target_history.specs.History.{active_of, config_of, generation_of, page_of, pages_of}
 
 -- what was planned is what the edit makes
 pub planned_next : (made : Result Configuration EditFault) (plans : Plans) (c : Configuration) (old new : ViewsShown)
     → ArePlansOf made plans → made ≡ Ok c → ShowPlanned plans old new → ShowNext c old new
 planned_next made plans c old new are makes planned =
-    let same : plans.discovery ≡ c = cc in
-    record { discovery = rw same at planned.discovery }
+    let same : plans.discovery ≡ c = by made plans.discovery c are.discovery makes in
+    let also : plans.active ≡ c = by made plans.active c are.active makes in
+    record { discovery = rw same at planned.discovery; active = rw also at planned.active }
+  where
+    by : (made : Result Configuration EditFault) (d c : Configuration) → made ≡ Ok d → made ≡ Ok c → d ≡ c
+    by made d c h k = cc
+
+both : (a b : List ℕ → List ℕ) (c d : List ℕ → ℕ → List ℕ) → a ≡ b → c ≡ d
+    → (let p : Pages = record { discovery = a; active = c } in p) ≡ (let p : Pages = record { discovery = b; active = d } in p)
+both a b c d h k = rw (h, k) refl
 
 -- the pages of views that show a history
 pub pages_agree : (v : ViewsShown) (units : List ℕ) (before : List Happening) → ShowHistory v units before → pages_shown v ≡ pages_of units before
 pages_agree v units before show =
-    ap (λ (a : List ℕ → List ℕ). let p : Pages = record { discovery = a } in p)
+    both (page_in v.discovery) (page_of units before) (active_page v.active) (active_of units before)
     (fun_ext (λ host. rw (show.counts host, show.records host) refl))
+    (fun_ext (λ subsystem. fun_ext (λ above. rw (show.nsids subsystem) refl)))
 
 stays : (old new : ViewsShown) (units : List ℕ) (before after : List Happening) → config_of units after ≡ config_of units before
     → generation_of units after ≡ generation_of units before → new ≡ old → ShowHistory old units before → ShowHistory new units after
@@ -30,6 +41,7 @@ stays old new units before after config generation same show =
     rw same (record {
       records = λ host. rw config (show.records host);
       counts = λ host. rw generation (show.counts host);
+      nsids = λ subsystem. rw config (show.nsids subsystem);
     })
 
 -- what an event would have been
@@ -47,6 +59,7 @@ views_step x old new units before after show = by x.event after where
     counts = λ host. after.discovery.counts host
         ∙ rw (after.discovery.records host, show.records host, show.counts host)
         (sym (count_goes_on (config_of units before) (config_after (edited edit) (config_of units before)) host (generation_of units before host)));
+    nsids = λ subsystem. after.active.nsids subsystem;
   }
   by (opened port k) after = stays old new units before (over x (opened port k) ∷ before) refl refl after show
   by (stepped k found) after = stays old new units before (over x (stepped k found) ∷ before) refl refl after show
@@ -54,4 +67,4 @@ views_step x old new units before after show = by x.event after where
   by (ticked now) after = stays old new units before (over x (ticked now) ∷ before) refl refl after show
 
 pub new_show : (v : ViewsShown) (units : List ℕ) → ShowFirst (disks_alone units) v → ShowHistory v units []
-new_show v units first = record { records = first.discovery.records; counts = first.discovery.counts }
+new_show v units first = record { records = first.discovery.records; counts = first.discovery.counts; nsids = first.active.nsids }

@@ -1,5 +1,6 @@
 -- The controllers that live, as the calls of a target see them.
 use Rattle.std.specs.Prelude.{◌≡◌, ◌<◌, ℕ, Bool, false, true, List, length, replicate, slice_index_or, Option, Some, None, is_none, is_some}
+use Rattle.admin_queue.specs.Pages.{Pages}
 use Rattle.config_rules.specs.Configuration.{Configuration}
 use Rattle.fabrics_connect.specs.declared.row.Row.{Row}
 use Rattle.fabrics_connect.specs.Controllers.{CanBegin, no_controllers}
@@ -7,7 +8,7 @@ use Rattle.number_table.specs.Table.{place}
 use Rattle.target_decision.specs.declared.controller.Controller.{Controller}
 use Rattle.target_decision.specs.declared.decision.Change.{Change}
 use Rattle.target_decision.specs.declared.decision.Change.TheVariants as change
-use Rattle.target_decision.specs.World.{Pages, World}
+use Rattle.target_decision.specs.World.{World}
 use Rattle.target_history.specs.declared.ending.Ending.{Ending}
 use Rattle.target_history.specs.Ending.{ends_controller}
 
@@ -61,4 +62,4 @@ CanChange (change.Begin b) row t = CanStart b.controller.cntlid row t
 CanChange change.Stay row t = Unit {0}
 CanChange (change.Join j) row t = Unit {0}
 CanChange (change.Configure s) row t = Unit {0}
-CanChange (change.KeepAlive cntlid) row t = Unit {0}
+CanChange (change.KeepAlive start) row t = Unit {0}

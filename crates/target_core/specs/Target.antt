@@ -18,7 +18,8 @@ use Rattle.target_core.specs.Views.{ShowFirst, ViewsShown, pages_shown}
 use Rattle.target_decision.specs.declared.controller.Controller.{Controller}
 use Rattle.target_decision.specs.declared.session.Conversation.{Conversation}
 use Rattle.target_decision.specs.Session.{is_ended}
-use Rattle.target_decision.specs.World.{Pages, World, connections_max}
+use Rattle.admin_queue.specs.Pages.{Pages}
+use Rattle.target_decision.specs.World.{World, connections_max}
 use Rattle.target_history.specs.Event.{Event}
 use Rattle.target_history.specs.Happening.{Happening}
 

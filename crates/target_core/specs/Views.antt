@@ -1,12 +1,14 @@
 -- The views that log pages are written from, as the target sees them.
 use Rattle.std.specs.Prelude.{◌≡◌, ◌≤◌, ℕ, ◌%◌, ◌^◌, List, Result, Ok}
+use Rattle.admin_queue.specs.Pages.{Pages}
+use Rattle.change_lists.specs.ActiveView.{Shown as ActiveShown, ShowsActive, active_page, nsids_in}
+use Rattle.config_words.specs.Numbered.{active_nsids}
 use Rattle.discovery_view.specs.Records.{records_of}
 use Rattle.discovery_view.specs.View.{Shown, ShowsFirst, ShowsNext, count_in, page_in, records_in}
 use Rattle.config_rules.specs.Configuration.{Configuration}
 use Rattle.config_edits.specs.declared.fault.EditFault.{EditFault}
 use Rattle.target_core.specs.declared.views.Plans.{Plans}
 use Rattle.target_core.specs.declared.views.Views.{Views}
-use Rattle.target_decision.specs.World.{Pages}
 use Rattle.target_history.specs.Event.{Event, edited, opened, stepped, given_up, ticked}
 use Rattle.target_history.specs.Happening.{Happening}
 use Rattle.target_history.specs.History.{config_of, generation_of}
@@ -14,25 +16,29 @@ use Rattle.target_history.specs.History.{config_of, generation_of}
 -- what each view shows; a further log page is a field more, here and below
 pub record ViewsShown : Type 0 where
   pub discovery : Shown
+  pub active : ActiveShown
 
 abbrev pub shown_by : Views → ViewsShown
-shown_by v = record { discovery = v.discovery.shown }
+shown_by v = record { discovery = v.discovery.shown; active = v.active }
 
--- the log pages of each host
+-- the log pages of each host, and the lists of each subsystem
 abbrev pub pages_shown : ViewsShown → Pages
-pages_shown v = record { discovery = page_in v.discovery }
+pages_shown v = record { discovery = page_in v.discovery; active = active_page v.active }
 
 -- they show this configuration, which no edit has changed yet
 pub record ShowFirst (c : Configuration) (v : ViewsShown) : Type 0 where
   pub discovery : ShowsFirst c v.discovery
+  pub active : ShowsActive c v.active
 
 -- they have gone over to this configuration, which an edit made
 pub record ShowNext (c : Configuration) (old new : ViewsShown) : Type 0 where
   pub discovery : ShowsNext c old.discovery new.discovery
+  pub active : ShowsActive c new.active
 
 -- these are the plans of going over to what an edit makes
 pub record ArePlansOf (made : Result Configuration EditFault) (plans : Plans) : Type 0 where
   pub discovery : made ≡ Ok plans.discovery
+  pub active : made ≡ Ok plans.active
 
 -- all that a plan wants of memory is there
 pub record AreReady (v : Views) : Type 0 where
@@ -41,6 +47,7 @@ pub record AreReady (v : Views) : Type 0 where
 -- they have gone over to what was planned
 pub record ShowPlanned (plans : Plans) (old new : ViewsShown) : Type 0 where
   pub discovery : ShowsNext plans.discovery old.discovery new.discovery
+  pub active : ShowsActive plans.active new.active
 
 -- what they show after an event, with the configuration after it: it changes by edits alone
 abbrev pub ShowAfter : Event → Configuration → ViewsShown → ViewsShown → Type 0
@@ -51,7 +58,8 @@ ShowAfter (given_up n) c old new = new ≡ old
 ShowAfter (ticked now) c old new = new ≡ old
 
 -- they show what a history says: the discovery view each host the records of the configuration, and the
--- number of the edits that changed them
+-- number of the edits that changed them; the list of active namespaces those of the configuration
 pub record ShowHistory (v : ViewsShown) (units : List ℕ) (happened : List Happening) : Type 0 where
   pub records : (host : List ℕ) → records_in v.discovery host ≡ records_of (config_of units happened) host
   pub counts : (host : List ℕ) → count_in v.discovery host ≡ generation_of units happened host % 2 ^ 64
+  pub nsids : (subsystem : List ℕ) → nsids_in v.active subsystem ≡ active_nsids (config_of units happened).namespaces subsystem

@@ -73,7 +73,6 @@ impl Connection {
     /// Does what was decided on this front. All growth comes first: want of memory changes nothing.
     pub(crate) fn act(
         &mut self,
-        alloc: Global,
         world: &World<'_>,
         decision: &Decision,
         front: &Cut<'_>,
@@ -84,7 +83,6 @@ impl Connection {
         ensures err { OnErr result (self.new ≡ self.old) }
     {
         perform(
-            alloc,
             world,
             &mut self.conversation.session,
             &mut self.output,

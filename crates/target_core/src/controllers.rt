@@ -5,15 +5,17 @@ ghost use Rattle.std.specs.Option.{option_map};
 ghost use Rattle.number_table.specs.Table.{place};
 ghost use Rattle.target_core.specs.Controllers.{AreTables, CanChange, IsNewTables, gone_by, is_gone, world_with};
 ghost use Rattle.target_decision.specs.declared.decision.Change.TheVariants as change;
-ghost use Rattle.target_decision.specs.World.{pages_in, world_in};
+ghost use Rattle.admin_queue.specs.Pages.{pages_in};
+ghost use Rattle.target_decision.specs.World.{world_in};
 ghost use Rattle.target_history.specs.Happening.{change_decided, controller_changed, ready_after, row_changed, row_kept};
 
+use admin_queue::Pages;
 use fabrics_connect::{Controllers, Row};
 use number_table::NumberTable;
 use nvt_config::Config;
 use std::alloc::{AllocError, Global};
 use std::marker::Model;
-use target_decision::{Change, Controller, Decision, Pages, Setting, World};
+use target_decision::{Change, Controller, Decision, Setting, TimerStart, World};
 use target_history::Ending;
 
 /// A place for each controller identifier, from 1 to 32, and for 0, which is never given.
@@ -99,7 +101,7 @@ impl ControllerTables {
                 let ready = configure(&mut self.own, setting);
                 self.rows.set_ready(setting.cntlid, ready);
             }
-            (Change::KeepAlive(cntlid), _) => keep_alive(&mut self.own, *cntlid, now),
+            (Change::KeepAlive(start), _) => keep_alive(&mut self.own, start, now),
             _ => {}
         }
     }
@@ -179,13 +181,14 @@ fn configure(own: &mut NumberTable<Controller>, setting: &Setting) -> bool
     }
 }
 
-fn keep_alive(own: &mut NumberTable<Controller>, cntlid: u16, now: u64)
+// Starts the Keep Alive Timer of a controller again, if it is there.
+fn keep_alive(own: &mut NumberTable<Controller>, start: &TimerStart, now: u64)
     ensures each { (c : ℕ) → place own.new c
-        ≡ controller_changed (change.KeepAlive cntlid) now c (place own.old c) }
+        ≡ controller_changed (change.KeepAlive start.now) now c (place own.old c) }
     ensures places { length own.new ≡ length own.old }
 {
-    if let Some(controller) = own.get_mut(usize::from(cntlid)) {
-        controller.keep_alive(now);
+    if let Some(controller) = own.get_mut(usize::from(start.cntlid)) {
+        controller.keep_alive(start.kato, now);
     }
 }
 

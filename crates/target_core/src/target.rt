@@ -402,7 +402,7 @@ fn act(
         return Ok(None);
     };
     let row = new_row(alloc, connection.conversation().port, decision, front)?;
-    connection.act(alloc, world, decision, front)?;
+    connection.act(world, decision, front)?;
     Ok(row)
 }
 

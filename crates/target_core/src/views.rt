@@ -1,24 +1,27 @@
-//! The views that log pages are written from. They follow the edits.
+//! The views that log pages and lists are written from. They follow the edits.
 ghost use Rattle.std.specs.Prelude.{◌≡◌, IfOk, IsOk, OnOk};
 ghost use Rattle.config_rules.specs.Accept.{accept};
 ghost use Rattle.target_core.specs.Views.{ArePlansOf, AreReady, ShowFirst, ShowPlanned, pages_shown, shown_by};
-ghost use Rattle.target_decision.specs.World.{pages_in};
+ghost use Rattle.admin_queue.specs.Pages.{pages_in};
 
-use discovery_view::{DiscoveryView, Plan};
+use admin_queue::Pages;
+use change_lists::{ActiveView, Plan as ActivePlan};
+use discovery_view::{DiscoveryView, Plan as DiscoveryPlan};
 use nvt_config::{Config, Edit};
 use std::alloc::{AllocError, Global};
-use target_decision::Pages;
 
-/// A view for each log page. A further page is a field more.
+/// A view for each log page and each list. A further one is a field more.
 #[derive(Drop)]
 pub(crate) struct Views {
     discovery: DiscoveryView,
+    active: ActiveView,
 }
 
 /// What an edit will make of the views.
 #[derive(Drop)]
 pub(crate) struct Plans {
-    discovery: Plan,
+    discovery: DiscoveryPlan,
+    active: ActivePlan,
 }
 
 impl Views {
@@ -28,6 +31,7 @@ impl Views {
     {
         Ok(Views {
             discovery: DiscoveryView::new(alloc, config)?,
+            active: ActiveView::new(alloc, config)?,
         })
     }
 
@@ -40,7 +44,8 @@ impl Views {
         ensures kept { shown_by self.new ≡ shown_by self.old }
     {
         let discovery = self.discovery.prepare(config, edit)?;
-        Ok(Plans { discovery })
+        let active = self.active.prepare(config, edit)?;
+        Ok(Plans { discovery, active })
     }
 
     /// Goes over to what was prepared last. Takes no memory.
@@ -48,8 +53,9 @@ impl Views {
         requires { AreReady self.old }
         ensures { ShowPlanned plans (shown_by self.old) (shown_by self.new) }
     {
-        let Plans { discovery } = plans;
+        let Plans { discovery, active } = plans;
         self.discovery.commit(discovery);
+        self.active.commit(active);
     }
 
     /// What replies are written from.
@@ -58,6 +64,7 @@ impl Views {
     {
         Pages {
             discovery: &self.discovery,
+            active: &self.active,
         }
     }
 }
