@@ -1,12 +1,12 @@
 -- The fields of each of the tables lie apart, so that they are found.
-use Rattle.std.proofs.Common.{◌≡◌, ◌+◌, ◌≤◌, [], length, replicate, refl, arith, rules}
+use Rattle.std.proofs.Common.{None, ◌≡◌, ◌+◌, ◌≤◌, length, replicate, refl, arith, rules}
 use Rattle.config_lists.specs.declared.namespace.Namespace.{Namespace}
 use Rattle.nvt_fields.specs.Field.{padded}
-use Rattle.identify_data.specs.Controller.{Controller, io, discovery, TextsFit, controller_fields, serial_of, subnqn_of}
-use Rattle.identify_data.specs.Descriptors.{descriptor_fields}
+use Rattle.identify_data.specs.Controller.{Controller, io, discovery, TextsFit, controller_data, controller_fields, serial_of, subnqn_of}
+use Rattle.identify_data.specs.Descriptors.{descriptor_fields, descriptor_list}
 use Rattle.identify_data.specs.Fields.{table}
 use Rattle.identify_data.specs.Laws.{FieldsAreFound}
-use Rattle.identify_data.specs.Namespace.{namespace_fields}
+use Rattle.identify_data.specs.Namespace.{namespace_data, namespace_fields}
 use Rattle.identify_data.proofs.Tables.{AreApart, shown}
 use Rattle.identify_data.proofs.Written.{length-padded}
 
@@ -30,11 +30,12 @@ controller_apart c fits =
     let subnqn : 768 + length (padded 256 0 (subnqn_of c)) ≤ 1792 = omega (arith, subnqn_fits c fits) in
     search (rules, serial, subnqn)
 
-no_fields : table [] ≡ replicate 4096 0
-unfolding table
+no_fields : namespace_data None ≡ replicate 4096 0
+unfolding namespace_data table
 no_fields = refl
 
 pub fields_are_found : FieldsAreFound
+unfolding controller_data namespace_data descriptor_list
 fields_are_found = record {
   controllers = λ c fits. shown (controller_fields c) (controller_apart c fits);
   namespaces = λ n. shown (namespace_fields n) (namespace_apart n);

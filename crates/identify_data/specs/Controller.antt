@@ -91,5 +91,5 @@ fabrics_attributes c =
 abbrev pub controller_fields : Controller → List Field
 controller_fields c = capabilities c ++ (admin_attributes c ++ (nvm_attributes c ++ fabrics_attributes c))
 
-abbrev pub controller_data : Controller → List ℕ
+unfoldable pub controller_data : Controller → List ℕ
 controller_data c = table (controller_fields c)

@@ -11,5 +11,5 @@ descriptor_fields n =
     ∷ at 4 n.uuid  -- NID
     ∷ []
 
-abbrev pub descriptor_list : Namespace → List ℕ
+unfoldable pub descriptor_list : Namespace → List ℕ
 descriptor_list n = table (descriptor_fields n)

@@ -23,6 +23,6 @@ namespace_fields n =
     ∷ []
 
 -- zeros for an identifier that no namespace has
-abbrev pub namespace_data : Option Namespace → List ℕ
+unfoldable pub namespace_data : Option Namespace → List ℕ
 namespace_data (Some n) = table (namespace_fields n)
 namespace_data None = table []

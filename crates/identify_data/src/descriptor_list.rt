@@ -13,7 +13,7 @@ const UUID_LEN: u8 = 0x10;
 
 /// Writes the list of the descriptors of a namespace, of 4,096 bytes, whatever stood there: one, its
 /// UUID.
-#[tactic(auto, using(crate::proofs::Parts::table_of))]
+#[tactic(auto, using(crate::proofs::Parts::table_of), unfolding(crate::specs::Descriptors::descriptor_list))]
 pub fn descriptors(namespace: &Namespace, out: &mut [u8])
     requires { length out.old ≡ 4096 }
     ensures { out.new ≡ descriptor_list namespace.now }

@@ -9,6 +9,7 @@ use config_lists::{BlockSize, Namespace};
 
 /// Writes the Identify Namespace data structure, of 4,096 bytes, whatever stood there. `None` is an
 /// identifier that is not active: zeros.
+#[tactic(auto, unfolding(crate::specs::Namespace::namespace_data))]
 pub fn namespace(namespace: Option<&Namespace>, out: &mut [u8])
     requires { length out.old ≡ 4096 }
     ensures { out.new ≡ namespace_data (option_copied namespace.entry) }
