@@ -1,5 +1,6 @@
 -- The lines of a file, taken in turn.
-use Rattle.std.proofs.Common.{◌≡◌, ℕ, ◌+◌, ◌-◌, ◌*◌, ◌<◌, MatchResult, IsOk, List, [], ◌∷◌, ◌++◌, length, suc, get_or, get_or-drop, take, drop, length-drop, refl, sym, ap, subst, ◌∙◌, arith, true, inl, inr, Result, Ok, Err}
+use Rattle.std.proofs.Common.{◌≡◌, ℕ, ◌+◌, ◌-◌, ◌*◌, ◌<◌, MatchResult, IsOk, List, [], ◌∷◌, ◌++◌, length, suc, get_or, get_or-drop, take, drop, length-drop, refl, sym, ap, subst, ◌∙◌, arith, Bool, true, false, inl, inr, Result, Ok, Err}
+use Rattle.std.specs.Bool.{OnFalse}
 use Rattle.std.specs.List.{All, AllPass}
 use Rattle.hex.specs.Hex.{decode_sized, is_hex_digit}
 use Rattle.hex.specs.declared.error.FromHexError.{FromHexError}
@@ -133,3 +134,17 @@ is_decoded text n out result value fits = by (decode_sized text n) refl value wh
       → MatchResult r (λ bytes. (result ≡ Ok tt) × (out ≡ bytes)) (λ e. result ≡ Err e) → IsOk result
   by (Ok bytes) is value = rw value.0 refl
   by (Err e) is value = let failed : Result (List ℕ) FromHexError = Err e in let fails : IsOk failed = rw is at ((IsOk-decode_sized text n).1 fits) in cc
+
+-- what a fault says of lines of edits it says of the edits of a target with these disks
+pub lines_refused : (fault : ReplayFault) (edits units : List ℕ) (c : Configuration) → c ≡ disks_alone units → are_disks units ≡ true
+    → RefusesLines fault (lines_of edits) c → RefusesEdits fault edits units
+lines_refused (fault.EditLine n reply) edits units c new disks h = (disks, rw new at h)
+lines_refused (fault.StreamLine n) edits units c new disks h = absurd h
+lines_refused fault.Memory edits units c new disks h = tt
+lines_refused fault.Io edits units c new disks h = absurd h
+lines_refused fault.Disks edits units c new disks h = absurd h
+
+-- what is refused where a test fails, and is not refused, passes it
+pub passed : {T E : Type 0} (test : Bool) (r : Result T E) (fault : E) (t : T) → OnFalse test (r ≡ Err fault) → r ≡ Ok t → test ≡ true
+passed true r fault t refused made = refl
+passed false r fault t refused made = cc
