@@ -5,16 +5,16 @@ use nvt_config::Access;
 use std::alloc::Global;
 use test_edits::Line;
 
-/// What a test does, or expects.
+// What a test does, or expects.
 #[derive(Clone, Copy)]
 enum Step {
-    /// An edit that is accepted.
+    // An edit that is accepted.
     Make(Change),
-    /// An edit that is accepted, of which only a plan is made.
+    // An edit that is accepted, of which only a plan is made.
     Plan(Change),
-    /// The list of that subsystem above that identifier begins with these bytes, and zeros are behind.
+    // The list of that subsystem above that identifier begins with these bytes, and zeros are behind.
     Shows(&'static [u8], u32, &'static [u8]),
-    /// The part of A's list above 1 that so many bytes hold.
+    // The part of A's list above 1 that so many bytes hold.
     Begins(&'static [u8]),
 }
 

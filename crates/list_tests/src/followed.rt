@@ -9,7 +9,7 @@ pub const A: &[u8] = b"nqn.2026-01.test:a";
 
 pub const B: &[u8] = b"nqn.2026-01.test:b";
 
-/// As many disks as namespaces of a test, and more.
+// More disks than a test has namespaces at a time.
 const UNITS: &[u64] = &[8; 12];
 
 /// A configuration and its view.
