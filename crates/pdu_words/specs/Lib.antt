@@ -1,0 +1,6 @@
+pub mod Command
+pub mod Conversation
+pub mod Explanation
+pub mod Hearing
+pub mod Outstanding
+pub mod Subject
