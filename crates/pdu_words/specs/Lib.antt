@@ -1,5 +1,6 @@
 pub mod Command
 pub mod Conversation
+pub mod Conversations
 pub mod Explanation
 pub mod Hearing
 pub mod Outstanding

@@ -5,6 +5,7 @@
 
 pub mod command;
 pub mod conversation;
+pub mod conversations;
 pub mod explanation;
 mod hearing;
 pub mod outstanding;
@@ -12,6 +13,7 @@ pub mod subject;
 
 pub use command::{Command, Queue};
 pub use conversation::Conversation;
+pub use conversations::{CONNECTIONS_MAX, Conversations};
 pub use explanation::{Completion, Explanation, explain};
 pub use outstanding::{COMMANDS_MAX, OutstandingCommands, Sent};
 pub use subject::{Subject, Which};
