@@ -6,14 +6,14 @@ ghost use Rattle.pdu_words.specs.Command.{log_page_command};
 use pdu_codec::{Connect, GetLogPage, Property, Sqe};
 
 /// The two kinds of queues, on which opcodes mean different commands.
-#[derive(Clone, Copy, Debug, PartialEq, Eq)]
+#[derive(Clone, Copy)]
 pub enum Queue {
     Admin,
     Io,
 }
 
 /// A command (Base 2.0, sections 5 and 6; NVM Command Set 1.0, section 3.2).
-#[derive(Clone, Copy, Debug, PartialEq, Eq)]
+#[derive(Clone, Copy)]
 pub enum Command {
     /// QID 0 asks for the admin queue.
     Connect { qid: u16 },

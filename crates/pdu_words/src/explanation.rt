@@ -8,7 +8,7 @@ use nvt_fields::{PduType, Status, u16_at};
 use pdu_codec::{Cqe, DataHead, IcReq, IcResp, R2t, TermReq};
 
 /// What a response says of its command.
-#[derive(Clone, Copy, Debug, PartialEq, Eq)]
+#[derive(Clone, Copy)]
 pub struct Completion {
     /// Command identifier.
     pub cid: u16,
@@ -20,7 +20,7 @@ pub struct Completion {
 }
 
 /// What a PDU is, and which command it answers or carries data of, where that is known.
-#[derive(Clone, Copy, Debug, PartialEq, Eq)]
+#[derive(Clone, Copy)]
 pub enum Explanation {
     IcReq(IcReq),
     IcResp(IcResp),

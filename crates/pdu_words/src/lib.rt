@@ -8,8 +8,10 @@ pub mod conversation;
 pub mod conversations;
 pub mod explanation;
 mod hearing;
+mod names;
 pub mod outstanding;
 pub mod subject;
+mod words;
 
 pub use command::{Command, Queue};
 pub use conversation::Conversation;

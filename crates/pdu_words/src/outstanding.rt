@@ -15,7 +15,7 @@ use std::marker::Model;
 pub const COMMANDS_MAX: usize = 1024;
 
 /// A command that was sent, under its identifier.
-#[derive(Clone, Copy, Debug, PartialEq, Eq)]
+#[derive(Clone, Copy)]
 pub struct Sent {
     pub cid: u16,
     pub command: Command,

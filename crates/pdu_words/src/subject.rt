@@ -5,14 +5,14 @@ ghost use Rattle.pdu_words.specs.Subject.{subject_of, completes, subject_of_comp
 use crate::explanation::{Completion, Explanation};
 
 /// Which of the outstanding commands with one identifier. Only by a host's error are there several.
-#[derive(Clone, Copy, Debug, PartialEq, Eq)]
+#[derive(Clone, Copy)]
 pub enum Which {
     Oldest,
     Newest,
 }
 
 /// An outstanding command.
-#[derive(Clone, Copy, Debug, PartialEq, Eq)]
+#[derive(Clone, Copy)]
 pub struct Subject {
     pub which: Which,
     pub cid: u16,
