@@ -1,0 +1,4 @@
+use Rattle.pdu_codec.proofs.cqe.Cqe.sqhd.Goals as goal
+
+pub returns : goal.returns
+returns c = c.u16_at.ensures

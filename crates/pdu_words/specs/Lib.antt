@@ -1,0 +1,7 @@
+pub mod Command
+pub mod Conversation
+pub mod Conversations
+pub mod Explanation
+pub mod Hearing
+pub mod Outstanding
+pub mod Subject

@@ -1,0 +1,81 @@
+//! The output of a replay, with words behind each PDU.
+
+use crate::notes::Notes;
+use line_words::find_byte;
+use std::alloc::{AllocError, Global};
+use std::io::{self, Write};
+
+// As much of a line as a note needs: a number, ` pdu ` and the digits of the longest header.
+const LINE_HEAD: usize = 20 + 5 + 256;
+
+// No note is longer.
+const NOTE_MAX: usize = 256;
+
+/// Passes on what is written to it, byte for byte, but for ` # ` and words behind each line `K pdu
+/// HEX`. After an error it is not known how much of the note at a line's end was passed on.
+#[derive(Drop)]
+pub struct Explained<'a, W: Write> {
+    out: &'a mut W,
+    notes: Notes,
+    // The first bytes of the line that is being written.
+    line: Vec<u8>,
+    note: Vec<u8>,
+}
+
+impl<'a, W: Write> Explained<'a, W> {
+    /// Explains what is written from here on to `out`.
+    pub fn new(alloc: Global, out: &'a mut W) -> Result<Explained<'a, W>, AllocError> {
+        let notes = Notes::new(alloc)?;
+        let line = Vec::with_capacity(alloc, LINE_HEAD)?;
+        let note = Vec::with_capacity(alloc, NOTE_MAX)?;
+        Ok(Explained {
+            out,
+            notes,
+            line,
+            note,
+        })
+    }
+
+    /// Hears a line of the script, without its end, before it is played.
+    pub fn hears_line(&mut self, line: &[u8]) -> Result<(), AllocError> {
+        self.notes.hears_line(line)
+    }
+
+    // Passes on the end of a line, behind the note on it.
+    fn end_line(&mut self) -> io::Result<()> {
+        self.note.clear();
+        if let Some(explanation) = self.notes.note(&self.line)? {
+            write!(self.note, " # {explanation}")?;
+        }
+        self.note.push(b'\n')?;
+        self.line.clear();
+        self.out.write_all(&self.note)
+    }
+
+    // Keeps what the note on the line may need.
+    fn keep(&mut self, piece: &[u8]) -> Result<(), AllocError> {
+        let room = LINE_HEAD.saturating_sub(self.line.len());
+        let kept = room.min(piece.len());
+        self.line.extend_from_slice(&piece[..kept])
+    }
+}
+
+impl<W: Write> Write for Explained<'_, W> {
+    fn write(&mut self, buf: &[u8]) -> io::Result<usize> {
+        let len = find_byte(buf, b'\n');
+        if len > 0 {
+            let taken = self.out.write(&buf[..len])?;
+            self.keep(&buf[..taken])?;
+            return Ok(taken);
+        }
+        if buf.is_empty() {
+            return Ok(0);
+        }
+        self.end_line()?;
+        Ok(1)
+    }
+
+    fn flush(&mut self) -> io::Result<()> {
+        self.out.flush()
+    }
+}

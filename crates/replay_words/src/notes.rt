@@ -1,0 +1,103 @@
+//! What the lines of a replay tell of its connections, and the notes on its PDUs.
+ghost use Rattle.std.specs.Prelude.{◌≡◌, IfOk, ℕ, Vec, None, OnErr, option_map, replicate};
+ghost use Rattle.replay_words.specs.Notes.{HearsLine, NotesLine, bytes_of, head_of};
+
+use crate::lines::{PrintedLine, ScriptLine, read_printed, read_script};
+use hex::FromHexError;
+use pdu_words::{Conversations, Explanation};
+use std::alloc::{AllocError, Global};
+use std::marker::Model;
+
+// The digits of the longest header of a PDU, 128 bytes, which says all that the words say.
+const HEAD_DIGITS: usize = 256;
+
+/// What was heard of the connections of a replay.
+#[derive(Drop)]
+pub struct Notes {
+    conversations: Conversations,
+    alloc: Global,
+}
+
+impl Model for Notes {
+    ghost use Rattle.std.specs.Prelude.{List, Option};
+    ghost use Rattle.pdu_words.specs.Conversation.{Heard};
+
+    ghost Value = { List (Option Heard) };
+
+    ghost view = { λ n. n.conversations };
+}
+
+impl Notes {
+    /// No connection.
+    pub fn new(alloc: Global) -> Result<Notes, AllocError>
+        ensures { IfOk result (λ notes. notes ≡ replicate 64 None) }
+    {
+        Ok(Notes {
+            conversations: Conversations::new(alloc)?,
+            alloc,
+        })
+    }
+
+    /// Hears a line of the script that is about to be played.
+    pub fn hears_line(&mut self, line: &[u8]) -> Result<(), AllocError>
+        ensures heard { HearsLine line.now self.old self.new result }
+        ensures err { OnErr result (self.new ≡ self.old) }
+    {
+        match read_script(line) {
+            ScriptLine::Receive { number, hex } => {
+                if let Some(bytes) = decode(self.alloc, hex)? {
+                    self.conversations.heard(number as usize, &bytes);
+                }
+            }
+            ScriptLine::End { number } => self.conversations.closed(number as usize),
+            ScriptLine::Other => {}
+        }
+        Ok(())
+    }
+
+    /// Takes note of a printed line, without its end: what its PDU is, if it has one.
+    pub fn note(&mut self, line: &[u8]) -> Result<Option<Explanation>, AllocError>
+        ensures noted { NotesLine line.now self.old self.new result }
+        ensures err { OnErr result (self.new ≡ self.old) }
+    {
+        match read_printed(line) {
+            PrintedLine::Open { number } => {
+                self.conversations.opened(self.alloc, number as usize)?;
+                Ok(None)
+            }
+            PrintedLine::Closed { number } => {
+                self.conversations.closed(number as usize);
+                Ok(None)
+            }
+            PrintedLine::Pdu { number, hex } => {
+                let Some(head) = decode(self.alloc, head_of(hex))? else {
+                    return Ok(None);
+                };
+                Ok(Some(self.conversations.said(number as usize, &head)))
+            }
+            PrintedLine::Other => Ok(None),
+        }
+    }
+}
+
+// The digits of the PDU's header, or all where there are fewer.
+fn head_of(hex: &[u8]) -> &[u8]
+    ensures { result.now ≡ head_of hex.now }
+{
+    if hex.len() < HEAD_DIGITS {
+        hex
+    } else {
+        &hex[..HEAD_DIGITS]
+    }
+}
+
+// The bytes that the digits say, if they say any.
+fn decode(alloc: Global, hex: &[u8]) -> Result<Option<Vec<u8>>, AllocError>
+    ensures { IfOk result (λ bytes. option_map (λ (v : Vec ℕ Global). v.items) bytes ≡ bytes_of hex.now) }
+{
+    match hex::decode(alloc, hex) {
+        Ok(bytes) => Ok(Some(bytes)),
+        Err(FromHexError::OutOfMemory) => Err(AllocError),
+        Err(_) => Ok(None),
+    }
+}

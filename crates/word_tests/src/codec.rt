@@ -1,0 +1,93 @@
+//! What a host reads, and data that are written in place.
+use bytes::BytesMut;
+use nvt_fields::Status;
+use pdu_codec::{C2hHead, Cqe, DataHead, Full, IcResp, R2t};
+use std::alloc::{AllocError, Global};
+
+const RESPONSE: &[u8; 24] =
+    b"\x05\x00\x18\x00\x18\x00\x00\x00\x01\x02\x03\x04\x05\x06\x07\x08\x09\x0a\x00\x00\x0b\x0c\x05\x83";
+
+#[test]
+fn a_completion_is_read(rt: HostRuntime) {
+    let cqe = Cqe::read(RESPONSE);
+    let status = Status {
+        sct: 1,
+        sc: 0x82,
+        dnr: true,
+    };
+    assert!(rt; (cqe.result(), cqe.sqhd()) == (0x0807_0605_0403_0201, 0x0A09));
+    assert!(rt; (cqe.cid(), cqe.status()) == (0x0C0B, status));
+}
+
+#[test]
+fn the_header_of_data_is_read(rt: HostRuntime) {
+    let head = DataHead {
+        cccid: 0x0201,
+        ttag: 0x0403,
+        datao: 0x0807_0605,
+        datal: 0x0C0B_0A09,
+        last_pdu: true,
+        success: false,
+    };
+    let header =
+        b"\x06\x04\x18\x18\x00\x00\x00\x00\x01\x02\x03\x04\x05\x06\x07\x08\x09\x0a\x0b\x0c";
+    assert!(rt; DataHead::read(header) == head);
+}
+
+#[test]
+fn an_r2t_is_read(rt: HostRuntime) {
+    let request = R2t {
+        cccid: 0x0201,
+        ttag: 0x0403,
+        r2to: 0x0807_0605,
+        r2tl: 0x0C0B_0A09,
+    };
+    let header =
+        b"\x09\x00\x18\x00\x18\x00\x00\x00\x01\x02\x03\x04\x05\x06\x07\x08\x09\x0a\x0b\x0c";
+    assert!(rt; R2t::read(header) == request);
+}
+
+#[test]
+fn an_ic_resp_is_read(rt: HostRuntime) {
+    let response = IcResp {
+        pfv: 0x0201,
+        cpda: 3,
+        dgst: 2,
+        maxh2cdata: 0x0807_0605,
+    };
+    let header = b"\x01\x00\x80\x00\x80\x00\x00\x00\x01\x02\x03\x02\x05\x06\x07\x08";
+    assert!(rt; IcResp::read(header) == response);
+}
+
+const HEAD: C2hHead = C2hHead {
+    cid: 9,
+    offset: 512,
+    last: true,
+    hpda: 7,
+    len: 4,
+};
+
+// Four bytes behind an alignment of 32 bytes.
+const DATA: &[u8] =
+    b"\x07\x04\x18\x20\x24\x00\x00\x00\x09\x00\x00\x00\x00\x02\x00\x00\x04\x00\x00\x00\x00\x00\x00\x00\0\0\0\0\0\0\0\0abcd";
+
+fn writes_in_place(alloc: Global) -> Result<bool, AllocError> {
+    let mut out = BytesMut::with_capacity(alloc, 36)?;
+    let written = HEAD.write(&mut out).is_ok();
+    let start = out.len().saturating_sub(4);
+    if let Some(room) = out.as_mut_slice().get_mut(start..) {
+        write_room(room);
+    }
+    Ok(written && out.as_slice() == DATA && HEAD.write(&mut out) == Err(Full))
+}
+
+fn write_room(room: &mut [u8]) {
+    for (byte, text) in room.iter_mut().zip(b"abcd") {
+        *byte = *text;
+    }
+}
+
+#[test]
+fn data_are_written_in_place(rt: HostRuntime) {
+    assert!(rt; matches!(writes_in_place(rt.alloc()), Ok(true)));
+}

@@ -1,0 +1,16 @@
+//! Tests of the words for PDUs, through the public calls of `replay_words` and `pdu_words`, and of the
+//! readers and writers of `pdu_codec` that a host needs.
+#![tactic(auto)]
+
+#[cfg(test)]
+mod codec;
+#[cfg(test)]
+mod commands;
+#[cfg(test)]
+mod conversation;
+#[cfg(test)]
+mod statuses;
+#[cfg(test)]
+mod talk;
+#[cfg(test)]
+mod writer;
