@@ -164,6 +164,12 @@ Plays (line.End k) old printed new = PlaysEnd k old printed new
 Plays (line.Tick ms) old printed new = PlaysTick ms old printed new
 Plays (line.Edit text) old printed new = PlaysEdit text.now old printed new
 
+-- a line of a script, and what it prints
+pub record PlaysLine (text : List ℕ) (old new : TargetState) (before after : Option (List ℕ)) : Type 0 where
+  pub says : StreamLine
+  pub is : Says text says
+  pub prints : Prints before after (λ printed. Plays says old printed new)
+
 -- the lines of a script, one after the other
 abbrev pub PlaysAll : List (List ℕ) → TargetState → List ℕ → TargetState → Type 0
 PlaysAll [] old printed new = (printed ≡ []) × (new ≡ old)

@@ -97,6 +97,14 @@ RefusesLines Memory lines old = Unit {0}
 RefusesLines Io lines old = ⊥
 RefusesLines Disks lines old = ⊥
 
+-- what a fault says of a line of a script, the nth
+abbrev pub EndsAtLine : ReplayFault → List ℕ → ℕ → Type 0
+EndsAtLine (EditLine m reply) line n = ⊥
+EndsAtLine (StreamLine m) line n = (m ≡ n) × ¬ IsStreamLine line
+EndsAtLine Memory line n = Unit {0}
+EndsAtLine Io line n = Unit {0}
+EndsAtLine Disks line n = ⊥
+
 -- what a fault says of the lines of a script that runs
 abbrev pub EndsScript : ReplayFault → List (List ℕ) → Type 0
 EndsScript (EditLine n reply) lines = ⊥

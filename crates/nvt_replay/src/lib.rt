@@ -8,6 +8,6 @@ mod print;
 pub mod reply;
 mod stream_line;
 
-pub use playback::{ReplayFault, replay};
+pub use playback::{Playback, ReplayFault, replay};
 pub use print::written;
 pub use reply::Reply;

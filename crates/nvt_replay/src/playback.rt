@@ -10,11 +10,11 @@ ghost use Rattle.line_words.specs.Lines.{lines_of};
 ghost use Rattle.number_table.specs.Table.{place};
 ghost use Rattle.target_core.specs.Target.{TargetState};
 ghost use Rattle.nvt_replay.specs.Replay.{AcceptsAll, Configures, EndsScript, Explains};
-ghost use Rattle.nvt_replay.specs.Replay.{IsBeforeScript, IsConfigured, IsOfRun};
+ghost use Rattle.nvt_replay.specs.Replay.{EndsAtLine, IsBeforeScript, IsConfigured, IsOfRun};
 ghost use Rattle.nvt_replay.specs.Replay.{MovesByLine, MovesByLines, PlaysBefore};
 ghost use Rattle.nvt_replay.specs.Replay.{Replays, ReplaysBefore};
 ghost use Rattle.nvt_replay.specs.Replay.{RefusesEdits, RefusesLines, TakesLine};
-ghost use Rattle.nvt_replay.specs.Played.{ArePrinted, HandsOut, HasNone, Plays, PlaysAll};
+ghost use Rattle.nvt_replay.specs.Played.{ArePrinted, HandsOut, HasNone, Plays, PlaysAll, PlaysLine};
 ghost use Rattle.nvt_replay.specs.Played.{PlaysEdit, PlaysEnd, PlaysOpen, PlaysReceive, Prints};
 ghost use Rattle.nvt_replay.specs.Played.{PlaysTick, Settles};
 ghost use Rattle.nvt_replay.specs.Played.{connection_lines};
@@ -161,9 +161,9 @@ fn take_edit(
     }
 }
 
-// A target whose script runs.
+/// A target that lines of edits configured, while the lines of a script run over it.
 #[derive(Drop)]
-struct Playback {
+pub struct Playback {
     connections: Connections,
     // The bytes that a line of the script hands out.
     bytes: Vec<u8>,
@@ -171,6 +171,41 @@ struct Playback {
 }
 
 impl Playback {
+    /// Applies the edits to a target with disks of these sizes, in units of 512 bytes. No connection
+    /// is open.
+    pub fn new(alloc: Global, edits: &[u8], units: &[u64]) -> Result<Playback, ReplayFault>
+        ensures ok { IfOk result (λ playback.
+            IsConfigured edits.now units.now playback.connections) }
+        ensures fault { IfErr result (λ fault. RefusesEdits fault edits.now units.now) }
+    {
+        match configured(alloc, edits, units) {
+            Ok(target) => Ok(Playback {
+                connections: Connections::over(target),
+                bytes: Vec::new(alloc),
+                printer: Printer::new(alloc),
+            }),
+            Err(fault) => Err(fault),
+        }
+    }
+
+    /// Runs a line of the script, the `number`th from 1 on, and prints what the target then sends
+    /// and which connections it opens and ends.
+    pub fn line<W: Write>(
+        &mut self,
+        number: usize,
+        line: &[u8],
+        out: &mut W,
+    ) -> Result<(), ReplayFault>
+        ensures played { OnOk result (PlaysLine line.now self.old.connections self.new.connections
+            (W.contents out.old) (W.contents out.new)) }
+        ensures fault { IfErr result (λ fault. EndsAtLine fault line.now number) }
+    {
+        match read_stream_line(line) {
+            Some(line) => self.play(line, out),
+            None => Err(ReplayFault::StreamLine { line: number }),
+        }
+    }
+
     // Runs the script, up to the first line that has none of its forms.
     fn run<W: Write>(&mut self, stream: &[u8], out: &mut W) -> Result<(), ReplayFault>
         ensures ok { OnOk result (All IsStreamLine (lines_of stream.now)) }
