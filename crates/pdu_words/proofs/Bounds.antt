@@ -1,5 +1,5 @@
 -- Less than a PDU is less than what a target's receive buffer holds.
-use Rattle.std.proofs.Common.{◌≡◌, ℕ, ◌≤◌, ◌<◌, Bool, true, false, cond, not, ◌==◌, ◌||◌, ◌&&◌, nat_lt, bit_and, List, length, take, Option, Some, None, Result, Ok, Err, refl, sym, ap, subst, ◌∙◌, arith}
+use Rattle.std.proofs.Common.{◌≡◌, ℕ, ◌≤◌, ◌<◌, Bool, true, false, cond, not, ◌==◌, ◌||◌, ◌&&◌, nat_lt, bit_and, List, length, take, Option, Some, None, Result, Ok, Err, refl, sym, ap, ◌∙◌, arith}
 use Rattle.std.proofs.lemmas.Bool.{ltb-true}
 use Rattle.nvt_fields.specs.declared.pdu_type.PduType.{PduType}
 use Rattle.nvt_fields.specs.declared.pdu_type.PduType.TheVariants.{IcReq, IcResp, H2cTermReq, C2hTermReq, CapsuleCmd, CapsuleResp, H2cData, C2hData, R2t}
@@ -7,7 +7,7 @@ use Rattle.pdu_cut.specs.declared.side.Side.{Side}
 use Rattle.pdu_cut.specs.declared.side.Side.TheVariants.{Target}
 use Rattle.pdu_cut.specs.CommonHeader.{header_of, layout_of, places_data, is_misplaced, invalid_field, kind_or_fault, type_or_fault}
 use Rattle.pdu_cut.specs.Side.{comes_to}
-use Rattle.pdu_cut.specs.Front.{incomplete, whole, faulty, front, front_by}
+use Rattle.pdu_cut.specs.Front.{incomplete, whole, front, front_by}
 use Rattle.pdu_cut.proofs.Headers.{Passes, passes_header}
 
 -- what passes a chain of four tests is what stands at its end

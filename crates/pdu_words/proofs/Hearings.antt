@@ -1,10 +1,10 @@
 -- How what a host sends is cut, and its commands learnt, step by step.
-use Rattle.std.proofs.Common.{◌≡◌, ℕ, Bool, true, false, List, [], ◌∷◌, ◌++◌, length, take, drop, refl, sym, ap, subst, ◌∙◌, arith, append_assoc, append-nil}
+use Rattle.std.proofs.Common.{◌≡◌, ℕ, Bool, true, false, List, [], ◌∷◌, ◌++◌, length, take, drop, refl, sym, ap, subst, ◌∙◌, append_assoc, append-nil}
 use Rattle.std.proofs.lemmas.List.{take-append-drop}
 use Rattle.pdu_cut.specs.declared.side.Side.TheVariants.{Target}
 use Rattle.pdu_cut.specs.Pdu.{Pdu}
 use Rattle.pdu_cut.specs.Front.{Front, incomplete, whole, faulty, front}
-use Rattle.pdu_cut.specs.Stream.{BeginsWith, HasNoWhole, IsCut}
+use Rattle.pdu_cut.specs.Stream.{BeginsWith, HasNoWhole}
 use Rattle.pdu_cut.proofs.Fronts.{front_faulty-append}
 use Rattle.pdu_cut.proofs.Streams.{begins_with_none, begins_with-append, begins_with_more, begins_with_taken}
 use Rattle.pdu_words.specs.Outstanding.{Outstanding}

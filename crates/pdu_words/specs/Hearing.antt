@@ -1,11 +1,11 @@
 -- What a connection's commands are once its host has sent these bytes, in whatever pieces they come.
-use Rattle.std.specs.Prelude.{◌≡◌, ◌≢◌, ℕ, Bool, true, false, List, [], ◌∷◌, ◌++◌}
+use Rattle.std.specs.Prelude.{◌≡◌, ℕ, Bool, true, false, List, [], ◌∷◌, ◌++◌}
 use Rattle.nvt_fields.specs.declared.pdu_type.PduType.{PduType}
 use Rattle.nvt_fields.specs.declared.pdu_type.PduType.TheVariants as types
 use Rattle.pdu_cut.specs.declared.side.Side.TheVariants.{Target}
-use Rattle.pdu_cut.specs.Front.{Front, incomplete, whole, faulty, front}
+use Rattle.pdu_cut.specs.Front.{Front, faulty, front}
 use Rattle.pdu_cut.specs.Pdu.{Pdu, header_part}
-use Rattle.pdu_cut.specs.Stream.{BeginsWith, HasNoWhole, IsCut}
+use Rattle.pdu_cut.specs.Stream.{IsCut}
 use Rattle.pdu_codec.specs.Sqe.{entry_in}
 use Rattle.pdu_words.specs.Outstanding.{Outstanding, sent_after}
 

@@ -1,5 +1,5 @@
 -- The commands that a host has sent on a connection and that are not answered yet.
-use Rattle.std.specs.Prelude.{ℕ, ◌+◌, ◌-◌, ◌==◌, Bool, List, [], ◌∷◌, ◌++◌, length, drop, reverse, slice_get, nat_lt, Option, Some, None, option_map, if◌then◌else◌}
+use Rattle.std.specs.Prelude.{ℕ, ◌-◌, ◌==◌, Bool, List, [], ◌∷◌, ◌++◌, length, drop, reverse, slice_get, nat_lt, Option, Some, None, option_map, if◌then◌else◌}
 use Rattle.std.specs.List.{position, remove}
 use Rattle.pdu_codec.specs.Sqe.{cid_of}
 use Rattle.pdu_words.specs.declared.command.Queue.{Queue}

@@ -1,5 +1,5 @@
 -- Which command a PDU speaks of.
-use Rattle.std.specs.Prelude.{ℕ, ◌==◌, ◌&&◌, Bool, true, false, Option, Some, None, if◌then◌else◌}
+use Rattle.std.specs.Prelude.{◌==◌, ◌&&◌, Bool, true, false, Option, Some, None, if◌then◌else◌}
 use Rattle.pdu_words.specs.declared.explanation.Completion.{Completion}
 use Rattle.pdu_words.specs.declared.explanation.Explanation.{Explanation}
 use Rattle.pdu_words.specs.declared.explanation.Explanation.TheVariants as explanation

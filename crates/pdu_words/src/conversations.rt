@@ -49,7 +49,7 @@ impl Conversations {
             return Ok(());
         }
         let conversation = Conversation::new(alloc)?;
-        self.table.remove(number);
+        self.closed(number);
         self.table.put(number, conversation);
         Ok(())
     }

@@ -1,4 +1,6 @@
 //! What the writer passes on, and when.
+ghost use Rattle.std.specs.Prelude.{◌<◌};
+
 use replay_words::Explained;
 use std::alloc::Global;
 use std::io::{self, ErrorKind, Write};
@@ -9,7 +11,9 @@ const PRINTED: &[u8] =
 const WANTED: &[u8] =
     b"0 open\nedit ok\n0 pdu 050018001800000000000000000000000100000009000000 # CapsuleResp CID 9 SQHD 1 success\n0 pdu 05x\n0 pdu\n\n99999999999999999999 pdu 00\n0 pdu 0800180018000000 # no PDU\nno end";
 
-fn passes(alloc: Global, pieces: usize) -> bool {
+fn passes(alloc: Global, pieces: usize) -> bool
+    requires { 0 < pieces }
+{
     let mut out = Vec::new(alloc);
     write_in(alloc, &mut out, pieces).is_ok() && out.as_slice() == WANTED
 }

@@ -1,4 +1,4 @@
-use Rattle.std.proofs.Common.{◌≡◌, ℕ, length}
+use Rattle.std.proofs.Common.{◌≡◌, length}
 use Rattle.pdu_cut.specs.declared.side.Side.TheVariants as side
 use Rattle.pdu_words.proofs.Hearings.{SoFar}
 use Rattle.pdu_words.proofs.hearing.take_pdus.Given as goal

@@ -16,6 +16,6 @@ opened_anew old mid new number heard less emptied anew put =
 
 pub returns-clause-ok : goal.returns-clause-ok
 returns-clause-ok c =
-    opened_anew c.args.self.now c.remove.new.self c.put.new.self c.args.number c.in_ok-conversation.conversation
-    c.if-number-ge-CONNECTIONS_MAX.false (c.remove.ensures.emptied ∙ ap (λ x. without x c.args.number) c.self.view_is)
+    opened_anew c.args.self.now c.self.inside.table c.put.new.self c.args.number c.in_ok-conversation.conversation
+    c.if-number-ge-CONNECTIONS_MAX.false (c.self.view_is ∙ c.closed.ensures)
     c.in_ok-conversation.ensures c.put.ensures
