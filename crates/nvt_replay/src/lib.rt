@@ -8,6 +8,7 @@ mod print;
 pub mod reply;
 mod stream_line;
 
+pub use config_text::Lines;
 pub use playback::{Playback, ReplayFault, replay};
 pub use print::written;
 pub use reply::Reply;

@@ -2,7 +2,7 @@
 
 use crate::help::HELP;
 use clap::error::ErrorKind;
-use clap::{Arg, Command, Error, value_parser};
+use clap::{Arg, ArgAction, Command, Error, value_parser};
 use nvt_replay::ReplayFault;
 use std::alloc::{AllocError, Global};
 use std::rt::Env;
@@ -31,6 +31,8 @@ pub struct Arguments {
     pub disks: usize,
     /// The size of each disk, in units of 512 bytes.
     pub units: u64,
+    /// Whether words are printed behind each PDU.
+    pub explain: bool,
 }
 
 /// Reads the arguments of the process, and prints the help where they ask for it.
@@ -88,6 +90,7 @@ fn replay_usage(alloc: Global, replay: &clap::ArgMatches<'_>) -> Result<Usage, R
             stream: String::from_str(alloc, stream)?,
             disks: usize::from(disks),
             units,
+            explain: replay.get_flag("explain"),
         })),
         _ => Ok(Usage::Bad),
     }
@@ -120,6 +123,12 @@ fn command<'a>(alloc: Global) -> Result<Command<'a>, AllocError> {
                 .value_parser(value_parser!(u64).range(1..=UNITS_MAX))
                 .default_value("2048")
                 .help("The size of each disk in units of 512 bytes, 1 to 1048576"),
+        )?
+        .arg(
+            Arg::new(alloc, "explain")
+                .long("explain")
+                .action(ArgAction::SetTrue)
+                .help("Prints behind each PDU what it is, in words, after ` # `"),
         )?;
     Command::new(alloc, "nvt_target")
         .about("A target of NVMe over TCP")

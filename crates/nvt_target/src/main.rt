@@ -5,6 +5,7 @@
 #![tactic(auto)]
 
 mod arguments;
+mod explained;
 mod help;
 mod program;
 

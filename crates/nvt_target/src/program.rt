@@ -4,6 +4,7 @@ ghost use Rattle.std.specs.Prelude.{◌^◌, ◌≤◌, IfErr, IfOk, length};
 ghost use Rattle.nvt_replay.specs.Replay.{IsOfRun};
 
 use crate::arguments::Arguments;
+use crate::explained;
 use nvt_replay::{ReplayFault, replay, written};
 use std::alloc::Global;
 use std::fs::File;
@@ -27,27 +28,29 @@ pub fn run<R: Files + Print + AllocGlobal>(
         Ok(out) => out,
         Err(_) => return Err(ReplayFault::Memory),
     };
-    replay_script(alloc, &edits, stream, &units, &mut out)
+    let result = replay_script(alloc, arguments, &edits, stream, &units, &mut out);
+    written(out.flush())?;
+    result
 }
 
-// Replays the script, where it was read, and writes out all that was printed.
+// Replays the script, where it was read.
 fn replay_script<W: Write>(
     alloc: Global,
+    arguments: &Arguments,
     edits: &[u8],
     stream: Result<Vec<u8>, ReplayFault>,
     units: &[u64],
     out: &mut W,
 ) -> Result<(), ReplayFault> {
-    let result = match stream {
+    match stream {
+        Ok(stream) if arguments.explain => explained::replay(alloc, edits, &stream, units, out),
         Ok(stream) => replay(alloc, edits, &stream, units, out),
         // A fault of the edits comes before the script's.
         Err(fault) => match replay(alloc, edits, &[], units, out) {
             Ok(()) => Err(fault),
             Err(first) => Err(first),
         },
-    };
-    written(out.flush())?;
-    result
+    }
 }
 
 // The bytes of a file that is not too long.
