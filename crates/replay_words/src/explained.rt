@@ -1,4 +1,8 @@
 //! The output of a replay, with words behind each PDU.
+ghost use Rattle.std.specs.Prelude.{◌≡◌, ◌≤◌, [], length, take, IfOk, OnErr, OnOk, None, replicate, Option, Ok};
+ghost use Rattle.pdu_words.specs.declared.explanation.Explanation.{Explanation};
+ghost use Rattle.replay_words.specs.Explained.{Passes, kept};
+ghost use Rattle.replay_words.specs.Notes.{HearsLine, NotesLine};
 
 use crate::notes::Notes;
 use line_words::find_byte;
@@ -24,7 +28,10 @@ pub struct Explained<'a, W: Write> {
 
 impl<'a, W: Write> Explained<'a, W> {
     /// Explains what is written from here on to `out`.
-    pub fn new(alloc: Global, out: &'a mut W) -> Result<Explained<'a, W>, AllocError> {
+    pub fn new(alloc: Global, out: &'a mut W) -> Result<Explained<'a, W>, AllocError>
+        ensures line { IfOk result (λ explained. explained.line.items ≡ []) }
+        ensures notes { IfOk result (λ explained. explained.notes ≡ replicate 64 None) }
+    {
         let notes = Notes::new(alloc)?;
         let line = Vec::with_capacity(alloc, LINE_HEAD)?;
         let note = Vec::with_capacity(alloc, NOTE_MAX)?;
@@ -37,12 +44,19 @@ impl<'a, W: Write> Explained<'a, W> {
     }
 
     /// Hears a line of the script, without its end, before it is played.
-    pub fn hears_line(&mut self, line: &[u8]) -> Result<(), AllocError> {
+    pub fn hears_line(&mut self, line: &[u8]) -> Result<(), AllocError>
+        ensures heard { HearsLine line.now self.old.notes self.new.notes result }
+        ensures line { self.new.line ≡ self.old.line }
+        ensures err { OnErr result (self.new.notes ≡ self.old.notes) }
+    {
         self.notes.hears_line(line)
     }
 
     // Passes on the end of a line, behind the note on it.
-    fn end_line(&mut self) -> io::Result<()> {
+    fn end_line(&mut self) -> io::Result<()>
+        ensures line { OnOk result (self.new.line.items ≡ []) }
+        ensures noted { OnOk result ((note : Option Explanation) × NotesLine self.old.line.items self.old.notes self.new.notes (Ok note)) }
+    {
         self.note.clear();
         if let Some(explanation) = self.notes.note(&self.line)? {
             write!(self.note, " # {explanation}")?;
@@ -53,19 +67,27 @@ impl<'a, W: Write> Explained<'a, W> {
     }
 
     // Keeps what the note on the line may need.
-    fn keep(&mut self, piece: &[u8]) -> Result<(), AllocError> {
+    fn keep(&mut self, piece: &[u8]) -> Result<(), AllocError>
+        ensures line { OnOk result (self.new.line.items ≡ kept self.old.line.items piece.now) }
+        ensures notes { self.new.notes ≡ self.old.notes }
+    {
         let room = LINE_HEAD.saturating_sub(self.line.len());
         let kept = room.min(piece.len());
         self.line.extend_from_slice(&piece[..kept])
     }
-}
 
-impl<W: Write> Write for Explained<'_, W> {
-    fn write(&mut self, buf: &[u8]) -> io::Result<usize> {
+    // Passes on a part of a line, or the end of one.
+    fn pass(&mut self, buf: &[u8]) -> io::Result<usize>
+        ensures bound { IfOk result (λ n. n ≤ length buf.now) }
+        ensures passed { IfOk result (λ n. Passes self.old.line.items self.new.line.items
+            self.old.notes self.new.notes (take n buf.now)) }
+    {
         let len = find_byte(buf, b'\n');
         if len > 0 {
-            let taken = self.out.write(&buf[..len])?;
-            self.keep(&buf[..taken])?;
+            let (piece, _) = buf.split_at(len);
+            let taken = self.out.write(piece)?;
+            let (passed, _) = piece.split_at(taken);
+            self.keep(passed)?;
             return Ok(taken);
         }
         if buf.is_empty() {
@@ -73,6 +95,12 @@ impl<W: Write> Write for Explained<'_, W> {
         }
         self.end_line()?;
         Ok(1)
+    }
+}
+
+impl<W: Write> Write for Explained<'_, W> {
+    fn write(&mut self, buf: &[u8]) -> io::Result<usize> {
+        self.pass(buf)
     }
 
     fn flush(&mut self) -> io::Result<()> {
