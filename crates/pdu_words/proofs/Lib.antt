@@ -1,2 +1,3 @@
 pub mod Bounds
+pub mod Consequences
 pub mod Hearings

@@ -8,6 +8,7 @@ pub mod conversation;
 pub mod conversations;
 pub mod explanation;
 mod hearing;
+pub mod laws;
 mod names;
 pub mod outstanding;
 pub mod subject;
