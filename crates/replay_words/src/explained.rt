@@ -1,5 +1,7 @@
 //! The output of a replay, with words behind each PDU.
-ghost use Rattle.std.specs.Prelude.{◌≡◌, ◌≤◌, [], length, take, IfOk, OnErr, OnOk, None, replicate, Option, Ok};
+ghost use Rattle.std.specs.Io.KnownBytes.{WriteAppends};
+ghost use Rattle.std.specs.Io.{WritesAtMost};
+ghost use Rattle.std.specs.Prelude.{◌∷◌, ℕ, List, ◌≡◌, ◌≤◌, [], length, take, IfOk, OnErr, OnOk, None, replicate, Option, Ok};
 ghost use Rattle.pdu_words.specs.declared.explanation.Explanation.{Explanation};
 ghost use Rattle.replay_words.specs.Explained.{Passes, kept};
 ghost use Rattle.replay_words.specs.Notes.{HearsLine, NotesLine};
@@ -81,6 +83,7 @@ impl<'a, W: Write> Explained<'a, W> {
         ensures bound { IfOk result (λ n. n ≤ length buf.now) }
         ensures passed { IfOk result (λ n. Passes self.old.line.items self.new.line.items
             self.old.notes self.new.notes (take n buf.now)) }
+        ensures end { (rest : List ℕ) → buf.now ≡ 10 ∷ rest → IfOk result (λ n. n ≡ 1) }
     {
         let len = find_byte(buf, b'\n');
         if len > 0 {
@@ -99,7 +102,13 @@ impl<'a, W: Write> Explained<'a, W> {
 }
 
 impl<W: Write> Write for Explained<'_, W> {
-    fn write(&mut self, buf: &[u8]) -> io::Result<usize> {
+    fn write(&mut self, buf: &[u8]) -> io::Result<usize>
+        ensures bound { WritesAtMost result buf.now }
+        ensures bytes { WriteAppends None None result buf.now }
+        ensures passed { IfOk result (λ n. Passes self.old.line.items self.new.line.items
+            self.old.notes self.new.notes (take n buf.now)) }
+        ensures end { (rest : List ℕ) → buf.now ≡ 10 ∷ rest → IfOk result (λ n. n ≡ 1) }
+    {
         self.pass(buf)
     }
 

@@ -1,4 +1,8 @@
 //! What a host reads, and data that are written in place.
+ghost use Rattle.std.specs.Prelude.{◌≡◌, ◌≤◌, ◌<◌, ◌+◌, ◌^◌, length};
+ghost use Rattle.pdu_codec.specs.Output.{AppendsOrFull};
+ghost use Rattle.pdu_codec.specs.C2hData.{c2h_data, piece_with};
+
 use bytes::BytesMut;
 use nvt_fields::Status;
 use pdu_codec::{C2hHead, Cqe, DataHead, Full, IcResp, R2t};
@@ -71,23 +75,34 @@ const HEAD: C2hHead = C2hHead {
 const DATA: &[u8] =
     b"\x07\x04\x18\x20\x24\x00\x00\x00\x09\x00\x00\x00\x00\x02\x00\x00\x04\x00\x00\x00\x00\x00\x00\x00\0\0\0\0\0\0\0\0abcd";
 
-fn writes_in_place(alloc: Global) -> Result<bool, AllocError> {
-    let mut out = BytesMut::with_capacity(alloc, 36)?;
-    let written = HEAD.write(&mut out).is_ok();
-    let start = out.len().saturating_sub(4);
-    if let Some(room) = out.as_mut_slice().get_mut(start..) {
-        write_room(room);
-    }
-    Ok(written && out.as_slice() == DATA && HEAD.write(&mut out) == Err(Full))
+// A caller that writes the data in place: what it appends is the PDU with these data.
+fn write_in_place(out: &mut BytesMut, head: &C2hHead, payload: &[u8]) -> Result<(), Full>
+    requires alignment { head.now.hpda ≤ 31 }
+    requires bound { head.now.len + 128 < 2 ^ 32 }
+    requires len { length payload.now ≡ head.now.len }
+    ensures { AppendsOrFull out.old out.new (c2h_data (piece_with head.now payload.now)) result }
+{
+    head.write(out)?;
+    let start = out.len() - payload.len();
+    write_room(&mut out.as_mut_slice()[start..], payload);
+    Ok(())
 }
 
-fn write_room(room: &mut [u8]) {
-    for (byte, text) in room.iter_mut().zip(b"abcd") {
-        *byte = *text;
-    }
+fn write_room(room: &mut [u8], payload: &[u8])
+    requires { length payload.now ≡ length room.old }
+    ensures { room.new ≡ payload.now }
+{
+    room.copy_from_slice(payload);
+}
+
+// Whether a buffer with room for one such PDU takes one and no more.
+fn takes_one(alloc: Global) -> Result<bool, AllocError> {
+    let mut out = BytesMut::with_capacity(alloc, 36)?;
+    let first = write_in_place(&mut out, &HEAD, b"abcd").is_ok() && out.as_slice() == DATA;
+    Ok(first && HEAD.write(&mut out) == Err(Full) && out.as_slice() == DATA)
 }
 
 #[test]
 fn data_are_written_in_place(rt: HostRuntime) {
-    assert!(rt; matches!(writes_in_place(rt.alloc()), Ok(true)));
+    assert!(rt; matches!(takes_one(rt.alloc()), Ok(true)));
 }
