@@ -1,12 +1,12 @@
 -- What a change of a list at the items that a test names keeps.
-use Rattle.std.proofs.Common.{◌≡◌, ◌≢◌, ℕ, ◌+◌, ◌<◌, ◌≤◌, Bool, true, false, not, cond, Some, None, List, [], ◌∷◌, ◌++◌, length, get_or, take, drop, map, All, AllPairs, nat_lt, position, refl, ap, sym, ◌∙◌, subst, arith, inl, inr}
+use Rattle.std.proofs.Common.{◌≡◌, ◌≢◌, ℕ, ◌+◌, ◌<◌, ◌≤◌, Bool, true, false, not, cond, Option, Some, None, IfSome, find, List, [], ◌∷◌, ◌++◌, length, get_or, take, drop, map, All, AllPairs, nat_lt, position, refl, ap, sym, ◌∙◌, subst, arith, inl, inr}
 use Rattle.std.proofs.Math.ListN.{set}
 use Rattle.std.proofs.Math.Seq.{take-append_seam}
 use Rattle.std.proofs.lemmas.Bool.{both_ways, cond-true, cond-false, cond_both, cases_Bool, cases_lt, cases_order, lt-ltb, not_from_false, or_cases, or_left, or_right}
 use Rattle.std.proofs.lemmas.Grind.{get_or-set_at}
 use Rattle.std.proofs.lemmas.List.{ext_get_or, get_or-map, get_or-set_other, length-map, length-set}
 use Rattle.std.proofs.lemmas.List.Edits.{map_over_more}
-use Rattle.std.proofs.lemmas.List.Elements.{All-map, All-weaker}
+use Rattle.std.proofs.lemmas.List.Elements.{All-head, All-map, All-tail, All-weaker}
 use Rattle.std.proofs.lemmas.List.Folds.{list_any_at, map_fixed}
 use Rattle.std.proofs.lemmas.List.Quantifiers.{position-Some}
 use Rattle.std.proofs.lemmas.Map.Views.{any-filter_same}
@@ -112,3 +112,13 @@ length-without test xs = rw length-filter (count_by-le-length (λ x. not (test x
 
 pub length-changed_where : {X : Type 0} (test : X → Bool) (change : X → X) (xs : List X) → length (changed_where test change xs) ≡ length xs
 length-changed_where test change xs = length-map xs _
+
+found_by : {X : Type 0} (P : X → Type 0) (found : Bool) (x : X) (rest : Option X) → P x → IfSome rest P → IfSome (cond found (Some x) rest) P
+found_by P true x rest h k = h
+found_by P false x rest h k = k
+
+-- what holds of each holds of the one that is found
+pub found_holds : {X : Type 0} (P : X → Type 0) (test : X → Bool) (xs : List X) → All P xs → IfSome (find test xs) P
+found_holds P test [] all = tt
+found_holds P test (x ∷ xs) all =
+    found_by P (test x) x (find test xs) (All-head P x xs all) (found_holds P test xs (All-tail P x xs all))

@@ -37,6 +37,9 @@ sgl_type_invalid = generic 0x11
 abbrev pub sgl_offset_invalid : Status
 sgl_offset_invalid = generic 0x16
 
+abbrev pub lba_out_of_range : Status
+lba_out_of_range = generic 0x80
+
 abbrev pub invalid_log_page : Status
 invalid_log_page = command_specific 0x09
 
@@ -54,3 +57,29 @@ connect_invalid_parameters = command_specific 0x82
 
 abbrev pub connect_invalid_host : Status
 connect_invalid_host = command_specific 0x84
+
+-- an error of the medium or the data
+abbrev pub media : ℕ → Status
+media sc = record { sct = 2; sc = sc; dnr = true }
+
+abbrev pub write_fault : Status
+write_fault = media 0x80
+
+abbrev pub unrecovered_read_error : Status
+unrecovered_read_error = media 0x81
+
+abbrev pub compare_failure : Status
+compare_failure = media 0x85
+
+-- an error of the path, which a host may retry
+abbrev pub path : ℕ → Status
+path sc = record { sct = 3; sc = sc; dnr = false }
+
+abbrev pub ana_persistent_loss : Status
+ana_persistent_loss = path 0x01
+
+abbrev pub ana_inaccessible : Status
+ana_inaccessible = path 0x02
+
+abbrev pub ana_transition : Status
+ana_transition = path 0x03

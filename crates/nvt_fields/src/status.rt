@@ -62,6 +62,13 @@ impl Status {
         dnr: true,
     };
 
+    /// The blocks of a command go past the end of its namespace.
+    pub const LBA_OUT_OF_RANGE: Status = Status {
+        sct: 0,
+        sc: 0x80,
+        dnr: true,
+    };
+
     pub const INVALID_LOG_PAGE: Status = Status {
         sct: 1,
         sc: 0x09,
@@ -100,6 +107,45 @@ impl Status {
         sct: 1,
         sc: 0x84,
         dnr: true,
+    };
+
+    pub const WRITE_FAULT: Status = Status {
+        sct: 2,
+        sc: 0x80,
+        dnr: true,
+    };
+
+    pub const UNRECOVERED_READ_ERROR: Status = Status {
+        sct: 2,
+        sc: 0x81,
+        dnr: true,
+    };
+
+    pub const COMPARE_FAILURE: Status = Status {
+        sct: 2,
+        sc: 0x85,
+        dnr: true,
+    };
+
+    /// The namespace's ANA group is not reached through this controller's port for good.
+    pub const ANA_PERSISTENT_LOSS: Status = Status {
+        sct: 3,
+        sc: 0x01,
+        dnr: false,
+    };
+
+    /// .. is not reached now.
+    pub const ANA_INACCESSIBLE: Status = Status {
+        sct: 3,
+        sc: 0x02,
+        dnr: false,
+    };
+
+    /// .. goes over to another state.
+    pub const ANA_TRANSITION: Status = Status {
+        sct: 3,
+        sc: 0x03,
+        dnr: false,
     };
 
     /// The last 16 bits of a completion: the code in 8:1, the low three bits of its type in 11:9, and

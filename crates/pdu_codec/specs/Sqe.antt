@@ -8,6 +8,7 @@ use Rattle.pdu_codec.specs.declared.command.Property.{Property}
 use Rattle.pdu_codec.specs.declared.command.GetLogPage.{GetLogPage}
 use Rattle.pdu_codec.specs.declared.command.Identify.{Identify}
 use Rattle.pdu_codec.specs.declared.command.Feature.{Feature}
+use Rattle.pdu_codec.specs.declared.command.BlockCommand.{BlockCommand}
 
 -- the entry of a capsule: what follows the common header in its 72 header bytes
 abbrev pub entry_in : List ℕ → List ℕ
@@ -78,4 +79,13 @@ feature_of entry = record {
   fid = slice_index entry 40;
   save = nat_le 128 (slice_index entry 43);
   value = field_at 4 44 entry;
+}
+
+-- Read, Write, Compare and Write Zeroes (NVM Command Set 1.0, section 3.2): the number of blocks is 0's based, and FUA
+-- is bit 30 of CDW12
+abbrev pub block_command_of : List ℕ → BlockCommand
+block_command_of entry = record {
+  first = field_at 8 40 entry;
+  blocks = field_at 2 48 entry + 1;
+  fua = nat_le 64 (slice_index entry 51 % 128);
 }

@@ -155,3 +155,29 @@ impl Feature {
         }
     }
 }
+
+/// Read, Write, Compare or Write Zeroes (NVM Command Set 1.0, section 3.2).
+#[derive(Clone, Copy, Debug, PartialEq, Eq)]
+pub struct BlockCommand {
+    /// The first logical block (SLBA).
+    pub first: u64,
+    /// The number of logical blocks, 1 to 65,536.
+    pub blocks: u32,
+    /// Force unit access: what is written is to be on the medium.
+    pub fua: bool,
+}
+
+impl BlockCommand {
+    ghost use Rattle.pdu_codec.specs.Sqe.{block_command_of};
+
+    pub fn read(sqe: &Sqe<'_>) -> BlockCommand
+        ensures { result ≡ block_command_of sqe.now.entry.now }
+    {
+        let entry = sqe.entry;
+        BlockCommand {
+            first: u64_at(entry, 40),
+            blocks: u32::from(u16_at(entry, 48)) + 1,
+            fua: entry[51] % 0x80 >= 0x40,
+        }
+    }
+}

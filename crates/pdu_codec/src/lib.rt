@@ -18,7 +18,7 @@ pub mod termination;
 
 pub use append::Full;
 pub use capsule_resp::CapsuleResp;
-pub use command::{Connect, Feature, GetLogPage, Identify, Property};
+pub use command::{BlockCommand, Connect, Feature, GetLogPage, Identify, Property};
 pub use connect_data::ConnectData;
 pub use cqe::{Cqe, status_of_word};
 pub use data_head::DataHead;

@@ -4,7 +4,8 @@ use Rattle.std.specs.Option.{option_copied}
 use Rattle.std.specs.Str.{bytes_eq}
 use Rattle.config_lists.specs.declared.subsystem.Subsystem.{Subsystem}
 use Rattle.config_lists.specs.Subsystem.{is_subsystem}
-use Rattle.admin_queue.proofs.Serials.{found_holds, serial_fits}
+use Rattle.config_lists.proofs.Lists.{found_holds}
+use Rattle.admin_queue.proofs.Serials.{serial_fits}
 use Rattle.admin_queue.proofs.payload.serial_of.Goals as goal
 
 pub returns-in-Some-clause-bound : goal.returns-in-Some-clause-bound

@@ -1,0 +1,14 @@
+//! The I/O commands of a ready controller (NVM Command Set 1.0, section 3): which blocks of which disk
+//! each one reads, writes or compares, or why it is refused. It reads the configuration as it is handed
+//! to it, and keeps nothing.
+#![tactic(auto)]
+
+pub mod decision;
+pub mod opcode;
+pub mod operation;
+pub mod queue;
+
+pub use decision::decide;
+pub use opcode::IoOpcode;
+pub use operation::{Extent, Operation};
+pub use queue::IoController;
