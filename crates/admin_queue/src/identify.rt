@@ -23,11 +23,7 @@ const DESCRIPTORS: u8 = 0x03;
 /// From here on identifiers name no namespace that a list could begin behind.
 const LIST_END: u32 = 0xFFFF_FFFE;
 
-pub(crate) fn command(
-    config: &Config,
-    controller: &AdminController<'_>,
-    sqe: &Sqe<'_>,
-) -> Outcome
+pub(crate) fn command(config: &Config, controller: &AdminController<'_>, sqe: &Sqe<'_>) -> Outcome
     ensures { result ≡ identify config.now (controller_in controller.now) sqe.now.entry.now }
 {
     let structure = structure_asked(config, controller, &Identify::read(sqe))?;
@@ -49,12 +45,7 @@ fn structure_asked(
 }
 
 // What a controller of this subsystem tells of its namespaces.
-fn structure_of(
-    config: &Config,
-    subsystem: &[u8],
-    cns: u8,
-    nsid: u32,
-) -> Result<Structure, Status>
+fn structure_of(config: &Config, subsystem: &[u8], cns: u8, nsid: u32) -> Result<Structure, Status>
     ensures { result ≡ structure_of config.now subsystem.now cns nsid }
 {
     match cns {

@@ -16,11 +16,7 @@ const DISCOVERY: u8 = 0x70;
 /// The most bytes of one read, until replies are split.
 const READ_MAX: u64 = 32_768;
 
-pub(crate) fn command(
-    pages: &Pages<'_>,
-    controller: &AdminController<'_>,
-    sqe: &Sqe<'_>,
-) -> Outcome
+pub(crate) fn command(pages: &Pages<'_>, controller: &AdminController<'_>, sqe: &Sqe<'_>) -> Outcome
     ensures { result ≡ get_log_page (pages_in pages.now) (controller_in controller.now)
         sqe.now.entry.now }
 {

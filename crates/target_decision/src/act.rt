@@ -9,8 +9,8 @@ ghost use Rattle.target_decision.specs.Decision.{consumed_of, entry_of, head_of,
 ghost use Rattle.target_decision.specs.Session.{session_after};
 ghost use Rattle.target_decision.specs.World.{world_in};
 
-use crate::decision::{Change, Decision};
 use crate::data::{Data, len_in};
+use crate::decision::{Change, Decision};
 use crate::session::Session;
 use crate::wire::{self, WIRE_MAX};
 use crate::world::World;

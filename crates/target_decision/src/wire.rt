@@ -7,8 +7,8 @@ ghost use Rattle.nvt_fields.specs.FatalErrorStatus.{fatal_code_of};
 ghost use Rattle.pdu_codec.specs.Initialize.{ic_resp};
 ghost use Rattle.pdu_codec.specs.TermReq.{c2h_term_req};
 
-use crate::decision::{Decision, Reply, Termination};
 use crate::data::Data;
+use crate::decision::{Decision, Reply, Termination};
 use bytes::BytesMut;
 use pdu_codec::{C2hHead, CapsuleResp, IcResp, TermReq};
 
