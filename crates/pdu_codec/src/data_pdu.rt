@@ -75,8 +75,9 @@ impl C2hHead {
     ghost use Rattle.pdu_codec.specs.C2hData.{piece_with, with_end};
     ghost use Rattle.pdu_codec.specs.Output.{AppendsOrFull};
 
-    /// Appends the PDU with zeros as its data: `len` bytes of room at the end of the buffer. Once
-    /// they are written over, the PDU has these bytes as its data.
+    /// Appends the PDU with zeros as its data: `len` bytes of room at the end of the buffer, lent by
+    /// `&mut out.as_mut_slice()[start..]`. Once they are written over, the PDU has these bytes as its
+    /// data.
     pub fn write(&self, out: &mut BytesMut) -> Result<(), Full>
         requires alignment { self.now.hpda ≤ 31 }
         requires length { self.now.len + 128 < 2 ^ 32 }

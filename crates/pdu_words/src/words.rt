@@ -52,18 +52,27 @@ fn write_ic_resp<W: fmt::Write>(f: &mut Formatter<W>, response: IcResp) -> fmt::
     write!(f, "ICResp PFV {pfv} CPDA {cpda} MAXH2CDATA {max}")
 }
 
-// FEI is the offset of a field with an invalid header field and an unsupported parameter.
 fn write_termination<W: fmt::Write>(
     f: &mut Formatter<W>,
     name: &str,
     request: TermReq,
 ) -> fmt::Result {
-    let (fes, fei) = (request.fes, request.fei);
+    f.write_str(name)?;
+    write_fatal_error(f, request.fes)?;
+    write_information(f, request)
+}
+
+fn write_fatal_error<W: fmt::Write>(f: &mut Formatter<W>, fes: u16) -> fmt::Result {
     match fatal_error_name(fes) {
-        Some(error) => write!(f, "{name} {error}")?,
-        None => write!(f, "{name} FES {fes}")?,
+        Some(error) => write!(f, " {error}"),
+        None => write!(f, " FES {fes}"),
     }
-    match fes {
+}
+
+// FEI is the offset of a field with an invalid header field and an unsupported parameter.
+fn write_information<W: fmt::Write>(f: &mut Formatter<W>, request: TermReq) -> fmt::Result {
+    let fei = request.fei;
+    match request.fes {
         1 | 6 => write!(f, ", at byte {fei}"),
         _ if fei != 0 => write!(f, ", FEI {fei}"),
         _ => Ok(()),
@@ -104,18 +113,26 @@ fn write_result<W: fmt::Write>(f: &mut Formatter<W>, dwords: u64) -> fmt::Result
     write!(f, ", result {dwords:X}h")
 }
 
-// The low 16 bits are the controller's identifier, or the offset of the parameter that is invalid,
-// which bit 16 places in the data (Base 2.0, section 6.3).
+// Whether a Connect's parameter that is invalid is in its data, by bit 16 of the result.
+fn parameter_place(dwords: u64) -> &'static str {
+    if dwords / 0x1_0000 % 2 == 1 {
+        "data"
+    } else {
+        "command"
+    }
+}
+
+// The low 16 bits are the controller's identifier, or the offset of the parameter that is invalid
+// (Base 2.0, section 6.3).
 fn write_connect_result<W: fmt::Write>(
     f: &mut Formatter<W>,
     completion: Completion,
 ) -> fmt::Result {
     let low = completion.result % 0x1_0000;
-    let in_data = completion.result / 0x1_0000 % 2 == 1;
+    let place = parameter_place(completion.result);
     match (completion.status.sct, completion.status.sc) {
         (0, 0x00) => write!(f, ", CNTLID {low}"),
-        (1, 0x82) if in_data => write!(f, ", at byte {low} of the data"),
-        (1, 0x82) => write!(f, ", at byte {low} of the command"),
+        (1, 0x82) => write!(f, ", at byte {low} of the {place}"),
         _ => write_result(f, completion.result),
     }
 }
@@ -123,13 +140,16 @@ fn write_connect_result<W: fmt::Write>(
 fn write_data<W: fmt::Write>(f: &mut Formatter<W>, name: &str, head: DataHead) -> fmt::Result {
     let (cid, offset, len) = (head.cccid, head.datao, head.datal);
     write!(f, "{name} CID {cid} offset {offset} length {len}")?;
-    if head.last_pdu {
-        f.write_str(", last")?;
+    f.write_str(data_flags(head))
+}
+
+fn data_flags(head: DataHead) -> &'static str {
+    match (head.last_pdu, head.success) {
+        (false, false) => "",
+        (true, false) => ", last",
+        (false, true) => ", success",
+        (true, true) => ", last, success",
     }
-    if head.success {
-        f.write_str(", success")?;
-    }
-    Ok(())
 }
 
 fn write_r2t<W: fmt::Write>(f: &mut Formatter<W>, request: R2t) -> fmt::Result {
