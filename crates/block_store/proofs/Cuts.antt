@@ -1,6 +1,6 @@
 -- Bytes cut into units, and units put together.
 use Rattle.std.proofs.Common.{◌≡◌, ℕ, zero, suc, ◌+◌, ◌*◌, ◌/◌, ◌%◌, ◌≤◌, ◌↔◌, List, [], ◌∷◌, ◌++◌, refl, sym, ◌∙◌, ap, subst, arith, length, take, drop, Bool, IsTrue}
-use Rattle.std.proofs.lemmas.List.{take-append-drop, take_at, drop_at, length-drop, length-take-le}
+use Rattle.std.proofs.lemmas.List.{length-append, take-append-drop, take_at, drop_at, length-drop, length-take-le}
 use Rattle.std.proofs.lemmas.List.Elements.{All-take, All-drop, recursion_from_All}
 use Rattle.std.specs.List.{All, AllByRecursion}
 use Rattle.std.specs.Simd.{first_chunks}
@@ -49,3 +49,21 @@ compared bytes units contents shown first same is_shown whole within all cut cou
     let alike = same_bytes bytes range n (omega (arith, whole)) long each in
     let ranges = ap (units_at contents first) count ∙ ap (λ (cs : List (List ℕ)). units_at cs first n) is_shown in
     (λ yes. alike.0 (sym cut ∙ to yes ∙ ranges), λ bytes_same. from (cut ∙ alike.1 bytes_same ∙ sym ranges))
+
+pub length-first_chunks : (n : ℕ) (bytes : List ℕ) → length (first_chunks 512 n bytes) ≡ n
+length-first_chunks zero bytes = refl
+length-first_chunks (suc n) bytes = ap suc (length-first_chunks n (drop 512 bytes))
+
+pub chunks_are_units : (n : ℕ) (bytes : List ℕ) → length bytes ≡ n * 512 → AllByRecursion IsUnit (first_chunks 512 n bytes)
+chunks_are_units zero bytes long = tt
+chunks_are_units (suc n) bytes long =
+    (length-take-le 512 bytes (omega (arith, long)), chunks_are_units n (drop 512 bytes) (omega (arith, length-drop 512 bytes)))
+
+pub length-bytes_of : (units : List (List ℕ)) → AllByRecursion IsUnit units → length (bytes_of units) ≡ length units * 512
+length-bytes_of [] all = refl
+length-bytes_of (unit ∷ units) (is_unit, all) =
+    omega (arith, length-append unit (bytes_of units), is_unit, length-bytes_of units all)
+
+-- so many units
+pub count_is : (bytes : List ℕ) (n : ℕ) → length bytes ≡ n * 512 → length bytes / 512 ≡ n
+count_is bytes n long = omega (arith, long)

@@ -5,6 +5,7 @@
 
 pub mod disk;
 pub mod failing;
+pub mod laws;
 pub mod memory;
 mod ranges;
 pub mod store;

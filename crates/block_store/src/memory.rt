@@ -14,9 +14,11 @@ pub struct MemoryDisk {
 }
 
 impl MemoryDisk {
+    ghost use Rattle.block_store.specs.Memory.{memory_contents};
+
     /// A disk of so many units of zeros.
     pub fn new(alloc: Global, units: u64) -> Result<MemoryDisk, AllocError>
-        ensures { IfOk result (λ disk. disk.units.items ≡ replicate units zero_unit) }
+        ensures { IfOk result (λ disk. memory_contents disk ≡ replicate units zero_unit) }
     {
         let units = vec![in alloc; [0; UNIT_LEN]; units as usize]?;
         Ok(MemoryDisk { units })
@@ -27,8 +29,9 @@ impl Disk for MemoryDisk {
     ghost use Rattle.std.specs.Prelude.{◌≡◌, ◌<◌, ◌⊎◌, length, slice_index_or, slice_set, [], OnOk, OnErr};
     ghost use Rattle.std.specs.Result.{IsOk};
     ghost use Rattle.block_store.specs.Faults.{faults_after};
+    ghost use Rattle.block_store.specs.Memory.{memory_contents};
 
-    ghost contents = { λ disk. disk.units.items };
+    ghost contents = { memory_contents };
 
     ghost faults = { λ disk. 0 };
 
@@ -39,19 +42,19 @@ impl Disk for MemoryDisk {
     }
 
     fn read(&mut self, unit: u64, out: &mut [u8; 512]) -> Result<(), DiskFault>
-        requires { unit < length self.old.units.items }
+        requires { unit < length (memory_contents self.old) }
         ensures works { IsOk result }
-        ensures bytes { out.new ≡ slice_index_or self.old.units.items unit [] }
-        ensures contents { self.new.units.items ≡ self.old.units.items }
+        ensures bytes { out.new ≡ slice_index_or (memory_contents self.old) unit [] }
+        ensures contents { memory_contents self.new ≡ memory_contents self.old }
     {
         *out = self.units[unit as usize];
         Ok(())
     }
 
     fn write(&mut self, unit: u64, bytes: &[u8; 512]) -> Result<(), DiskFault>
-        requires { unit < length self.old.units.items }
+        requires { unit < length (memory_contents self.old) }
         ensures works { IsOk result }
-        ensures written { self.new.units.items ≡ slice_set self.old.units.items unit bytes.now }
+        ensures written { memory_contents self.new ≡ slice_set (memory_contents self.old) unit bytes.now }
     {
         self.units[unit as usize] = *bytes;
         Ok(())
@@ -59,7 +62,7 @@ impl Disk for MemoryDisk {
 
     fn sync(&mut self) -> Result<(), DiskFault>
         ensures works { IsOk result }
-        ensures contents { self.new.units.items ≡ self.old.units.items }
+        ensures contents { memory_contents self.new ≡ memory_contents self.old }
     {
         Ok(())
     }

@@ -39,8 +39,9 @@ impl<D: Disk> Store<D> {
         Store { disk, blocks }
     }
 
-    /// The number of units.
+    /// The number of units, each of 512 bytes.
     pub fn blocks(&self) -> u64
+        ensures units { All IsUnit self.now.contents }
         ensures blocks { result ≡ length self.now.contents }
     {
         self.blocks
