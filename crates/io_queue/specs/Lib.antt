@@ -1,2 +1,3 @@
+pub mod Act
 pub mod Decision
 pub mod Opcode

@@ -1,8 +1,9 @@
 //! The I/O commands of a ready controller (NVM Command Set 1.0, section 3): which blocks of which disk
-//! each one reads, writes or compares, or why it is refused. It reads the configuration as it is handed
-//! to it, and keeps nothing.
+//! each one reads, writes or compares, or why it is refused (`decide`), and that done to the disk
+//! (`act`). It looks at the configuration and the disk that it is handed, and keeps nothing.
 #![tactic(auto)]
 
+pub mod act;
 pub mod decision;
 pub mod opcode;
 pub mod operation;

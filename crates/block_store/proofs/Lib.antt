@@ -1,0 +1,3 @@
+pub mod Cuts
+pub mod Fronts
+pub mod Overwrites

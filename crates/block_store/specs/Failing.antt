@@ -1,0 +1,29 @@
+-- Which call of a disk fails, where one is to fail.
+use Rattle.std.specs.Prelude.{◌≡◌, ℕ, zero, suc, Bool, true, false, Option, Some, None, Result}
+use Rattle.std.specs.Result.{is_err}
+use Rattle.block_store.specs.Faults.{faults_after}
+
+-- how many calls pass before the one that fails, after one more call; none once it has failed
+abbrev pub passes_after : Option ℕ → Option ℕ
+passes_after None = None
+passes_after (Some zero) = None
+passes_after (Some (suc n)) = Some n
+
+-- whether the next call is to fail
+abbrev pub is_due : Option ℕ → Bool
+is_due None = false
+is_due (Some zero) = true
+is_due (Some (suc n)) = false
+
+-- the faults that are its own: the one call, once it has failed
+abbrev pub own_faults : Option ℕ → ℕ
+own_faults None = 1
+own_faults (Some n) = 0
+
+-- The call that is due fails, and does not reach the disk below; any other fails where that disk
+-- counts a fault.
+pub record FailsInTurn {D T E : Type 0} (faults : D → ℕ) (passes : Option ℕ) (result : Result T E)
+    (old new : D) : Type 0 where
+  pub due : is_due passes ≡ true → is_err result ≡ true
+  pub untouched : is_due passes ≡ true → new ≡ old
+  pub passed : is_due passes ≡ false → faults new ≡ faults_after result (faults old)

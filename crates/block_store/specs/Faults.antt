@@ -1,0 +1,7 @@
+-- The count of a disk's failures.
+use Rattle.std.specs.Prelude.{ℕ, ◌+◌, ◌%◌, ◌^◌, Result, Ok, Err}
+
+-- the count after a call: a fault makes it rise by one, modulo 2^64
+abbrev pub faults_after : {T E : Type 0} → Result T E → ℕ → ℕ
+faults_after (Ok _) faults = faults
+faults_after (Err _) faults = (faults + 1) % 2 ^ 64

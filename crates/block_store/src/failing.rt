@@ -1,0 +1,93 @@
+//! A disk that fails once, for tests.
+ghost use Rattle.std.specs.Prelude.{◌≡◌, ◌+◌, ◌%◌, ◌^◌, Some};
+ghost use Rattle.std.specs.Result.{is_err};
+ghost use Rattle.block_store.specs.Failing.{own_faults, is_due, passes_after, FailsInTurn};
+
+use crate::disk::{Disk, DiskFault};
+
+/// A disk of which one call of `read`, `write` or `sync` fails. That call does not reach the disk
+/// below, so a write that fails leaves its unit as it was.
+#[derive(Drop)]
+pub struct FailingDisk<D: Disk> {
+    disk: D,
+    // How many calls pass before the one that fails; none once it has failed.
+    passes: Option<u64>,
+}
+
+impl<D: Disk> FailingDisk<D> {
+    /// A disk over this one. So many calls pass to it, the next one fails, and all later ones pass.
+    pub fn new(disk: D, passes: u64) -> FailingDisk<D>
+        ensures disk { result.disk ≡ disk }
+        ensures passes { result.passes ≡ Some passes }
+    {
+        FailingDisk {
+            disk,
+            passes: Some(passes),
+        }
+    }
+
+    /// Fails where this is the call to fail.
+    fn pass(&mut self) -> Result<(), DiskFault>
+        ensures disk { self.new.disk ≡ self.old.disk }
+        ensures passes { self.new.passes ≡ passes_after self.old.passes }
+        ensures fails { is_err result ≡ is_due self.old.passes }
+    {
+        match self.passes {
+            None => Ok(()),
+            Some(0) => {
+                self.passes = None;
+                Err(DiskFault)
+            }
+            Some(passes) => {
+                self.passes = Some(passes - 1);
+                Ok(())
+            }
+        }
+    }
+}
+
+impl<D: Disk> Disk for FailingDisk<D> {
+    ghost use Rattle.std.specs.Prelude.{◌≡◌, ◌<◌, ◌⊎◌, length, slice_index_or, slice_set, [], OnOk, OnErr};
+    ghost use Rattle.block_store.specs.Faults.{faults_after};
+
+    ghost contents = { λ failing. D.contents failing.disk };
+
+    ghost faults = { λ failing. (own_faults failing.passes + D.faults failing.disk) % 2 ^ 64 };
+
+    ghost whole = { λ failing. D.whole failing.disk };
+
+    fn blocks(&self) -> u64 {
+        self.disk.blocks()
+    }
+
+    fn read(&mut self, unit: u64, out: &mut [u8; 512]) -> Result<(), DiskFault>
+        requires { unit < length (D.contents self.old.disk) }
+        ensures bytes { OnOk result (out.new ≡ slice_index_or (D.contents self.old.disk) unit []) }
+        ensures contents { D.contents self.new.disk ≡ D.contents self.old.disk }
+        ensures passes { self.new.passes ≡ passes_after self.old.passes }
+        ensures turn { FailsInTurn D.faults self.old.passes result self.old.disk self.new.disk }
+    {
+        self.pass()?;
+        self.disk.read(unit, out)
+    }
+
+    fn write(&mut self, unit: u64, bytes: &[u8; 512]) -> Result<(), DiskFault>
+        requires { unit < length (D.contents self.old.disk) }
+        ensures written { OnOk result (D.contents self.new.disk ≡ slice_set (D.contents self.old.disk) unit bytes.now) }
+        ensures torn { OnErr result ((D.contents self.new.disk ≡ D.contents self.old.disk) ⊎ (D.contents self.new.disk ≡ slice_set (D.contents self.old.disk) unit bytes.now)) }
+        ensures passes { self.new.passes ≡ passes_after self.old.passes }
+        ensures turn { FailsInTurn D.faults self.old.passes result self.old.disk self.new.disk }
+    {
+        self.pass()?;
+        self.disk.write(unit, bytes)
+    }
+
+    fn sync(&mut self) -> Result<(), DiskFault>
+        ensures contents { D.contents self.new.disk ≡ D.contents self.old.disk }
+        ensures passes { self.new.passes ≡ passes_after self.old.passes }
+        ensures turn { FailsInTurn D.faults self.old.passes result self.old.disk self.new.disk }
+    {
+        self.pass()?;
+        self.disk.sync()
+    }
+}

@@ -1,0 +1,114 @@
+//! A disk as ranges of units.
+ghost use Rattle.std.specs.Prelude.{◌≡◌, ◌+◌, ◌%◌, ◌/◌, ◌≤◌, ◌↔◌, length, replicate, IfOk, OnOk, OnErr, IsTrue};
+ghost use Rattle.std.specs.List.{All};
+ghost use Rattle.block_store.specs.Faults.{faults_after};
+ghost use Rattle.block_store.specs.Range.{bytes_of, units_of, units_at, overwritten, FrontWritten};
+ghost use Rattle.block_store.specs.Unit.{IsUnit, zero_unit};
+
+use crate::disk::{Disk, DiskFault, UNIT_LEN};
+use crate::ranges::{compare_units, read_units, write_units, zero_units};
+use std::marker::Model;
+
+/// A disk, whose units are read, written, zeroed and compared in ranges: the first unit, and as many
+/// as the bytes make or as are counted. A call acts on the units in their order and stops at the
+/// first fault. None takes memory.
+#[derive(Drop)]
+pub struct Store<D: Disk> {
+    disk: D,
+    // Asked once, since a disk always answers the same.
+    blocks: u64,
+}
+
+impl<D: Disk> Model for Store<D> {
+    ghost use Rattle.std.specs.Prelude.{◌≡◌, length};
+    ghost use Rattle.block_store.specs.Stored.{Stored};
+
+    ghost Value = { Stored };
+
+    ghost view = { λ store. record { contents = D.contents store.disk; faults = D.faults store.disk } };
+
+    ghost invariant = { λ store. store.blocks ≡ length (D.contents store.disk) };
+}
+
+impl<D: Disk> Store<D> {
+    /// The ranges of this disk.
+    pub fn new(disk: D) -> Store<D>
+        ensures { result ≡ record { contents = D.contents disk; faults = D.faults disk } }
+    {
+        let blocks = disk.blocks();
+        Store { disk, blocks }
+    }
+
+    /// The number of units, each of 512 bytes.
+    pub fn blocks(&self) -> u64
+        ensures units { All IsUnit self.now.contents }
+        ensures blocks { result ≡ length self.now.contents }
+    {
+        self.blocks
+    }
+
+    /// The disk.
+    pub fn disk(&self) -> &D
+        ensures contents { D.contents result.now ≡ self.now.contents }
+        ensures faults { D.faults result.now ≡ self.now.faults }
+    {
+        &self.disk
+    }
+
+    /// Reads the units from `first` on into `out`, a whole number of units. After a fault `out` may
+    /// have any bytes.
+    pub fn read(&mut self, first: u64, out: &mut [u8]) -> Result<(), DiskFault>
+        requires whole { length out.old % 512 ≡ 0 }
+        requires within { first + length out.old / 512 ≤ length self.old.contents }
+        ensures bytes { OnOk result (out.new ≡ bytes_of (units_at self.old.contents first (length out.old / 512))) }
+        ensures contents { self.new.contents ≡ self.old.contents }
+        ensures faults { self.new.faults ≡ faults_after result self.old.faults }
+    {
+        read_units(&mut self.disk, first, out.len() / UNIT_LEN, out)
+    }
+
+    /// Writes the bytes, a whole number of units, to the units from `first` on. After a fault a
+    /// front of them is written, and all else is as before.
+    pub fn write(&mut self, first: u64, bytes: &[u8]) -> Result<(), DiskFault>
+        requires whole { length bytes.now % 512 ≡ 0 }
+        requires within { first + length bytes.now / 512 ≤ length self.old.contents }
+        ensures written { OnOk result (self.new.contents ≡ overwritten self.old.contents first (units_of bytes.now)) }
+        ensures torn { OnErr result (FrontWritten self.old.contents first (units_of bytes.now) self.new.contents) }
+        ensures faults { self.new.faults ≡ faults_after result self.old.faults }
+    {
+        let (units, _) = bytes.as_chunks::<UNIT_LEN>();
+        write_units(&mut self.disk, first, units)
+    }
+
+    /// Writes zeros to `count` units from `first` on. After a fault a front of them is zeroed, and
+    /// all else is as before.
+    pub fn zero(&mut self, first: u64, count: u64) -> Result<(), DiskFault>
+        requires within { first + count ≤ length self.old.contents }
+        ensures written { OnOk result (self.new.contents ≡ overwritten self.old.contents first (replicate count zero_unit)) }
+        ensures torn { OnErr result (FrontWritten self.old.contents first (replicate count zero_unit) self.new.contents) }
+        ensures faults { self.new.faults ≡ faults_after result self.old.faults }
+    {
+        zero_units(&mut self.disk, first, count)
+    }
+
+    /// Whether the units from `first` on have these bytes, a whole number of units. All of them are
+    /// read, so a fault of the last one is answered where the first one differs.
+    pub fn compare(&mut self, first: u64, bytes: &[u8]) -> Result<bool, DiskFault>
+        requires whole { length bytes.now % 512 ≡ 0 }
+        requires within { first + length bytes.now / 512 ≤ length self.old.contents }
+        ensures same { IfOk result (λ same. IsTrue same ↔ (bytes.now ≡ bytes_of (units_at self.old.contents first (length bytes.now / 512)))) }
+        ensures contents { self.new.contents ≡ self.old.contents }
+        ensures faults { self.new.faults ≡ faults_after result self.old.faults }
+    {
+        let (units, _) = bytes.as_chunks::<UNIT_LEN>();
+        compare_units(&mut self.disk, first, units)
+    }
+
+    /// Makes what was written last.
+    pub fn sync(&mut self) -> Result<(), DiskFault>
+        ensures contents { self.new.contents ≡ self.old.contents }
+        ensures faults { self.new.faults ≡ faults_after result self.old.faults }
+    {
+        self.disk.sync()
+    }
+}

@@ -1,0 +1,91 @@
+-- What an operation makes of its disk, and what it is answered.
+use Rattle.std.specs.Prelude.{◌≡◌, ◌≤◌, ℕ, ◌+◌, ◌%◌, ◌^◌, List, [], length, take}
+use Rattle.block_store.specs.Range.{bytes_of, overwritten, units_at}
+use Rattle.block_store.specs.Stored.{Stored}
+use Rattle.nvt_fields.specs.declared.status.Status.{Status}
+use Rattle.nvt_fields.specs.Status.{compare_failure, success, unrecovered_read_error, write_fault}
+use Rattle.io_queue.specs.declared.operation.Extent.{Extent}
+
+-- ---- what the disk did
+
+-- It did all that was asked, or failed to read, or failed to write or to make it last, with so many of the units that
+-- were to be written having their new bytes, from the first on.
+pub data Medium : Type 0 where
+  good : Medium
+  read_fault : Medium
+  write_fault_after : ℕ → Medium
+
+-- the disk counts a fault exactly where it failed
+abbrev pub faults_by : Medium → ℕ → ℕ
+faults_by good faults = faults
+faults_by read_fault faults = (faults + 1) % 2 ^ 64
+faults_by (write_fault_after count) faults = (faults + 1) % 2 ^ 64
+
+-- how many of so many units that were to be written are new
+abbrev pub count_new : Medium → ℕ → ℕ
+count_new good count = count
+count_new read_fault count = 0
+count_new (write_fault_after new) count = new
+
+-- ---- the operations
+
+-- the units of an extent
+abbrev pub extent_bytes : Extent → Stored → List ℕ
+extent_bytes e disk = bytes_of (units_at disk.contents e.first e.units)
+
+-- the contents after these units, or those of them that are new, are written from that number on
+abbrev pub written_by : Medium → ℕ → List (List ℕ) → List (List ℕ) → List (List ℕ)
+written_by m first units contents = overwritten contents first (take (count_new m (length units)) units)
+
+abbrev pub write_status : Medium → Status
+write_status good = success
+write_status read_fault = write_fault
+write_status (write_fault_after new) = write_fault
+
+abbrev pub read_status : Medium → Status
+read_status good = success
+read_status read_fault = unrecovered_read_error
+read_status (write_fault_after new) = unrecovered_read_error
+
+-- a Read or a Compare meets no write fault, and the others no read fault; a write that failed has at most as many new
+-- units as it was to have
+abbrev pub IsOfRead : Medium → Type 0
+IsOfRead good = Unit {0}
+IsOfRead read_fault = Unit {0}
+IsOfRead (write_fault_after new) = ⊥
+
+abbrev pub IsOfWrite : ℕ → Medium → Type 0
+IsOfWrite count good = Unit {0}
+IsOfWrite count read_fault = ⊥
+IsOfWrite count (write_fault_after new) = new ≤ count
+
+-- a Read gives the extent's bytes, unless the disk failed to
+pub record Reads (e : Extent) (old new : Stored) (out : List ℕ) (status : Status) : Type 0 where
+  pub medium : Medium
+  pub of_read : IsOfRead medium
+  pub answer : status ≡ read_status medium
+  pub bytes : medium ≡ good → out ≡ extent_bytes e old
+  pub contents : new.contents ≡ old.contents
+  pub faults : new.faults ≡ faults_by medium old.faults
+
+-- a write of these units leaves them in their places, unless the disk failed, and all others as they were
+pub record Writes (first : ℕ) (units : List (List ℕ)) (old new : Stored) (status : Status) : Type 0 where
+  pub medium : Medium
+  pub of_write : IsOfWrite (length units) medium
+  pub answer : status ≡ write_status medium
+  pub contents : new.contents ≡ written_by medium first units old.contents
+  pub faults : new.faults ≡ faults_by medium old.faults
+
+-- a Compare says whether the extent has these bytes, unless the disk failed to read them all
+pub record Compares (e : Extent) (bytes : List ℕ) (old new : Stored) (status : Status) : Type 0 where
+  pub medium : Medium
+  pub of_read : IsOfRead medium
+  pub same : medium ≡ good → bytes ≡ extent_bytes e old → status ≡ success
+  pub other : medium ≡ good → ¬ (bytes ≡ extent_bytes e old) → status ≡ compare_failure
+  pub failed : medium ≡ read_fault → status ≡ unrecovered_read_error
+  pub contents : new.contents ≡ old.contents
+  pub faults : new.faults ≡ faults_by medium old.faults
+
+-- a Flush changes no unit
+abbrev pub Flushes : Stored → Stored → Status → Type 0
+Flushes old new status = Writes 0 [] old new status

@@ -1,0 +1,70 @@
+//! Operations, done to their disk.
+ghost use Rattle.std.specs.Prelude.{◌≡◌, ◌+◌, ◌*◌, ◌≤◌, length, replicate};
+ghost use Rattle.block_store.specs.Range.{units_of};
+ghost use Rattle.block_store.specs.Unit.{zero_unit};
+ghost use Rattle.io_queue.specs.Act.{Compares, Flushes, Reads, Writes};
+
+use crate::operation::Extent;
+use block_store::{Disk, DiskFault, Store};
+use nvt_fields::Status;
+
+/// Reads the extent into `out`, straight from the disk.
+pub fn read<D: Disk>(store: &mut Store<D>, extent: &Extent, out: &mut [u8]) -> Status
+    requires within { extent.now.first + extent.now.units ≤ length store.old.contents }
+    requires len { length out.old ≡ 512 * extent.now.units }
+    ensures { Reads extent.now store.old store.new out.new result }
+{
+    match store.read(extent.first, out) {
+        Ok(()) => Status::SUCCESS,
+        Err(DiskFault) => Status::UNRECOVERED_READ_ERROR,
+    }
+}
+
+/// Writes the bytes to the extent, and with `fua` makes them last.
+pub fn write<D: Disk>(store: &mut Store<D>, extent: &Extent, bytes: &[u8], fua: bool) -> Status
+    requires within { extent.now.first + extent.now.units ≤ length store.old.contents }
+    requires len { length bytes.now ≡ 512 * extent.now.units }
+    ensures { Writes extent.now.first (units_of bytes.now) store.old store.new result }
+{
+    match store.write(extent.first, bytes) {
+        Ok(()) if fua => flush(store),
+        Ok(()) => Status::SUCCESS,
+        Err(DiskFault) => Status::WRITE_FAULT,
+    }
+}
+
+/// Writes zeros to the extent, and with `fua` makes them last.
+pub fn write_zeroes<D: Disk>(store: &mut Store<D>, extent: &Extent, fua: bool) -> Status
+    requires { extent.now.first + extent.now.units ≤ length store.old.contents }
+    ensures { let zeros = replicate extent.now.units zero_unit in
+        Writes extent.now.first zeros store.old store.new result }
+{
+    match store.zero(extent.first, extent.units) {
+        Ok(()) if fua => flush(store),
+        Ok(()) => Status::SUCCESS,
+        Err(DiskFault) => Status::WRITE_FAULT,
+    }
+}
+
+/// Whether the extent has these bytes.
+pub fn compare<D: Disk>(store: &mut Store<D>, extent: &Extent, bytes: &[u8]) -> Status
+    requires within { extent.now.first + extent.now.units ≤ length store.old.contents }
+    requires len { length bytes.now ≡ 512 * extent.now.units }
+    ensures { Compares extent.now bytes.now store.old store.new result }
+{
+    match store.compare(extent.first, bytes) {
+        Ok(true) => Status::SUCCESS,
+        Ok(false) => Status::COMPARE_FAILURE,
+        Err(DiskFault) => Status::UNRECOVERED_READ_ERROR,
+    }
+}
+
+/// Makes what was written last.
+pub fn flush<D: Disk>(store: &mut Store<D>) -> Status
+    ensures { Flushes store.old store.new result }
+{
+    match store.sync() {
+        Ok(()) => Status::SUCCESS,
+        Err(DiskFault) => Status::WRITE_FAULT,
+    }
+}
