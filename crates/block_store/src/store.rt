@@ -74,6 +74,7 @@ impl<D: Disk> Store<D> {
         requires within { first + length bytes.now / 512 ≤ length self.old.contents }
         ensures written { OnOk result (self.new.contents ≡ overwritten self.old.contents first (units_of bytes.now)) }
         ensures torn { OnErr result (FrontWritten self.old.contents first (units_of bytes.now) self.new.contents) }
+        ensures blocks { length self.new.contents ≡ length self.old.contents }
         ensures faults { self.new.faults ≡ faults_after result self.old.faults }
     {
         let (units, _) = bytes.as_chunks::<UNIT_LEN>();
@@ -86,6 +87,7 @@ impl<D: Disk> Store<D> {
         requires within { first + count ≤ length self.old.contents }
         ensures written { OnOk result (self.new.contents ≡ overwritten self.old.contents first (replicate count zero_unit)) }
         ensures torn { OnErr result (FrontWritten self.old.contents first (replicate count zero_unit) self.new.contents) }
+        ensures blocks { length self.new.contents ≡ length self.old.contents }
         ensures faults { self.new.faults ≡ faults_after result self.old.faults }
     {
         zero_units(&mut self.disk, first, count)
