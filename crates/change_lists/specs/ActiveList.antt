@@ -1,4 +1,4 @@
--- The Active Namespace ID list (Base 2.0, section 5.17.2.3).
+-- The Active Namespace ID list (Base 2.0, section 5.17.2.2).
 use Rattle.std.specs.Prelude.{◌≡◌, ◌<◌, ◌≤◌, ◌↔◌, ℕ, List, AllPairs, Contains, filter, length, nat_lt}
 use Rattle.std.specs.Int.{w32, to_le_bytes}
 use Rattle.std.specs.List.{flat_map}

@@ -1,4 +1,4 @@
-//! The bytes of the Active Namespace ID list (Base 2.0, section 5.17.2.3).
+//! The bytes of the Active Namespace ID list (Base 2.0, section 5.17.2.2).
 ghost use Rattle.std.specs.Prelude.{◌≡◌, length};
 ghost use Rattle.config_words.specs.Numbered.{active_nsids};
 ghost use Rattle.nvt_fields.specs.Window.{window};

@@ -68,7 +68,7 @@ impl ActiveView {
         self.latest = next;
     }
 
-    /// Fills `out` with the Active Namespace ID list of a subsystem (Base 2.0, section 5.17.2.3): the
+    /// Fills `out` with the Active Namespace ID list of a subsystem (Base 2.0, section 5.17.2.2): the
     /// identifiers above one of its namespaces, rising, 4 bytes each, and zeros past the list's end.
     #[tactic(auto, unfolding(crate::specs::ActiveView::nsids_in))]
     pub fn window(&self, subsystem: &[u8], above: u32, out: &mut [u8])
