@@ -1,4 +1,4 @@
-//! Which identifiers a list has, and its bytes (Base 2.0, section 5.17.2.3).
+//! Which identifiers a list has, and its bytes (Base 2.0, section 5.17.2.2).
 use super::followed::{A, B, Change, Followed, follow, start};
 use change_lists::ActiveView;
 use nvt_config::Access;
