@@ -19,6 +19,9 @@ pub trait Disk {
     /// The bytes of each unit, in the order of their numbers.
     ghost contents: { Self → List (List ℕ) };
 
+    /// What outlives a loss of power, the bytes of each unit.
+    ghost durable: { Self → List (List ℕ) };
+
     /// How often a call has failed, modulo 2^64.
     ghost faults: { Self → ℕ };
 
@@ -31,17 +34,20 @@ pub trait Disk {
         requires { unit < length (contents self.old) }
         ensures bytes { OnOk result (out.new ≡ slice_index_or (contents self.old) unit []) }
         ensures contents { contents self.new ≡ contents self.old }
+        ensures durable { durable self.new ≡ durable self.old }
         ensures faults { faults self.new ≡ faults_after result (faults self.old) };
 
-    /// Gives the unit these bytes. After a fault it has them or its old ones.
+    /// Gives the unit these bytes. After a fault it has them or its old ones. What is durable then
+    /// is not said until the next `sync`.
     fn write(&mut self, unit: u64, bytes: &[u8; 512]) -> Result<(), DiskFault>
         requires { unit < length (contents self.old) }
         ensures written { OnOk result (contents self.new ≡ slice_set (contents self.old) unit bytes.now) }
         ensures torn { OnErr result ((contents self.new ≡ contents self.old) ⊎ (contents self.new ≡ slice_set (contents self.old) unit bytes.now)) }
         ensures faults { faults self.new ≡ faults_after result (faults self.old) };
 
-    /// Makes what was written last.
+    /// Makes all that the units have durable.
     fn sync(&mut self) -> Result<(), DiskFault>
+        ensures durable { OnOk result (durable self.new ≡ contents self.old) }
         ensures contents { contents self.new ≡ contents self.old }
         ensures faults { faults self.new ≡ faults_after result (faults self.old) };
 

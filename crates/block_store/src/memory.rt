@@ -33,6 +33,8 @@ impl Disk for MemoryDisk {
 
     ghost contents = { memory_contents };
 
+    ghost durable = { memory_contents };
+
     ghost faults = { λ disk. 0 };
 
     ghost whole = { λ disk. disk.whole };
