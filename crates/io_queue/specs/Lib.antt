@@ -1,3 +1,4 @@
 pub mod Act
 pub mod Decision
 pub mod Opcode
+pub mod Reply

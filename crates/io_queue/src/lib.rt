@@ -8,8 +8,10 @@ pub mod decision;
 pub mod opcode;
 pub mod operation;
 pub mod queue;
+pub mod reply;
 
 pub use decision::decide;
 pub use opcode::IoOpcode;
 pub use operation::{Extent, Operation};
 pub use queue::IoController;
+pub use reply::append_read;
