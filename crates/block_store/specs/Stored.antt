@@ -1,9 +1,9 @@
 -- What a disk has and how it fared.
 use Rattle.std.specs.Prelude.{ℕ, List}
 
--- the bytes of each unit, in the order of their numbers; what outlives a loss of power; and how often
+-- the bytes of each unit, in the order of their numbers; those that the latest sync found; and how often
 -- a call has failed, modulo 2^64
 pub record Stored : Type 0 where
   pub contents : List (List ℕ)
-  pub durable : List (List ℕ)
+  pub synced : List (List ℕ)
   pub faults : ℕ

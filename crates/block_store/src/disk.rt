@@ -19,8 +19,8 @@ pub trait Disk {
     /// The bytes of each unit, in the order of their numbers.
     ghost contents: { Self → List (List ℕ) };
 
-    /// What outlives a loss of power, the bytes of each unit.
-    ghost durable: { Self → List (List ℕ) };
+    /// The bytes of each unit that the latest `sync` found, as far as no write came after it.
+    ghost synced: { Self → List (List ℕ) };
 
     /// How often a call has failed, modulo 2^64.
     ghost faults: { Self → ℕ };
@@ -34,10 +34,10 @@ pub trait Disk {
         requires { unit < length (contents self.old) }
         ensures bytes { OnOk result (out.new ≡ slice_index_or (contents self.old) unit []) }
         ensures contents { contents self.new ≡ contents self.old }
-        ensures durable { durable self.new ≡ durable self.old }
+        ensures synced { synced self.new ≡ synced self.old }
         ensures faults { faults self.new ≡ faults_after result (faults self.old) };
 
-    /// Gives the unit these bytes. After a fault it has them or its old ones. What is durable then
+    /// Gives the unit these bytes. After a fault it has them or its old ones. What is synced then
     /// is not said until the next `sync`.
     fn write(&mut self, unit: u64, bytes: &[u8; 512]) -> Result<(), DiskFault>
         requires { unit < length (contents self.old) }
@@ -45,9 +45,9 @@ pub trait Disk {
         ensures torn { OnErr result ((contents self.new ≡ contents self.old) ⊎ (contents self.new ≡ slice_set (contents self.old) unit bytes.now)) }
         ensures faults { faults self.new ≡ faults_after result (faults self.old) };
 
-    /// Makes all that the units have durable.
+    /// Makes what was written last.
     fn sync(&mut self) -> Result<(), DiskFault>
-        ensures durable { OnOk result (durable self.new ≡ contents self.old) }
+        ensures synced { OnOk result (synced self.new ≡ contents self.old) }
         ensures contents { contents self.new ≡ contents self.old }
         ensures faults { faults self.new ≡ faults_after result (faults self.old) };
 

@@ -52,7 +52,7 @@ impl<D: Disk> Disk for FailingDisk<D> {
 
     ghost contents = { λ failing. D.contents failing.disk };
 
-    ghost durable = { λ failing. D.durable failing.disk };
+    ghost synced = { λ failing. D.synced failing.disk };
 
     ghost faults = { λ failing. (own_faults failing.passes + D.faults failing.disk) % 2 ^ 64 };
 
@@ -65,7 +65,7 @@ impl<D: Disk> Disk for FailingDisk<D> {
     fn read(&mut self, unit: u64, out: &mut [u8; 512]) -> Result<(), DiskFault>
         requires { unit < length (D.contents self.old.disk) }
         ensures bytes { OnOk result (out.new ≡ slice_index_or (D.contents self.old.disk) unit []) }
-        ensures durable { D.durable self.new.disk ≡ D.durable self.old.disk }
+        ensures synced { D.synced self.new.disk ≡ D.synced self.old.disk }
         ensures contents { D.contents self.new.disk ≡ D.contents self.old.disk }
         ensures passes { self.new.passes ≡ passes_after self.old.passes }
         ensures turn { FailsInTurn D.faults self.old.passes result self.old.disk self.new.disk }
@@ -86,7 +86,7 @@ impl<D: Disk> Disk for FailingDisk<D> {
     }
 
     fn sync(&mut self) -> Result<(), DiskFault>
-        ensures durable { OnOk result (D.durable self.new.disk ≡ D.contents self.old.disk) }
+        ensures synced { OnOk result (D.synced self.new.disk ≡ D.contents self.old.disk) }
         ensures contents { D.contents self.new.disk ≡ D.contents self.old.disk }
         ensures passes { self.new.passes ≡ passes_after self.old.passes }
         ensures turn { FailsInTurn D.faults self.old.passes result self.old.disk self.new.disk }

@@ -33,7 +33,7 @@ impl Disk for MemoryDisk {
 
     ghost contents = { memory_contents };
 
-    ghost durable = { memory_contents };
+    ghost synced = { memory_contents };
 
     ghost faults = { λ disk. 0 };
 

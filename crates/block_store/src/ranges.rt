@@ -12,7 +12,7 @@ fn read_unit<D: Disk>(disk: &mut D, unit: u64, out: &mut [u8]) -> Result<(), Dis
     requires within { unit < length (D.contents disk.old) }
     ensures bytes { OnOk result (out.new ≡ slice_index_or (D.contents disk.old) unit []) }
     ensures contents { D.contents disk.new ≡ D.contents disk.old }
-    ensures durable { D.durable disk.new ≡ D.durable disk.old }
+    ensures synced { D.synced disk.new ≡ D.synced disk.old }
     ensures faults { D.faults disk.new ≡ faults_after result (D.faults disk.old) }
 {
     disk.read(unit, out.first_chunk_mut::<UNIT_LEN>().unwrap())
@@ -30,7 +30,7 @@ pub(crate) fn read_units<D: Disk>(
     requires fits { first + count < 2 ^ 64 }
     ensures bytes { OnOk result (out.new ≡ bytes_of (units_at (D.contents disk.old) first count)) }
     ensures contents { D.contents disk.new ≡ D.contents disk.old }
-    ensures durable { D.durable disk.new ≡ D.durable disk.old }
+    ensures synced { D.synced disk.new ≡ D.synced disk.old }
     ensures faults { D.faults disk.new ≡ faults_after result (D.faults disk.old) }
 {
     for i in 0..count {
@@ -85,7 +85,7 @@ pub(crate) fn compare_units<D: Disk>(
     requires fits { first + length units.now < 2 ^ 64 }
     ensures same { IfOk result (λ same. IsTrue same ↔ (units.now ≡ units_at (D.contents disk.old) first (length units.now))) }
     ensures contents { D.contents disk.new ≡ D.contents disk.old }
-    ensures durable { D.durable disk.new ≡ D.durable disk.old }
+    ensures synced { D.synced disk.new ≡ D.synced disk.old }
     ensures faults { D.faults disk.new ≡ faults_after result (D.faults disk.old) }
 {
     let mut held = [0; UNIT_LEN];

@@ -25,7 +25,7 @@ impl<D: Disk> Model for Store<D> {
 
     ghost Value = { Stored };
 
-    ghost view = { λ store. record { contents = D.contents store.disk; durable = D.durable store.disk; faults = D.faults store.disk } };
+    ghost view = { λ store. record { contents = D.contents store.disk; synced = D.synced store.disk; faults = D.faults store.disk } };
 
     ghost invariant = { λ store. store.blocks ≡ length (D.contents store.disk) };
 }
@@ -33,7 +33,7 @@ impl<D: Disk> Model for Store<D> {
 impl<D: Disk> Store<D> {
     /// The ranges of this disk.
     pub fn new(disk: D) -> Store<D>
-        ensures { result ≡ record { contents = D.contents disk; durable = D.durable disk; faults = D.faults disk } }
+        ensures { result ≡ record { contents = D.contents disk; synced = D.synced disk; faults = D.faults disk } }
     {
         let blocks = disk.blocks();
         Store { disk, blocks }
@@ -50,7 +50,7 @@ impl<D: Disk> Store<D> {
     /// The disk.
     pub fn disk(&self) -> &D
         ensures contents { D.contents result.now ≡ self.now.contents }
-        ensures durable { D.durable result.now ≡ self.now.durable }
+        ensures synced { D.synced result.now ≡ self.now.synced }
         ensures faults { D.faults result.now ≡ self.now.faults }
     {
         &self.disk
@@ -63,7 +63,7 @@ impl<D: Disk> Store<D> {
         requires within { first + length out.old / 512 ≤ length self.old.contents }
         ensures bytes { OnOk result (out.new ≡ bytes_of (units_at self.old.contents first (length out.old / 512))) }
         ensures contents { self.new.contents ≡ self.old.contents }
-        ensures durable { self.new.durable ≡ self.old.durable }
+        ensures synced { self.new.synced ≡ self.old.synced }
         ensures faults { self.new.faults ≡ faults_after result self.old.faults }
     {
         read_units(&mut self.disk, first, out.len() / UNIT_LEN, out)
@@ -102,17 +102,17 @@ impl<D: Disk> Store<D> {
         requires within { first + length bytes.now / 512 ≤ length self.old.contents }
         ensures same { IfOk result (λ same. IsTrue same ↔ (bytes.now ≡ bytes_of (units_at self.old.contents first (length bytes.now / 512)))) }
         ensures contents { self.new.contents ≡ self.old.contents }
-        ensures durable { self.new.durable ≡ self.old.durable }
+        ensures synced { self.new.synced ≡ self.old.synced }
         ensures faults { self.new.faults ≡ faults_after result self.old.faults }
     {
         let (units, _) = bytes.as_chunks::<UNIT_LEN>();
         compare_units(&mut self.disk, first, units)
     }
 
-    /// Makes all that the units have durable.
+    /// Makes what was written last.
     pub fn sync(&mut self) -> Result<(), DiskFault>
         ensures contents { self.new.contents ≡ self.old.contents }
-        ensures durable { OnOk result (self.new.durable ≡ self.new.contents) }
+        ensures synced { OnOk result (self.new.synced ≡ self.new.contents) }
         ensures faults { self.new.faults ≡ faults_after result self.old.faults }
     {
         self.disk.sync()

@@ -89,3 +89,7 @@ pub record Compares (e : Extent) (bytes : List ℕ) (old new : Stored) (status :
 -- a Flush changes no unit
 abbrev pub Flushes : Stored → Stored → Status → Type 0
 Flushes old new status = Writes 0 [] old new status
+
+-- where the answer is success, what the disk holds has been synced
+abbrev pub IsSynced : Stored → Status → Type 0
+IsSynced disk status = status ≡ success → disk.synced ≡ disk.contents

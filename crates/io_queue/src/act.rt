@@ -1,8 +1,8 @@
 //! Operations, done to their disk.
-ghost use Rattle.std.specs.Prelude.{◌≡◌, ◌+◌, ◌*◌, ◌≤◌, length, replicate};
+ghost use Rattle.std.specs.Prelude.{◌≡◌, ◌+◌, ◌*◌, ◌≤◌, length, replicate, true};
 ghost use Rattle.block_store.specs.Range.{units_of};
 ghost use Rattle.block_store.specs.Unit.{zero_unit};
-ghost use Rattle.io_queue.specs.Act.{Compares, Flushes, Reads, Writes};
+ghost use Rattle.io_queue.specs.Act.{Compares, Flushes, IsSynced, Reads, Writes};
 
 use crate::operation::Extent;
 use block_store::{Disk, DiskFault, Store};
@@ -24,7 +24,8 @@ pub fn read<D: Disk>(store: &mut Store<D>, extent: &Extent, out: &mut [u8]) -> S
 pub fn write<D: Disk>(store: &mut Store<D>, extent: &Extent, bytes: &[u8], fua: bool) -> Status
     requires within { extent.now.first + extent.now.units ≤ length store.old.contents }
     requires len { length bytes.now ≡ 512 * extent.now.units }
-    ensures { Writes extent.now.first (units_of bytes.now) store.old store.new result }
+    ensures written { Writes extent.now.first (units_of bytes.now) store.old store.new result }
+    ensures synced { fua ≡ true → IsSynced store.new result }
 {
     match store.write(extent.first, bytes) {
         Ok(()) if fua => flush(store),
@@ -36,8 +37,9 @@ pub fn write<D: Disk>(store: &mut Store<D>, extent: &Extent, bytes: &[u8], fua: 
 /// Writes zeros to the extent, and with `fua` makes them last.
 pub fn write_zeroes<D: Disk>(store: &mut Store<D>, extent: &Extent, fua: bool) -> Status
     requires { extent.now.first + extent.now.units ≤ length store.old.contents }
-    ensures { let zeros = replicate extent.now.units zero_unit in
+    ensures written { let zeros = replicate extent.now.units zero_unit in
         Writes extent.now.first zeros store.old store.new result }
+    ensures synced { fua ≡ true → IsSynced store.new result }
 {
     match store.zero(extent.first, extent.units) {
         Ok(()) if fua => flush(store),
@@ -61,7 +63,8 @@ pub fn compare<D: Disk>(store: &mut Store<D>, extent: &Extent, bytes: &[u8]) -> 
 
 /// Makes what was written last.
 pub fn flush<D: Disk>(store: &mut Store<D>) -> Status
-    ensures { Flushes store.old store.new result }
+    ensures flushed { Flushes store.old store.new result }
+    ensures synced { IsSynced store.new result }
 {
     match store.sync() {
         Ok(()) => Status::SUCCESS,

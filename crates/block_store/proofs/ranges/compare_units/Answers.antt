@@ -13,6 +13,6 @@ loop-bytes-preserved g c =
           c.read.new.out c.loop-bytes.same c.eq-same.result
           (rw (before.contents, before.unit) at c.in_ok-read.ensures.bytes) c.eq-same.ensures before.same;
       contents = search rules;
-      durable = search rules;
+      synced = search rules;
       faults = search rules;
     }

@@ -5,12 +5,12 @@ use Rattle.block_store.proofs.ranges.compare_units.Given as goal
 abbrev pub invariant-loop-bytes : goal.invariant-loop-bytes
 invariant-loop-bytes g l =
     let contents = g.D.Disk.contents in
-    let durable = g.D.Disk.durable in
+    let synced = g.D.Disk.synced in
     let faults = g.D.Disk.faults in
     record {
       unit : l.unit ≡ l.first + l.bytes-index;
       same : IsTrue l.same ↔ (take l.bytes-index l.units ≡ units_at (contents l.fn.disk) l.first l.bytes-index);
       contents : contents l.disk ≡ contents l.fn.disk;
-      durable : durable l.disk ≡ durable l.fn.disk;
+      synced : synced l.disk ≡ synced l.fn.disk;
       faults : faults l.disk ≡ faults l.fn.disk;
     }

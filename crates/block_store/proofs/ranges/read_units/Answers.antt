@@ -16,6 +16,6 @@ loop-i-preserved g c =
           (rw c.loop-i.invariant.contents at c.in_ok-read_unit.ensures.bytes)
           c.loop-i.invariant.bytes;
       contents = search rules;
-      durable = search rules;
+      synced = search rules;
       faults = search rules;
     }
