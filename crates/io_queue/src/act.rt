@@ -21,6 +21,7 @@ pub fn read<D: Disk>(store: &mut Store<D>, extent: &Extent, out: &mut [u8]) -> S
 }
 
 /// Writes the bytes to the extent, and with `fua` makes them last.
+#[tactic(auto, using(crate::proofs::Acts::front_new, crate::proofs::Acts::then_flushed))]
 pub fn write<D: Disk>(store: &mut Store<D>, extent: &Extent, bytes: &[u8], fua: bool) -> Status
     requires within { extent.now.first + extent.now.units ≤ length store.old.contents }
     requires len { length bytes.now ≡ 512 * extent.now.units }
@@ -35,6 +36,7 @@ pub fn write<D: Disk>(store: &mut Store<D>, extent: &Extent, bytes: &[u8], fua: 
 }
 
 /// Writes zeros to the extent, and with `fua` makes them last.
+#[tactic(auto, using(crate::proofs::Acts::front_new, crate::proofs::Acts::then_flushed))]
 pub fn write_zeroes<D: Disk>(store: &mut Store<D>, extent: &Extent, fua: bool) -> Status
     requires { extent.now.first + extent.now.units ≤ length store.old.contents }
     ensures written { let zeros = replicate extent.now.units zero_unit in
@@ -62,6 +64,7 @@ pub fn compare<D: Disk>(store: &mut Store<D>, extent: &Extent, bytes: &[u8]) -> 
 }
 
 /// Makes what was written last.
+#[tactic(auto, using(crate::proofs::Acts::none_new))]
 pub fn flush<D: Disk>(store: &mut Store<D>) -> Status
     ensures flushed { Flushes store.old store.new result }
     ensures synced { IsSynced store.new result }
