@@ -6,11 +6,12 @@ use Rattle.std.proofs.lemmas.Bool.{eqb-true}
 use Rattle.std.proofs.lemmas.Bool.Decides.{nat_tests}
 use Rattle.number_table.specs.Table.{place}
 use Rattle.number_table.proofs.Tables.{place-with_value_held}
+use Rattle.controller_tables.proofs.Staying.{nothing_goes, nothing_gone, nothing_leaves}
 use Rattle.target_core.specs.Connection.{ConnectionState, settled}
 use Rattle.target_core.specs.Moves.{Moves, connection_moved}
 use Rattle.target_core.specs.Target.{TargetState, is_ended_at, meets, with_connection}
 use Rattle.target_core.proofs.Moving.{silent_at, stream_stays}
-use Rattle.target_core.proofs.Settling.{nothing_goes, nothing_gone, nothing_leaves, same_at}
+use Rattle.target_core.proofs.Settling.{same_at}
 use Rattle.target_decision.specs.declared.session.Session.{Session}
 use Rattle.target_decision.specs.declared.session.Session.TheVariants as session
 use Rattle.target_decision.specs.Session.{is_ended}

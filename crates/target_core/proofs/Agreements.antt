@@ -8,6 +8,7 @@ use Rattle.config_rules.specs.Configuration.{Configuration, disks_alone}
 use Rattle.fabrics_connect.specs.declared.row.Row.{Row}
 use Rattle.number_table.specs.Table.{place}
 use Rattle.number_table.proofs.Tables.{place-replicate}
+use Rattle.controller_tables.specs.Controllers.{controller_places}
 use Rattle.pdu_cut.specs.declared.side.Side.TheVariants.{Target}
 use Rattle.pdu_cut.specs.Front.{Front, incomplete, whole, faulty}
 use Rattle.pdu_cut.specs.Pdu.{Pdu}
@@ -16,7 +17,6 @@ use Rattle.target_core.specs.Agreement.{Agrees, AgreesAfter, AgreesStill, Agrees
 use Rattle.target_core.specs.Connection.{ConnectionState, fresh_on}
 use Rattle.target_decision.specs.Session.{opened_on}
 use Rattle.target_core.specs.Moves.{Moves, Stands, StandsIn, connection_after, connection_moved}
-use Rattle.target_core.specs.Controllers.{controller_places}
 use Rattle.target_core.specs.Target.{TargetState, conversation_at, meets, IsNewTarget, world_at}
 use Rattle.target_decision.specs.declared.controller.Controller.{Controller}
 use Rattle.target_decision.specs.declared.session.Conversation.{Conversation}

@@ -1,10 +1,8 @@
 pub mod Agreements
 pub mod Calls
-pub mod Changing
 pub mod Fronts
 pub mod Moving
 pub mod Places
-pub mod Removing
 pub mod Settling
 pub mod Shows
 pub mod Stepping

@@ -9,11 +9,12 @@ use Rattle.number_table.proofs.Tables.{least_free-Some, place_within, place-map,
 use Rattle.config_edits.specs.declared.edit.Edit.{Edit}
 use Rattle.config_rules.specs.Accept.{accept}
 use Rattle.config_rules.specs.Configuration.{Configuration}
+use Rattle.controller_tables.specs.Controllers.{TablesState, gone_by}
+use Rattle.controller_tables.proofs.Staying.{nothing_gone, nothing_goes, nothing_leaves}
 use Rattle.fabrics_connect.specs.declared.row.Row.{Row}
 use Rattle.pdu_cut.specs.declared.side.Side.TheVariants.{Target}
 use Rattle.pdu_cut.specs.Front.{Front, front}
 use Rattle.target_core.specs.Connection.{ConnectionState, acted, fresh_on, settled}
-use Rattle.target_core.specs.Controllers.{TablesState, gone_by}
 use Rattle.target_core.specs.Moves.{Moves, connection_moved}
 use Rattle.target_core.specs.Target.{TargetState, is_incomplete, meets, world_at}
 use Rattle.target_core.specs.Views.{ShowNext}
@@ -31,7 +32,7 @@ use Rattle.target_history.specs.declared.ending.Ending.TheVariants as ending
 use Rattle.target_history.specs.Ending.{ending_decided, ending_edited, ending_lost, ends_by, ends_controller}
 use Rattle.target_history.specs.Event.{Event, edited, front_in, opened, stepped, given_up, ticked}
 use Rattle.target_history.specs.Happening.{Happening, change_decided, config_after, controller_changed, decided, decision_of, ending_of, ends_live, is_end_decided, row_changed, row_kept, sends_on, session_decided, terminates}
-use Rattle.target_core.proofs.Settling.{QuietWhere, changed_alike, decision_settles, nothing_gone, nothing_goes, nothing_leaves, same_at}
+use Rattle.target_core.proofs.Settling.{same_at}
 
 abbrev pub tables_of : TargetState → TablesState
 tables_of t = record { rows = t.rows; own = t.controllers }

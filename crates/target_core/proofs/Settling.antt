@@ -1,12 +1,8 @@
--- What the walks that end controllers and connections leave.
+-- What the walks that end connections leave.
 use Rattle.std.proofs.Common.{◌≡◌, ℕ, Bool, true, false, ◌||◌, List, [], ◌∷◌, map, Option, Some, None, refl, sym, ap, ◌∙◌}
-use Rattle.std.specs.Prelude.{if◌then◌else◌, ◌==◌}
+use Rattle.std.specs.Prelude.{if◌then◌else◌}
 use Rattle.std.specs.Option.{option_map}
-use Rattle.config_rules.specs.Configuration.{Configuration}
-use Rattle.fabrics_connect.specs.declared.row.Row.{Row}
-use Rattle.fabrics_connect.specs.Row.{with_ready}
 use Rattle.target_core.specs.Connection.{ConnectionState, settled}
-use Rattle.target_decision.specs.declared.controller.Controller.{Controller}
 use Rattle.target_decision.specs.declared.decision.Change.{Change}
 use Rattle.target_decision.specs.declared.decision.Change.TheVariants as change
 use Rattle.target_decision.specs.declared.decision.Decision.{Decision}
@@ -17,14 +13,9 @@ use Rattle.target_decision.specs.declared.session.Session.TheVariants.{Opened, I
 use Rattle.target_decision.specs.Session.{replied, session_after}
 use Rattle.target_history.specs.declared.ending.Ending.{Ending}
 use Rattle.target_history.specs.declared.ending.Ending.TheVariants as ending
-use Rattle.target_history.specs.Ending.{ending_changed, ending_decided, ends_by, ends_controller, ends_session, is_on_port}
-use Rattle.target_history.specs.Happening.{ready_after, row_changed, row_kept}
+use Rattle.target_history.specs.Ending.{ending_changed, ending_decided, ends_by, ends_session, is_on_port}
 
 -- ---- where nothing ends
-
-pub nothing_gone : (config : Configuration) (c : ℕ) (row : Option Row) (own : Option Controller) → ends_controller ending.Nothing config c row own ≡ false
-nothing_gone config c None own = refl
-nothing_gone config c (Some row) own = refl
 
 nothing_ends : (gone : ℕ → Bool) → ((c : ℕ) → gone c ≡ false) → (s : Session) → ends_session ending.Nothing gone s ≡ false
 nothing_ends gone none Opened = refl
@@ -43,18 +34,6 @@ same_at gone none (Some c) = ap Some (nothing_settled gone none c)
 pub nothing_settles : (gone : ℕ → Bool) → ((c : ℕ) → gone c ≡ false) → (l : List (Option ConnectionState)) → map (option_map (settled ending.Nothing gone)) l ≡ l
 nothing_settles gone none [] = refl
 nothing_settles gone none (o ∷ l) = rw (same_at gone none o, nothing_settles gone none l) refl
-
-kept_same : (c : ℕ) (o : Option Row) → option_map (row_kept ending.Nothing c) o ≡ o
-kept_same c None = refl
-kept_same c (Some row) = refl
-
-pub nothing_leaves : (gone : Bool) (c : ℕ) (o : Option Row) → gone ≡ false → o ≡ (if gone then None else option_map (row_kept ending.Nothing c) o)
-nothing_leaves true c o none = cc
-nothing_leaves false c o none = sym (kept_same c o)
-
-pub nothing_goes : {A : Type 0} (gone : Bool) (o : Option A) → gone ≡ false → o ≡ (if gone then None else o)
-nothing_goes true o none = cc
-nothing_goes false o none = refl
 
 -- ---- where a decision ends something
 
@@ -102,23 +81,3 @@ decision_settles (decision.Terminate t) gone port s quiet =
     either_ended (ends_in (ending_decided s (decision.Terminate t)) gone port Ended) (ends_in (ending_decided s (decision.Terminate t)) gone port s)
 decision_settles decision.Close gone port s quiet =
     either_ended (ends_in (ending_decided s decision.Close) gone port Ended) (ends_in (ending_decided s decision.Close) gone port s)
-
--- ---- what a change makes of a row
-
-abbrev no_row : Option Row
-no_row = None
-
--- a Property Set of a controller that is gone makes nothing of its row
-pub changed_alike : (ch : Change) (begun : Option Row) (gone : Bool) (c : ℕ) (own : Option Controller) (o : Option Row)
-    → row_changed ch begun (if gone then None else own) c (if gone then None else o) ≡ row_changed ch begun own c (if gone then None else o)
-changed_alike ch begun false c own o = refl
-changed_alike change.Stay begun true c own o = refl
-changed_alike (change.Begin b) begun true c own o = refl
-changed_alike (change.Join j) begun true c own o = refl
-changed_alike (change.KeepAlive d) begun true c own o = refl
-changed_alike (change.Configure s) begun true c own o = by (c == s.cntlid) where
-  by : (same : Bool)
-      → (if same then option_map (with_ready (ready_after None s)) no_row else no_row)
-      ≡ (if same then option_map (with_ready (ready_after own s)) no_row else no_row)
-  by true = refl
-  by false = refl

@@ -6,12 +6,14 @@ use Rattle.std.proofs.Math.Dec.{T, eqb_refl}
 use Rattle.std.proofs.lemmas.Bool.{eqb-true}
 use Rattle.number_table.specs.Table.{place, with_value}
 use Rattle.number_table.proofs.Tables.{place_within, place-map, place-with_value}
+use Rattle.controller_tables.specs.Controllers.{gone_by}
+use Rattle.controller_tables.proofs.Changing.{changed_alike}
+use Rattle.controller_tables.proofs.Staying.{nothing_gone}
 use Rattle.fabrics_connect.specs.declared.row.Row.{Row}
 use Rattle.pdu_cut.specs.declared.side.Side.TheVariants.{Target}
 use Rattle.pdu_cut.specs.Front.{Front, front}
 use Rattle.target_core.specs.declared.fault.Stepped.{Stepped}
 use Rattle.target_core.specs.Connection.{ConnectionState, acted, settled}
-use Rattle.target_core.specs.Controllers.{gone_by}
 use Rattle.target_core.specs.Moves.{ActedAt, Moves, StepsBy, connection_moved, stepped_by}
 use Rattle.target_core.specs.Target.{IsTarget, TargetState, is_idle, is_incomplete, meets, world_at}
 use Rattle.target_decision.specs.declared.controller.Controller.{Controller}
@@ -32,7 +34,7 @@ use Rattle.target_history.specs.Event.{stepped}
 use Rattle.target_history.specs.Happening.{Happening, change_decided, change_of, controller_changed, decided, decision_of, ending_of, ends_live, is_end_decided, port_met, row_changed, row_kept, terminates}
 use Rattle.target_core.proofs.Moving.{moved_is, silent_at, stream_stays, tables_of, turned}
 use Rattle.target_core.proofs.Places.{connection_is_target, map_is_target, stream_is_target}
-use Rattle.target_core.proofs.Settling.{QuietWhere, changed_alike, decision_settles, nothing_gone}
+use Rattle.target_core.proofs.Settling.{QuietWhere, decision_settles}
 
 -- ---- what is decided
 

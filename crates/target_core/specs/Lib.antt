@@ -1,6 +1,5 @@
 pub mod Agreement
 pub mod Connection
-pub mod Controllers
 pub mod Fault
 pub mod Moves
 pub mod Target

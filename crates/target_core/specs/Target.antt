@@ -4,6 +4,7 @@ use Rattle.std.specs.Option.{option_map}
 use Rattle.number_table.specs.Table.{place, with_value, without}
 use Rattle.config_rules.specs.Configuration.{Configuration}
 use Rattle.config_lists.specs.declared.port.Port.{Port}
+use Rattle.controller_tables.specs.Controllers.{controller_places}
 use Rattle.pdu_cut.specs.declared.side.Side.TheVariants.{Target}
 use Rattle.pdu_cut.specs.Side.{capacity_of}
 use Rattle.pdu_cut.specs.Front.{Front, incomplete, whole, faulty, front}
@@ -13,7 +14,6 @@ use Rattle.target_core.specs.declared.fault.NoConn.{NoConn}
 use Rattle.target_core.specs.declared.fault.OpenFault.{OpenFault}
 use Rattle.target_core.specs.declared.fault.OpenFault.TheVariants.{NoSuchPort, Full}
 use Rattle.target_core.specs.Connection.{ConnectionState}
-use Rattle.target_core.specs.Controllers.{controller_places}
 use Rattle.target_core.specs.Views.{ShowFirst, ViewsShown, pages_shown}
 use Rattle.target_decision.specs.declared.controller.Controller.{Controller}
 use Rattle.target_decision.specs.declared.session.Conversation.{Conversation}

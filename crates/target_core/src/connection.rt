@@ -1,8 +1,8 @@
 //! One connection: how far it has come, and what it has to send.
 ghost use Rattle.std.specs.Prelude.{◌≡◌, ◌≤◌, OnErr, OnOk, drop, length};
+ghost use Rattle.controller_tables.specs.Controllers.{is_gone};
 ghost use Rattle.pdu_cut.specs.Cut.{front_shown};
 ghost use Rattle.target_core.specs.Connection.{acted, fresh_on, settled};
-ghost use Rattle.target_core.specs.Controllers.{is_gone};
 ghost use Rattle.target_decision.specs.Decision.{head_of};
 ghost use Rattle.target_decision.specs.Session.{is_ended};
 ghost use Rattle.target_decision.specs.World.{world_in};

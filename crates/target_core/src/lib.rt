@@ -19,7 +19,6 @@
 #![tactic(auto)]
 
 mod connection;
-mod controllers;
 mod fault;
 mod settle;
 mod stream;

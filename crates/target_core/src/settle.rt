@@ -3,12 +3,12 @@
 ghost use Rattle.std.specs.Prelude.{◌≡◌, ℕ, None, if◌then◌else◌, map};
 ghost use Rattle.std.specs.Option.{option_map};
 ghost use Rattle.number_table.specs.Table.{place};
+ghost use Rattle.controller_tables.specs.Controllers.{gone_by, is_gone};
 ghost use Rattle.target_core.specs.Connection.{settled};
-ghost use Rattle.target_core.specs.Controllers.{gone_by, is_gone};
 ghost use Rattle.target_history.specs.Happening.{row_kept};
 
 use crate::connection::Connection;
-use crate::controllers::ControllerTables;
+use controller_tables::ControllerTables;
 use number_table::NumberTable;
 use nvt_config::Config;
 use target_history::Ending;

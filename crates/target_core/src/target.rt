@@ -16,11 +16,11 @@ ghost use Rattle.target_core.specs.Target.{free_number, is_ended_at, is_incomple
 ghost use Rattle.target_history.specs.Event.{edited, given_up, opened, ticked};
 
 use crate::connection::Connection;
-use crate::controllers::{ControllerTables, change_of};
 use crate::fault::{NoConn, OpenFault, StepFault, Stepped};
 use crate::settle::settle;
 use crate::stream::Stream;
 use crate::views::Views;
+use controller_tables::{ControllerTables, change_of};
 use fabrics_connect::Row;
 use number_table::NumberTable;
 use nvt_config::{Config, Edit, EditFault, NewFault};

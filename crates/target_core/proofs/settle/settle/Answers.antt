@@ -1,6 +1,7 @@
 use Rattle.std.proofs.Common.{sym}
 use Rattle.number_table.specs.Table.{place}
-use Rattle.target_core.proofs.Settling.{nothing_gone, nothing_settles}
+use Rattle.controller_tables.proofs.Staying.{nothing_gone}
+use Rattle.target_core.proofs.Settling.{nothing_settles}
 use Rattle.target_core.proofs.settle.settle.Goals as goal
 
 pub returns-in-Nothing-clause-connections : goal.returns-in-Nothing-clause-connections

@@ -1,7 +1,7 @@
 use Rattle.std.proofs.Common.{refl, ap, sym, ◌∙◌}
 use Rattle.std.specs.Option.{option_copied}
 use Rattle.target_core.specs.contracts.target.Target.{the_view}
-use Rattle.target_core.proofs.Changing.{can_change}
+use Rattle.controller_tables.proofs.Changing.{can_change}
 use Rattle.target_core.proofs.Stepping.{acted_known, row_known, step_done, step_is_target}
 use Rattle.target_core.proofs.target.Target.step_on.Goals as goal
 

@@ -1,5 +1,5 @@
 -- The controllers that live, as the calls of a target see them.
-use Rattle.std.specs.Prelude.{◌≡◌, ◌<◌, ℕ, Bool, false, true, List, length, replicate, slice_index_or, Option, Some, None, is_none, is_some}
+use Rattle.std.specs.Prelude.{◌≡◌, ℕ, Bool, false, true, List, length, replicate, slice_index_or, Option, None, is_none, is_some}
 use Rattle.admin_queue.specs.Pages.{Pages}
 use Rattle.config_rules.specs.Configuration.{Configuration}
 use Rattle.fabrics_connect.specs.declared.row.Row.{Row}

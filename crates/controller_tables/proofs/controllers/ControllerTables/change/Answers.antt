@@ -1,5 +1,5 @@
-use Rattle.target_core.proofs.Changing.{configured_rows, configured_tables}
-use Rattle.target_core.proofs.controllers.ControllerTables.change.Goals as goal
+use Rattle.controller_tables.proofs.Changing.{configured_rows, configured_tables}
+use Rattle.controller_tables.proofs.controllers.ControllerTables.change.Goals as goal
 
 pub invariant_of-self-in-Configure-1 : goal.invariant_of-self-in-Configure-1
 invariant_of-self-in-Configure-1 c =

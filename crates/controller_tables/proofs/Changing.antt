@@ -9,7 +9,7 @@ use Rattle.fabrics_connect.specs.Row.{with_ready}
 use Rattle.number_table.specs.Table.{place}
 use Rattle.number_table.proofs.Tables.{place_within, place-replicate, place-with_value}
 use Rattle.pdu_cut.specs.Front.{Front}
-use Rattle.target_core.specs.Controllers.{AreTables, CanChange, TablesState, controller_places}
+use Rattle.controller_tables.specs.Controllers.{AreTables, CanChange, TablesState, controller_places}
 use Rattle.target_decision.specs.declared.controller.Controller.{Controller}
 use Rattle.target_decision.specs.declared.decision.Change.{Change}
 use Rattle.target_decision.specs.declared.decision.Change.TheVariants as change
@@ -100,6 +100,26 @@ pub can_change : (d : Decision) (ch : Change) (begun : Option Row) (port : ℕ) 
     → ch ≡ change_decided (Some d) → begun ≡ row_decided d port found → BeginsFree (λ c. place old c) d
     → ((n : ℕ) → place t.rows n ≡ (if gone n then None else option_map (row_kept e n) (place old n))) → CanChange ch begun t
 can_change d ch begun port found old t gone e is made free rows = rw (is, made) (can_change_so d port found old t gone e free rows)
+
+-- ---- a controller that is gone
+
+abbrev no_row : Option Row
+no_row = None
+
+-- a Property Set of a controller that is gone makes nothing of its row
+pub changed_alike : (ch : Change) (begun : Option Row) (gone : Bool) (c : ℕ) (own : Option Controller) (o : Option Row)
+    → row_changed ch begun (if gone then None else own) c (if gone then None else o) ≡ row_changed ch begun own c (if gone then None else o)
+changed_alike ch begun false c own o = refl
+changed_alike change.Stay begun true c own o = refl
+changed_alike (change.Begin b) begun true c own o = refl
+changed_alike (change.Join j) begun true c own o = refl
+changed_alike (change.KeepAlive d) begun true c own o = refl
+changed_alike (change.Configure s) begun true c own o = by (c == s.cntlid) where
+  by : (same : Bool)
+      → (if same then option_map (with_ready (ready_after None s)) no_row else no_row)
+      ≡ (if same then option_map (with_ready (ready_after own s)) no_row else no_row)
+  by true = refl
+  by false = refl
 
 -- ---- no controller
 

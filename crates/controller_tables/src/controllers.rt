@@ -1,9 +1,9 @@
-//! The controllers that live: what all connections may see of each, and what its own admin queue
-//! alone uses.
+//! The controllers that live, in two tables by their identifiers: what all connections may see of
+//! each, and what its own admin queue alone uses. Both have the same controllers.
 ghost use Rattle.std.specs.Prelude.{◌≡◌, ℕ, IfOk, None, Some, if◌then◌else◌, length};
 ghost use Rattle.std.specs.Option.{option_map};
 ghost use Rattle.number_table.specs.Table.{place};
-ghost use Rattle.target_core.specs.Controllers.{AreTables, CanChange, IsNewTables, gone_by, is_gone, world_with};
+ghost use Rattle.controller_tables.specs.Controllers.{AreTables, CanChange, IsNewTables, gone_by, is_gone, world_with};
 ghost use Rattle.target_decision.specs.declared.decision.Change.TheVariants as change;
 ghost use Rattle.admin_queue.specs.Pages.{pages_in};
 ghost use Rattle.target_decision.specs.World.{world_in};
@@ -18,18 +18,21 @@ use std::marker::Model;
 use target_decision::{Change, Controller, Decision, Setting, TimerStart, World};
 use target_history::Ending;
 
-/// A place for each controller identifier, from 1 to 32, and for 0, which is never given.
-pub(crate) const PLACES: usize = 33;
+/// The places of a table, and of the answer of `ControllerTables::end`: one for each controller
+/// identifier from 1 to 32, and for 0, which is never given.
+pub const PLACES: usize = 33;
 
-/// The controllers that live, under their identifiers.
+/// The controllers that live, at most 32, under their identifiers (CNTLID; Base 2.0, section 3.1).
+/// A contract sees two lists, each with a place for each identifier: `rows`, with what a Connect
+/// looks at, and `own`, with what only the admin queue of the controller uses.
 #[derive(Drop)]
-pub(crate) struct ControllerTables {
+pub struct ControllerTables {
     rows: Controllers,
     own: NumberTable<Controller>,
 }
 
 impl Model for ControllerTables {
-    ghost use Rattle.target_core.specs.Controllers.{AreTables, TablesState};
+    ghost use Rattle.controller_tables.specs.Controllers.{AreTables, TablesState};
 
     ghost Value = { TablesState };
 
@@ -39,8 +42,9 @@ impl Model for ControllerTables {
 }
 
 impl ControllerTables {
-    /// No controller. No later call takes memory.
-    pub(crate) fn new(alloc: Global) -> Result<ControllerTables, AllocError>
+    /// No controller. It takes the memory of both tables, or answers that it is not there; no later
+    /// call takes memory.
+    pub fn new(alloc: Global) -> Result<ControllerTables, AllocError>
         ensures { IfOk result IsNewTables }
     {
         Ok(ControllerTables {
@@ -49,8 +53,8 @@ impl ControllerTables {
         })
     }
 
-    /// What a decision may look at, with these pages and this configuration.
-    pub(crate) fn world<'a>(&'a self, pages: &'a Pages<'a>, config: &'a Config) -> World<'a>
+    /// What a decision may look at, with these pages and this configuration. It lends the tables.
+    pub fn world<'a>(&'a self, pages: &'a Pages<'a>, config: &'a Config) -> World<'a>
         ensures { world_in result ≡ world_with (pages_in pages.now) config.now self.now }
     {
         World {
@@ -61,9 +65,11 @@ impl ControllerTables {
         }
     }
 
-    /// Ends the controllers that it ends, where the configuration has become this, and takes from
-    /// those that stay the queues that are gone. Says which are ended.
-    pub(crate) fn end(&mut self, config: &Config, ending: &Ending) -> [bool; PLACES]
+    /// Removes the controllers that an event ends, where it has left this configuration: by a Keep
+    /// Alive Timeout (Base 2.0, section 3.9), with their admin connection, their port or their host's
+    /// permission. From those that stay it takes the I/O queues that are gone, of one that is reset
+    /// all. It answers for each identifier whether its controller is ended.
+    pub fn end(&mut self, config: &Config, ending: &Ending) -> [bool; PLACES]
         ensures gone { (c : ℕ) → is_gone result c
             ≡ gone_by ending.now config.now self.old c }
         ensures rows { (c : ℕ) → place self.new.rows c
@@ -81,8 +87,11 @@ impl ControllerTables {
     }
 
     /// Makes the change of a reply, with the row of the controller that it begins, when the clock
-    /// shows `now`.
-    pub(crate) fn change(&mut self, now: u64, change: &Change, row: Option<Row>)
+    /// shows `now`, in ms: a controller begins, an I/O queue joins one (both by a Connect; Base 2.0,
+    /// section 6.3), a property is set, or a Keep Alive Timer starts again. A controller that begins
+    /// has to have a row and an identifier that is free. What names a controller that is not there
+    /// changes nothing.
+    pub fn change(&mut self, now: u64, change: &Change, row: Option<Row>)
         requires { CanChange change.now row self.old }
         ensures rows { (c : ℕ) → place self.new.rows c
             ≡ row_changed change.now row (place self.old.own c) c (place self.old.rows c) }
@@ -192,8 +201,8 @@ fn keep_alive(own: &mut NumberTable<Controller>, start: &TimerStart, now: u64)
     }
 }
 
-/// What a decision changes.
-pub(crate) fn change_of(decision: &Decision) -> Change
+/// What a decision changes of the controllers: what its reply says, and nothing where it is none.
+pub fn change_of(decision: &Decision) -> Change
     ensures { result ≡ change_decided (Some decision.now) }
 {
     match decision {

@@ -1,11 +1,11 @@
 -- How far the walks over the controllers have come.
-use Rattle.std.proofs.Common.{◌≡◌, ◌⊎◌, ℕ, ◌<◌, ◌≤◌, Bool, false, List, length, replicate, Option, None, inl, inr, arith}
+use Rattle.std.proofs.Common.{◌≡◌, ◌⊎◌, ℕ, ◌<◌, ◌≤◌, Bool, false, List, replicate, Option, None, inl, inr, arith}
 use Rattle.std.specs.Prelude.{if◌then◌else◌, nat_lt}
 use Rattle.std.proofs.lemmas.Bool.{cases_lt}
 use Rattle.std.proofs.lemmas.Bool.Decides.{nat_tests}
 use Rattle.std.proofs.lemmas.List.{get_or_past, get_or-replicate, length-replicate}
 use Rattle.config_rules.specs.Configuration.{Configuration}
-use Rattle.target_core.specs.Controllers.{TablesState, gone_by, is_gone}
+use Rattle.controller_tables.specs.Controllers.{TablesState, gone_by, is_gone}
 use Rattle.target_history.specs.declared.ending.Ending.{Ending}
 
 module _ {A : Type 0} where

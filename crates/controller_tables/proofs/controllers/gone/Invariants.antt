@@ -1,7 +1,7 @@
 use Rattle.std.proofs.Common.{◌≡◌, ℕ, length}
-use Rattle.target_core.specs.Controllers.{TablesState, is_gone}
-use Rattle.target_core.proofs.Removing.{found_below}
-use Rattle.target_core.proofs.controllers.gone.Given as goal
+use Rattle.controller_tables.specs.Controllers.{TablesState, is_gone}
+use Rattle.controller_tables.proofs.Removing.{found_below}
+use Rattle.controller_tables.proofs.controllers.gone.Given as goal
 
 -- those below are found
 abbrev pub invariant-loop-cntlid : goal.invariant-loop-cntlid

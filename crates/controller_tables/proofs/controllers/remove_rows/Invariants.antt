@@ -1,7 +1,7 @@
 use Rattle.std.proofs.Common.{◌≡◌, ℕ}
 use Rattle.number_table.specs.Table.{place}
-use Rattle.target_core.proofs.Removing.{removed_below}
-use Rattle.target_core.proofs.controllers.remove_rows.Given as goal
+use Rattle.controller_tables.proofs.Removing.{removed_below}
+use Rattle.controller_tables.proofs.controllers.remove_rows.Given as goal
 
 -- of those below, the ones that are gone are removed
 abbrev pub invariant-loop-cntlid : goal.invariant-loop-cntlid
