@@ -7,7 +7,7 @@ use Rattle.std.proofs.lemmas.Bool.{cases_lt}
 use Rattle.std.proofs.lemmas.Bool.Decides.{nat_tests}
 use Rattle.std.specs.List.{AllByRecursion}
 use lib.Seq.{paste}
-use Rattle.block_store.specs.Range.{units_at, overwritten}
+use Rattle.block_store.specs.Range.{units_at, overwritten, FrontWritten, IsWritten}
 use Rattle.block_store.specs.Write.{Write, IsWithin, contents_after, writes, latest}
 
 module _ (contents units : List (List ℕ)) (first : ℕ) (within : first + length units ≤ length contents) where
@@ -103,3 +103,41 @@ latest_stands (write ∷ earlier) contents unit (within, all) =
       | true ↦ refl
       | false ↦ latest_stands earlier contents unit all
     ]
+
+-- a front of a range, written
+module _ (contents units new : List (List ℕ)) (first : ℕ) (within : first + length units ≤ length contents) (torn : FrontWritten contents first units new) where
+  front_length : length (take torn.count units) ≡ torn.count
+  front_length = length-take-le torn.count units torn.within
+
+  front_within : first + length (take torn.count units) ≤ length contents
+  front_within = omega (arith, within, torn.within, front_length)
+
+  pub torn_count : length new ≡ length contents
+  torn_count = ap length torn.holds ∙ length-overwritten contents (take torn.count units) first front_within
+
+  torn_outside : (unit : ℕ) → (unit < first) ⊎ (first + length (take torn.count units) ≤ unit)
+      → get_or new unit [] ≡ get_or contents unit []
+  torn_outside unit apart =
+      ap (λ c. get_or c unit []) torn.holds
+      ∙ unit_outside contents (take torn.count units) first front_within unit [] apart
+
+  torn_inside : (unit : ℕ) → first ≤ unit → unit < first + torn.count → IsWritten first units new unit
+  torn_inside unit from below = record {
+    from = from;
+    below = omega (arith, torn.within, below);
+    bytes =
+        ap (λ c. get_or c unit []) torn.holds
+        ∙ unit_inside contents (take torn.count units) first front_within unit [] from (omega (arith, below, front_length))
+        ∙ get_or-take torn.count units (unit - first) [] (omega (arith, from, below));
+  }
+
+  pub torn_unit : (unit : ℕ) → (get_or new unit [] ≡ get_or contents unit []) ⊎ IsWritten first units new unit
+  torn_unit unit =
+      elim (cases_lt unit first) [
+        | inl before ↦ inl (torn_outside unit (inl before))
+        | inr from ↦
+            elim (cases_lt unit (first + torn.count)) [
+              | inl below ↦ inr (torn_inside unit from below)
+              | inr behind ↦ inl (torn_outside unit (inr (omega (arith, behind, front_length))))
+            ]
+      ]

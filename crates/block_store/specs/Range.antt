@@ -1,5 +1,5 @@
 -- Ranges of the units of a disk.
-use Rattle.std.specs.Prelude.{◌≡◌, ℕ, ◌+◌, ◌/◌, ◌≤◌, List, ◌++◌, length, take, drop}
+use Rattle.std.specs.Prelude.{◌≡◌, ℕ, ◌+◌, ◌-◌, ◌/◌, ◌<◌, ◌≤◌, List, [], ◌++◌, length, take, drop, slice_index_or}
 use Rattle.std.specs.List.{concat}
 use Rattle.std.specs.Simd.{first_chunks}
 
@@ -25,3 +25,9 @@ pub record FrontWritten (contents : List (List ℕ)) (first : ℕ) (units new : 
   pub count : ℕ
   pub within : count ≤ length units
   pub holds : new ≡ overwritten contents first (take count units)
+
+-- the unit is one of those from that number on, and has what was written to it
+pub record IsWritten (first : ℕ) (units new : List (List ℕ)) (unit : ℕ) : Type 0 where
+  pub from : first ≤ unit
+  pub below : unit < first + length units
+  pub bytes : slice_index_or new unit [] ≡ slice_index_or units (unit - first) []

@@ -2,7 +2,7 @@
 ghost use Rattle.std.specs.Prelude.{◌≡◌, ◌≢◌, ◌⊎◌, ℕ, ◌+◌, ◌*◌, ◌≤◌, List, [], ◌++◌, length, slice_index_or, unwrap_or};
 ghost use Rattle.std.specs.List.{All};
 ghost use Rattle.block_store.specs.Faults.{raised};
-ghost use Rattle.block_store.specs.Range.{bytes_of, units_of, units_at, overwritten};
+ghost use Rattle.block_store.specs.Range.{bytes_of, units_of, units_at, overwritten, FrontWritten, IsWritten};
 ghost use Rattle.block_store.specs.Unit.{IsUnit};
 ghost use Rattle.block_store.specs.Write.{Write, IsWithin, contents_after, latest};
 
@@ -40,6 +40,18 @@ pub fn later_write_stands()
         → first + length units + length more ≤ length contents
         → overwritten (overwritten contents first units) (first + length units) more
         ≡ overwritten contents first (units ++ more) }
+{}
+
+/// A law: after a write that a fault cut short each unit is as before, or is one of the range and has
+/// what was written to it; and there are as many units as before.
+pub fn torn_write_is_old_or_new()
+    ensures unit { (contents units new : List (List ℕ)) (first unit : ℕ)
+        → first + length units ≤ length contents → FrontWritten contents first units new
+        → (slice_index_or new unit [] ≡ slice_index_or contents unit [])
+        ⊎ IsWritten first units new unit }
+    ensures count { (contents units new : List (List ℕ)) (first : ℕ)
+        → first + length units ≤ length contents → FrontWritten contents first units new
+        → length new ≡ length contents }
 {}
 
 /// A law: bytes of whole units and the units that they are cut into say the same.
