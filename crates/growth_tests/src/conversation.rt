@@ -2,6 +2,7 @@
 use super::pdus::{FAULTY, PDUS, TERMINATION, laid, wanted};
 use super::rows::tell;
 use super::targets::{Script, is_edited, is_opened, is_used};
+use block_store::MemoryDisk;
 use nvt_config::NewFault;
 use std::alloc::{AllocError, Global};
 use std::process::Abort;
@@ -10,12 +11,18 @@ use target_core::{StepFault, Stepped, Target};
 use test_edits::Line;
 
 // What is seen of a connection.
-fn seen(target: &Target, k: usize) -> (usize, bool, usize) {
+fn seen(target: &Target<MemoryDisk>, k: usize) -> (usize, bool, usize) {
     (target.room(k), target.ended(k), target.output(k).len())
 }
 
 // Brings a PDU, and steps; where the step wants memory, nothing is consumed, sent or ended.
-fn is_taken(target: &mut Target, k: usize, pdu: &[u8], wanted: Stepped, refused: &mut u32) -> bool {
+fn is_taken(
+    target: &mut Target<MemoryDisk>,
+    k: usize,
+    pdu: &[u8],
+    wanted: Stepped,
+    refused: &mut u32,
+) -> bool {
     let received = target.receive(k, pdu) == Ok(pdu.len());
     let before = seen(target, k);
     let mut stepped = target.step(k);
@@ -30,7 +37,7 @@ fn is_taken(target: &mut Target, k: usize, pdu: &[u8], wanted: Stepped, refused:
 }
 
 // The output of the PDUs is not taken, so that it grows.
-fn is_served(target: &mut Target, k: usize, refused: &mut u32) -> bool {
+fn is_served(target: &mut Target<MemoryDisk>, k: usize, refused: &mut u32) -> bool {
     for (len, pieces) in PDUS {
         let pdu: [u8; 1096] = laid(pieces);
         if !is_taken(target, k, &pdu[..(*len).min(1096)], Stepped::One, refused) {
@@ -44,7 +51,7 @@ fn is_served(target: &mut Target, k: usize, refused: &mut u32) -> bool {
 }
 
 // Takes all output, in two parts.
-fn is_output_taken(target: &mut Target, k: usize) -> bool {
+fn is_output_taken(target: &mut Target<MemoryDisk>, k: usize) -> bool {
     let half = target.output(k).len() / 2;
     target.taken(k, half);
     let is_rest = Some(target.output(k)) == wanted().get(half..);
@@ -53,7 +60,7 @@ fn is_output_taken(target: &mut Target, k: usize) -> bool {
     is_rest && target.output(k).is_empty()
 }
 
-fn is_ended_by_a_fault(target: &mut Target, k: usize, refused: &mut u32) -> bool {
+fn is_ended_by_a_fault(target: &mut Target<MemoryDisk>, k: usize, refused: &mut u32) -> bool {
     let ends = is_taken(target, k, FAULTY, Stepped::Ended, refused);
     let is_told = target.output(k) == TERMINATION.as_slice();
     let is_ended = target.ended(k) && target.room(k) == 0;
@@ -61,7 +68,12 @@ fn is_ended_by_a_fault(target: &mut Target, k: usize, refused: &mut u32) -> bool
     [ends, is_told, is_ended, target.output(k).is_empty()] == [true; 4]
 }
 
-pub fn serve_one(rt: &impl Abort, alloc: Global, target: &mut Target, refused: &mut u32) {
+pub fn serve_one(
+    rt: &impl Abort,
+    alloc: Global,
+    target: &mut Target<MemoryDisk>,
+    refused: &mut u32,
+) {
     let line = Line::PortAdd(1, b"127.0.0.1", 4420);
     again!(
         rt,

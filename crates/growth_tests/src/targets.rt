@@ -2,15 +2,16 @@
 use super::conversation;
 use super::pdus::ic_req;
 use super::rows::{EDITS, UNITS, edit_of, tell};
+use block_store::MemoryDisk;
 use nvt_config::{Config, Edit, EditFault, NewFault};
 use std::alloc::{AllocError, Global};
 use std::process::Abort;
 use std::test::Fail;
 use target_core::{OpenFault, StepFault, Stepped, Target};
-use test_edits::{Line, is_same};
+use test_edits::{Line, is_same, memory_disks};
 
 // What is seen of the connections: of each its room, whether it is ended, and how much output waits.
-fn seen(target: &Target) -> [(usize, bool, usize); 3] {
+fn seen(target: &Target<MemoryDisk>) -> [(usize, bool, usize); 3] {
     let mut seen = [(0, false, 0); 3];
     for (k, connection) in seen.iter_mut().enumerate() {
         *connection = (target.room(k), target.ended(k), target.output(k).len());
@@ -21,7 +22,7 @@ fn seen(target: &Target) -> [(usize, bool, usize); 3] {
 /// Makes the edit of a line; whether it is accepted, and all is as before where it wants memory.
 pub fn is_edited(
     alloc: Global,
-    target: &mut Target,
+    target: &mut Target<MemoryDisk>,
     line: Line<'_>,
     refused: &mut u32,
 ) -> Result<bool, AllocError> {
@@ -31,12 +32,16 @@ pub fn is_edited(
     is_made(target, &edit, refused)
 }
 
-fn is_made(target: &mut Target, edit: &Edit, refused: &mut u32) -> Result<bool, AllocError> {
+fn is_made(
+    target: &mut Target<MemoryDisk>,
+    edit: &Edit,
+    refused: &mut u32,
+) -> Result<bool, AllocError> {
     let before = target.config().try_clone()?;
     Ok(makes(target, &before, edit, refused))
 }
 
-fn makes(target: &mut Target, before: &Config, edit: &Edit, refused: &mut u32) -> bool {
+fn makes(target: &mut Target<MemoryDisk>, before: &Config, edit: &Edit, refused: &mut u32) -> bool {
     let connections = seen(target);
     let mut made = target.edit(edit);
     if made == Err(EditFault::Memory) {
@@ -50,7 +55,7 @@ fn makes(target: &mut Target, before: &Config, edit: &Edit, refused: &mut u32) -
 }
 
 // Opens a connection, which gets this number; where that wants memory, all is as before.
-pub fn is_opened(target: &mut Target, port: u16, k: usize, refused: &mut u32) -> bool {
+pub fn is_opened(target: &mut Target<MemoryDisk>, port: u16, k: usize, refused: &mut u32) -> bool {
     let connections = seen(target);
     let mut opened = target.open(port);
     if opened == Err(OpenFault::Memory) {
@@ -64,7 +69,7 @@ pub fn is_opened(target: &mut Target, port: u16, k: usize, refused: &mut u32) ->
 }
 
 // Brings an ICReq.
-fn is_initialized(target: &mut Target, k: usize, refused: &mut u32) -> bool {
+fn is_initialized(target: &mut Target<MemoryDisk>, k: usize, refused: &mut u32) -> bool {
     let received = target.receive(k, &ic_req());
     let mut stepped = target.step(k);
     if stepped == Err(StepFault::Memory) {
@@ -75,7 +80,7 @@ fn is_initialized(target: &mut Target, k: usize, refused: &mut u32) -> bool {
 }
 
 // Opens connections on both ports.
-fn open_both(rt: &impl Abort, target: &mut Target, refused: &mut u32) {
+fn open_both(rt: &impl Abort, target: &mut Target<MemoryDisk>, refused: &mut u32) {
     for (k, port) in [(0usize, 1u16), (1, 2)] {
         assert!(rt; is_opened(target, port, k, refused));
         assert!(rt; is_initialized(target, k, refused));
@@ -85,7 +90,7 @@ fn open_both(rt: &impl Abort, target: &mut Target, refused: &mut u32) {
 fn make_edits(
     rt: &impl Abort,
     alloc: Global,
-    target: &mut Target,
+    target: &mut Target<MemoryDisk>,
     lines: &[Line<'_>],
     refused: &mut u32,
 ) {
@@ -100,7 +105,7 @@ fn make_edits(
 }
 
 // Takes the output of both connections, and gives both up.
-fn are_ended(target: &mut Target) -> bool {
+fn are_ended(target: &mut Target<MemoryDisk>) -> bool {
     for k in 0..2usize {
         let len = target.output(k).len();
         target.taken(k, len);
@@ -115,12 +120,12 @@ fn are_ended(target: &mut Target) -> bool {
 // How many of the edits are made before connections are opened on both ports.
 const BEFORE: usize = 4;
 
-fn are_both_served(target: &mut Target) -> bool {
+fn are_both_served(target: &mut Target<MemoryDisk>) -> bool {
     // The second connection ended with its port, and keeps its output.
     seen(target) == [(32_768, false, 128), (0, true, 128), (0, false, 0)] && are_ended(target)
 }
 
-fn serve_both(rt: &impl Abort, alloc: Global, target: &mut Target, refused: &mut u32) {
+fn serve_both(rt: &impl Abort, alloc: Global, target: &mut Target<MemoryDisk>, refused: &mut u32) {
     let (first, others) = EDITS.split_at(EDITS.len().min(BEFORE));
     make_edits(rt, alloc, target, first, refused);
     open_both(rt, target, refused);
@@ -135,6 +140,13 @@ pub enum Script {
     Conversation,
 }
 
+fn new_target(alloc: Global) -> Result<Target<MemoryDisk>, NewFault> {
+    match memory_disks(alloc, UNITS) {
+        Ok(disks) => Target::new(alloc, disks),
+        Err(AllocError) => Err(NewFault::Memory),
+    }
+}
+
 /// Makes a target, and uses it.
 pub fn is_used(
     rt: &impl Abort,
@@ -142,7 +154,7 @@ pub fn is_used(
     script: Script,
     refused: &mut u32,
 ) -> Result<bool, NewFault> {
-    let mut target = Target::new(alloc, UNITS)?;
+    let mut target = new_target(alloc)?;
     match script {
         Script::Edits => serve_both(rt, alloc, &mut target, refused),
         Script::Conversation => conversation::serve_one(rt, alloc, &mut target, refused),

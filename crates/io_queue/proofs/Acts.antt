@@ -1,5 +1,5 @@
 -- What a write leaves where the disk failed, and where what was written is to last.
-use Rattle.std.proofs.Common.{◌≡◌, ◌≤◌, ℕ, ◌+◌, zero, suc, List, [], ◌++◌, length, take, drop, refl, sym, ap, ◌∙◌, arith}
+use Rattle.std.proofs.Common.{◌≡◌, ◌≤◌, ℕ, zero, suc, List, [], length, take, refl, sym, ap, ◌∙◌, arith}
 use Rattle.std.proofs.lemmas.List.{take_all}
 use Rattle.block_store.specs.Range.{FrontWritten, overwritten}
 use Rattle.block_store.specs.Stored.{Stored}

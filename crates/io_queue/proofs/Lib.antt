@@ -1,2 +1,5 @@
 pub mod Acts
+pub mod Deciding
+pub mod Executions
+pub mod Reading
 pub mod Within

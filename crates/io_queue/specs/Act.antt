@@ -1,5 +1,5 @@
 -- What an operation makes of its disk, and what it is answered.
-use Rattle.std.specs.Prelude.{◌≡◌, ◌≤◌, ℕ, ◌+◌, ◌%◌, ◌^◌, List, [], length, take}
+use Rattle.std.specs.Prelude.{◌≡◌, ◌≤◌, ℕ, ◌+◌, ◌%◌, ◌^◌, Bool, true, false, List, [], length, take}
 use Rattle.block_store.specs.Range.{bytes_of, overwritten, units_at}
 use Rattle.block_store.specs.Stored.{Stored}
 use Rattle.nvt_fields.specs.declared.status.Status.{Status}
@@ -14,6 +14,11 @@ pub data Medium : Type 0 where
   good : Medium
   read_fault : Medium
   write_fault_after : ℕ → Medium
+
+abbrev pub is_good : Medium → Bool
+is_good good = true
+is_good read_fault = false
+is_good (write_fault_after new) = false
 
 -- the disk counts a fault exactly where it failed
 abbrev pub faults_by : Medium → ℕ → ℕ
@@ -58,15 +63,6 @@ abbrev pub IsOfWrite : ℕ → Medium → Type 0
 IsOfWrite count good = Unit {0}
 IsOfWrite count read_fault = ⊥
 IsOfWrite count (write_fault_after new) = new ≤ count
-
--- a Read gives the extent's bytes, unless the disk failed to
-pub record Reads (e : Extent) (old new : Stored) (out : List ℕ) (status : Status) : Type 0 where
-  pub medium : Medium
-  pub of_read : IsOfRead medium
-  pub answer : status ≡ read_status medium
-  pub bytes : medium ≡ good → out ≡ extent_bytes e old
-  pub contents : new.contents ≡ old.contents
-  pub faults : new.faults ≡ faults_by medium old.faults
 
 -- a write of these units leaves them in their places, unless the disk failed, and all others as they were
 pub record Writes (first : ℕ) (units : List (List ℕ)) (old new : Stored) (status : Status) : Type 0 where

@@ -1,5 +1,5 @@
 -- The checks of an I/O command, in their order (NVM Command Set 1.0, section 3).
-use Rattle.std.specs.Prelude.{◌≡◌, ◌≤◌, ℕ, ◌+◌, ◌*◌, ◌^◌, ◌==◌, ◌||◌, not, nat_lt, Bool, true, false, List, Option, Some, None, IsSomeAnd, find, slice_get, Result, Ok, Err, if◌then◌else◌}
+use Rattle.std.specs.Prelude.{◌≤◌, ℕ, ◌+◌, ◌*◌, ◌^◌, ◌==◌, not, nat_lt, Bool, true, false, List, Option, Some, None, find, Result, Ok, Err, if◌then◌else◌}
 use Rattle.config_lists.specs.declared.group_state.AnaState.{AnaState}
 use Rattle.config_lists.specs.declared.group_state.AnaState.TheVariants.{Optimized, NonOptimized, Inaccessible, PersistentLoss, Change}
 use Rattle.config_lists.specs.declared.namespace.BlockSize.{BlockSize}
@@ -121,14 +121,3 @@ decide config port subsystem entry capsule_len = on_opcode (opcode_of_code (opco
 -- a namespace is no larger than a disk may be
 abbrev pub IsSmall : Namespace → Type 0
 IsSmall n = n.blocks * bytes_of n.block_size ≤ 2 ^ 49
-
--- a disk of these sizes is there, and has the extent
-abbrev pub IsExtent : List ℕ → Extent → Type 0
-IsExtent units e = IsSomeAnd (slice_get units e.disk) (λ size. e.first + e.units ≤ size)
-
-abbrev pub IsWithin : List ℕ → Operation → Type 0
-IsWithin units (operation.Flush disk) = IsSomeAnd (slice_get units disk) (λ size. Unit {0})
-IsWithin units (operation.Read e) = IsExtent units e
-IsWithin units (operation.Write e at fua) = IsExtent units e
-IsWithin units (operation.Compare e at) = IsExtent units e
-IsWithin units (operation.WriteZeroes e fua) = IsExtent units e

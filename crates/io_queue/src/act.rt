@@ -2,23 +2,11 @@
 ghost use Rattle.std.specs.Prelude.{◌≡◌, ◌+◌, ◌*◌, ◌≤◌, length, replicate, true};
 ghost use Rattle.block_store.specs.Range.{units_of};
 ghost use Rattle.block_store.specs.Unit.{zero_unit};
-ghost use Rattle.io_queue.specs.Act.{Compares, Flushes, IsSynced, Reads, Writes};
+ghost use Rattle.io_queue.specs.Act.{Compares, Flushes, IsSynced, Writes};
 
 use crate::operation::Extent;
 use block_store::{Disk, DiskFault, Store};
 use nvt_fields::Status;
-
-/// Reads the extent into `out`, straight from the disk.
-pub fn read<D: Disk>(store: &mut Store<D>, extent: &Extent, out: &mut [u8]) -> Status
-    requires within { extent.now.first + extent.now.units ≤ length store.old.contents }
-    requires len { length out.old ≡ 512 * extent.now.units }
-    ensures { Reads extent.now store.old store.new out.new result }
-{
-    match store.read(extent.first, out) {
-        Ok(()) => Status::SUCCESS,
-        Err(DiskFault) => Status::UNRECOVERED_READ_ERROR,
-    }
-}
 
 /// Writes the bytes to the extent, and with `fua` makes them last.
 #[tactic(auto, using(crate::proofs::Acts::front_new, crate::proofs::Acts::then_flushed))]
@@ -26,6 +14,7 @@ pub fn write<D: Disk>(store: &mut Store<D>, extent: &Extent, bytes: &[u8], fua: 
     requires within { extent.now.first + extent.now.units ≤ length store.old.contents }
     requires len { length bytes.now ≡ 512 * extent.now.units }
     ensures written { Writes extent.now.first (units_of bytes.now) store.old store.new result }
+    ensures units { length store.new.contents ≡ length store.old.contents }
     ensures synced { fua ≡ true → IsSynced store.new result }
 {
     match store.write(extent.first, bytes) {
@@ -41,6 +30,7 @@ pub fn write_zeroes<D: Disk>(store: &mut Store<D>, extent: &Extent, fua: bool) -
     requires { extent.now.first + extent.now.units ≤ length store.old.contents }
     ensures written { let zeros = replicate extent.now.units zero_unit in
         Writes extent.now.first zeros store.old store.new result }
+    ensures units { length store.new.contents ≡ length store.old.contents }
     ensures synced { fua ≡ true → IsSynced store.new result }
 {
     match store.zero(extent.first, extent.units) {

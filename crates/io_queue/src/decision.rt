@@ -1,6 +1,7 @@
 //! The checks of an I/O command, in their order.
 ghost use Rattle.std.specs.Prelude.{◌≡◌, IfOk};
-ghost use Rattle.io_queue.specs.Decision.{IsSmall, IsWithin, brought, data_len, decide, in_range};
+ghost use Rattle.io_queue.specs.Decision.{IsSmall, brought, data_len, decide, in_range};
+ghost use Rattle.io_queue.specs.Operation.{IsWithin};
 ghost use Rattle.io_queue.specs.Decision.{limited, on_namespace, read, state_verdict, units_of};
 
 use crate::opcode::IoOpcode;
@@ -28,7 +29,7 @@ pub fn decide(
 ) -> Result<Operation, Status>
     ensures decision { result ≡ decide config.now controller.now.port
         controller.now.subsystem.now sqe.now.entry.now capsule_len }
-    ensures within { IfOk result (IsWithin config.now.units) }
+    ensures within { IfOk result (IsWithin config.now.units capsule_len) }
 {
     let Some(opcode) = IoOpcode::from_code(sqe.opcode()) else {
         return Err(Status::INVALID_OPCODE);

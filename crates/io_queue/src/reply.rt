@@ -1,8 +1,8 @@
 //! A Read's data, straight from the disk into the output.
-ghost use Rattle.std.specs.Prelude.{◌≡◌, ◌+◌, ◌*◌, ◌^◌, ◌<◌, ◌≤◌, OnOk, length, take};
+ghost use Rattle.std.specs.Prelude.{◌≡◌, ◌+◌, ◌*◌, ◌^◌, ◌<◌, ◌≤◌, ◌++◌, OnOk, Some, length, take};
 ghost use Rattle.block_store.specs.Faults.{faults_after};
-ghost use Rattle.io_queue.specs.Act.{extent_bytes, good};
-ghost use Rattle.io_queue.specs.Reply.{AppendsRead, sent_by};
+ghost use Rattle.io_queue.specs.Act.{extent_bytes};
+ghost use Rattle.io_queue.specs.Reply.{AppendsRead, data_pdu};
 
 use crate::operation::Extent;
 use block_store::{Disk, DiskFault, Store, UNIT_LEN};
@@ -46,7 +46,7 @@ fn read_in_place<D: Disk>(
     requires bound { extent.now.units < 2 ^ 16 }
     requires room { 24 + 512 * extent.now.units ≤ output.old.spare }
     ensures placed { let bytes = extent_bytes extent.now store.old in
-        OnOk result (output.new.items ≡ sent_by good cid bytes output.old.items) }
+        OnOk result (output.new.items ≡ output.old.items ++ data_pdu cid (Some bytes)) }
     ensures front { take (length output.old.items) output.new.items ≡ output.old.items }
     ensures spare { output.old.spare ≤ output.new.spare + 24 + 512 * extent.now.units }
     ensures contents { store.new.contents ≡ store.old.contents }

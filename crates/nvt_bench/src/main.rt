@@ -1,12 +1,16 @@
 //! Measures the edit language: how many lines of edits a second are read, written back and checked
 //! against a configuration. `nvt_bench SETUP LINES` takes two files of edits: SETUP makes the
-//! configuration, over 256 disks, and the edits of LINES are measured.
+//! configuration, over 256 disks, and the edits of LINES are measured. Then it measures I/O commands on
+//! a target over a disk in memory, against bare copies of as many bytes.
 #![tactic(auto)]
 
-mod measure;
+mod clock;
+mod commands;
+mod edits;
+mod fault;
 
-use measure::{BenchFault, measure};
-use std::alloc::{AllocError, Global};
+use fault::BenchFault;
+use std::alloc::Global;
 use std::env;
 use std::fs::File;
 use std::io::Read;
@@ -57,7 +61,8 @@ fn run<R: Files + Clock + Print + AllocGlobal>(
     let alloc = rt.alloc();
     let setup = read_file(rt, alloc, setup)?;
     let lines = read_file(rt, alloc, lines)?;
-    measure(rt, &setup, &lines)
+    edits::measure(rt, &setup, &lines)?;
+    commands::measure(rt)
 }
 
 fn read_file<R: Files>(rt: &R, alloc: Global, path: &str) -> Result<Vec<u8>, BenchFault> {
@@ -68,11 +73,5 @@ fn read_file<R: Files>(rt: &R, alloc: Global, path: &str) -> Result<Vec<u8>, Ben
     match file.read_to_end(&mut bytes) {
         Ok(_) => Ok(bytes),
         Err(_) => Err(BenchFault::Io),
-    }
-}
-
-impl From<AllocError> for BenchFault {
-    fn from(_: AllocError) -> BenchFault {
-        BenchFault::Memory
     }
 }

@@ -4,6 +4,7 @@ use Rattle.std.specs.Prelude.{◌==◌, MatchOption, if◌then◌else◌}
 use Rattle.std.specs.Option.{option_map}
 use Rattle.std.proofs.lemmas.Bool.{eqb-true}
 use Rattle.std.proofs.lemmas.Bool.Decides.{nat_tests}
+use Rattle.io_queue.specs.Execution.{contents_at}
 use Rattle.number_table.specs.Table.{place}
 use Rattle.number_table.proofs.Tables.{place-with_value_held}
 use Rattle.controller_tables.proofs.Staying.{nothing_goes, nothing_gone, nothing_leaves}
@@ -31,6 +32,7 @@ record OnlyGone (k : ℕ) (old new : TargetState) : Type 0 where
   stream : (j : ℕ) → place new.streams j ≡ (if j == k then None else place old.streams j)
   row : (n : ℕ) → place new.rows n ≡ place old.rows n
   controller : (n : ℕ) → place new.controllers n ≡ place old.controllers n
+  blocks : (d : ℕ) → contents_at new.disks d ≡ contents_at old.disks d
 
 nothing_lost : (s : Session) → is_ended s ≡ true → ending_lost s ≡ ending.Nothing
 nothing_lost session.Opened ended = cc
@@ -50,6 +52,7 @@ only_gone k c old new known ended moves = record {
       ∙ ap (λ (e : Ending). if ends_live x n then None else option_map (row_kept e n) (place old.rows n)) nothing
       ∙ sym (nothing_leaves (ends_live x n) n (place old.rows n) (none n));
   controller = λ n. moves.controller n ∙ sym (nothing_goes (ends_live x n) (place old.controllers n) (none n));
+  blocks = moves.blocks;
 } where
   x : Happening
   x = meets old (given_up k)
@@ -107,6 +110,7 @@ closed_after k c old new known ended moves =
           ∙ gone_stream (j == k) (is_ended_at (place old.connections j)) (place old.streams j) (λ is. ap is_ended_at (known_at j is) ∙ ended);
       row = gone.row;
       controller = gone.controller;
+      blocks = gone.blocks;
     }
 
 closed_at : (k : ℕ) (o : Option ConnectionState) (old mid new : TargetState) → place old.connections k ≡ o → TakesOutput k o old mid → is_ended_at o ≡ true

@@ -5,6 +5,7 @@ use Rattle.std.specs.Option.{option_map}
 use Rattle.std.proofs.lemmas.Bool.{cases_eq, cases_lt, eqb-true}
 use Rattle.std.proofs.lemmas.Bool.Decides.{nat_tests}
 use Rattle.std.proofs.lemmas.List.{get_or_past, get_or-replicate, get_or-set_other, get_or-set_same, length-replicate, length-set}
+use Rattle.io_queue.specs.Act.{Medium}
 use Rattle.number_table.specs.Table.{place}
 use Rattle.number_table.proofs.Tables.{place-with_value_held}
 use Rattle.pdu_cut.specs.Front.{Front}
@@ -57,10 +58,10 @@ opened_marked old new port k marks within are moves = λ j.
     ∙ opened_at (meets old (opened port k)) port j (place old.connections j) (get_or marks j false) (j == k) (are j)
     ∙ sym (ap is_some (moves.connection j))
 
-pub stepped_marked : (old new : TargetState) (k : ℕ) (found : Front) (marks : List Bool) → AreMarks marks old
-    → Moves (stepped k found) old new → AreMarks marks new
-stepped_marked old new k found marks are moves = λ j.
-    are j ∙ sym (stays_known (meets old (stepped k found)) j (place old.connections j)) ∙ sym (ap is_some (moves.connection j))
+pub stepped_marked : (old new : TargetState) (k : ℕ) (found : Front) (m : Medium) (marks : List Bool) → AreMarks marks old
+    → Moves (stepped k found m) old new → AreMarks marks new
+stepped_marked old new k found m marks are moves = λ j.
+    are j ∙ sym (stays_known (meets old (stepped k found m)) j (place old.connections j)) ∙ sym (ap is_some (moves.connection j))
 
 left_at : (x : Happening) (j : ℕ) (o : Option ConnectionState) (mark same : Bool) → mark ≡ is_some o
     → (if same then false else mark) ≡ is_some (if same then None else option_map (connection_moved x j) o)

@@ -1,8 +1,11 @@
 -- The lines of a script, and what they print.
-use Rattle.std.proofs.Common.{◌≡◌, ℕ, ◌+◌, ◌-◌, arith, List, [], ◌∷◌, ◌++◌, take, drop, Option, refl, sym, ap, ◌∙◌, subst, append_assoc, append-nil}
+use Rattle.std.proofs.Common.{◌≡◌, ℕ, ◌+◌, ◌-◌, arith, List, [], ◌∷◌, ◌++◌, length, map, take, drop, Option, refl, sym, ap, ◌∙◌, subst, append_assoc, append-nil}
 use Rattle.std.proofs.KnownBytes.{Appends-trans}
 use Rattle.number_table.proofs.Tables.{place-replicate}
 use Rattle.config_edits.specs.declared.edit.Edit.{Edit}
+use Rattle.std.proofs.lemmas.List.{length-replicate}
+use Rattle.block_store.specs.Unit.{zero_unit}
+use Rattle.target_history.specs.History.{Opening}
 use Rattle.config_rules.specs.Configuration.{Configuration, disks_alone}
 use Rattle.line_words.specs.Lines.{lines_of}
 use Rattle.target_core.specs.Connection.{ConnectionState}
@@ -11,7 +14,7 @@ use Rattle.target_core.specs.Target.{IsNewTarget, TargetState, meets}
 use Rattle.target_history.specs.Event.{edited}
 use Rattle.nvt_replay.specs.declared.stream_line.StreamLine.{StreamLine}
 use Rattle.nvt_replay.specs.Played.{HasNone, Plays, PlaysAll, Prints}
-use Rattle.nvt_replay.specs.Replay.{IsConfigured, MovesByLine, MovesByLines}
+use Rattle.nvt_replay.specs.Replay.{zeroed, IsConfigured, MovesByLine, MovesByLines}
 use Rattle.nvt_replay.specs.StreamLine.{Says}
 use Rattle.nvt_replay.proofs.ReplayLemmas.{next_line}
 
@@ -26,8 +29,16 @@ edit_has_none old new edit moves none = λ k. moves.connection k ∙ ap (connect
 
 -- ---- lines of edits
 
-new_has_none : (c : Configuration) (t : TargetState) → IsNewTarget c t → HasNone t
-new_has_none c t new = λ k. rw new.connections (place-replicate {T = ConnectionState} 64 k)
+lengths : (units : List ℕ) → map length (zeroed units) ≡ units
+lengths [] = refl
+lengths (n ∷ units) = rw (length-replicate n zero_unit) (ap (λ (ns : List ℕ). n ∷ ns) (lengths units))
+
+-- the configuration of a target over disks of zeros
+pub new_config : (units : List ℕ) (t : TargetState) → IsNewTarget (zeroed units) t → t.config ≡ disks_alone units
+new_config units t new = new.over.config ∙ ap disks_alone (lengths units)
+
+new_has_none : (disks : Opening) (t : TargetState) → IsNewTarget disks t → HasNone t
+new_has_none disks t new = λ k. rw new.over.connections (place-replicate {T = ConnectionState} 64 k)
 
 edits_have_none : (lines : List (List ℕ)) (old new : TargetState) → MovesByLines lines old new → HasNone old → HasNone new
 edits_have_none [] old new moves none = rw moves none
@@ -37,7 +48,7 @@ edits_have_none (line ∷ lines) old new moves none =
 -- no connection is open yet when the edits are made
 pub configured_has_none : (edits units : List ℕ) (t : TargetState) → IsConfigured edits units t → HasNone t
 configured_has_none edits units t is =
-    edits_have_none (lines_of edits) is.first t is.moves (new_has_none (disks_alone units) is.first is.is_new)
+    edits_have_none (lines_of edits) is.first t is.moves (new_has_none (zeroed units) is.first is.is_new)
 
 MovesByLines-push : (lines : List (List ℕ)) (old mid new : TargetState) (line : List ℕ) → MovesByLines lines old mid → MovesByLine line mid new
     → MovesByLines (lines ++ line ∷ []) old new

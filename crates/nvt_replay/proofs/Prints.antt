@@ -78,6 +78,7 @@ left_at k None old new known takes lasts = rw takes (record {
   stream = λ j. stream_stays (j == k) (is_ended_at (place old.connections j)) (place old.streams j) (ended_there k j old None false known lasts);
   row = λ c. refl;
   controller = λ c. refl;
+  blocks = λ d. refl;
 })
 left_at k (Some c) old new known takes lasts = rw takes (record {
   config = refl;
@@ -90,6 +91,7 @@ left_at k (Some c) old new known takes lasts = rw takes (record {
   stream = λ j. stream_stays (j == k) (is_ended_at (place old.connections j)) (place old.streams j) (ended_there k j old (Some c) false known lasts);
   row = λ n. refl;
   controller = λ n. refl;
+  blocks = λ d. refl;
 })
 
 -- a connection that is not ended has nothing to send when its lines are printed
@@ -129,6 +131,7 @@ none_printed t = record {
   stream = λ j. rw (none j) refl;
   row = λ c. refl;
   controller = λ c. refl;
+  blocks = λ d. refl;
 } where
   none : (j : ℕ) → nat_lt j 0 ≡ false
   none j = grind (arith, nat_tests)
@@ -165,6 +168,7 @@ more_printed k old mid new first next = record {
       (first.stream j) (next.stream j));
   row = λ c. next.row c ∙ first.row c;
   controller = λ c. next.controller c ∙ first.controller c;
+  blocks = λ d. next.blocks d ∙ first.blocks d;
 }
 
 none_is : (o : Option ConnectionState) → is_some o ≡ false → o ≡ None

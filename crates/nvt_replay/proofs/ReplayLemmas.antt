@@ -12,7 +12,7 @@ use Rattle.config_rules.specs.Accept.{accept}
 use Rattle.config_rules.specs.Configuration.{Configuration, are_disks, disks_alone}
 use Rattle.config_text.specs.EditLine.{IsLineOf}
 use Rattle.line_words.specs.Lines.{lines_of}
-use Rattle.nvt_replay.specs.Replay.{AcceptsAll, Configures, EndsScript, Explains, IsFirstMalformed, RefusesEdits, RefusesLine, RefusesLines}
+use Rattle.nvt_replay.specs.Replay.{RefusesDisks, AcceptsAll, Configures, EndsScript, Explains, IsFirstMalformed, RefusesEdits, RefusesLine, RefusesLines}
 use Rattle.nvt_replay.specs.Replies.{Refuses}
 use Rattle.nvt_replay.specs.StreamLine.{IsStreamLine, Says}
 use Rattle.nvt_replay.specs.declared.stream_line.StreamLine.{StreamLine}
@@ -79,6 +79,14 @@ refused_at fault.Io edits n line rest old c e before refuses = refuses
 refused_at fault.Disks edits n line rest old c e before refuses = refuses
 
 -- the edits are refused where a line is
+-- what a fault of the disks says before the edits
+pub refused_disks : (f : ReplayFault) (edits units : List ℕ) → RefusesDisks f units → RefusesEdits f edits units
+refused_disks (fault.EditLine m reply) edits units refuses = absurd refuses
+refused_disks (fault.StreamLine m) edits units refuses = absurd refuses
+refused_disks fault.Memory edits units refuses = tt
+refused_disks fault.Io edits units refuses = absurd refuses
+refused_disks fault.Disks edits units refuses = refuses
+
 pub refused_edits : (f : ReplayFault) (edits units : List ℕ) → are_disks units ≡ true → RefusesLines f (lines_of edits) (disks_alone units) → RefusesEdits f edits units
 refused_edits (fault.EditLine m reply) edits units disks refuses = (disks, refuses)
 refused_edits (fault.StreamLine m) edits units disks refuses = refuses

@@ -3,6 +3,7 @@ use Rattle.std.proofs.Common.{◌≡◌, ℕ, suc, ◌+◌, ◌<◌, Bool, true,
 use Rattle.std.specs.Prelude.{◌==◌, ◌||◌, if◌then◌else◌}
 use Rattle.std.specs.Option.{option_map}
 use Rattle.std.proofs.lemmas.Bool.Decides.{nat_tests}
+use Rattle.io_queue.specs.Act.{Medium}
 use Rattle.number_table.specs.Table.{place}
 use Rattle.pdu_cut.specs.declared.side.Side.TheVariants.{Target}
 use Rattle.pdu_cut.specs.Front.{Front, incomplete, whole, faulty, front}
@@ -10,7 +11,7 @@ use Rattle.pdu_cut.proofs.Fronts.{front_whole}
 use Rattle.pdu_cut.proofs.Headers.{eight_within}
 use Rattle.target_core.specs.declared.fault.Stepped.TheVariants.{One, Ended}
 use Rattle.target_core.specs.Connection.{ConnectionState}
-use Rattle.target_core.specs.Moves.{Moves, StepsAt, connection_moved, stream_moved}
+use Rattle.target_core.specs.Moves.{Moves, StepsAt, StepsOn, connection_moved, stream_moved}
 use Rattle.target_core.specs.Target.{TargetState, is_idle, is_incomplete, meets}
 use Rattle.target_decision.specs.declared.decision.Decision.{Decision}
 use Rattle.target_decision.specs.declared.session.Session.{Session}
@@ -65,12 +66,12 @@ neither true b h = cc
 neither false b h = (refl, h)
 
 -- a step that finds a fault ends the connection
-decided_end : (t : TargetState) (k : ℕ) (c : ConnectionState) (found : Front) → (k == k) ≡ true → place t.connections k ≡ Some c
+decided_end : (t : TargetState) (k : ℕ) (c : ConnectionState) (found : Front) (m : Medium) → (k == k) ≡ true → place t.connections k ≡ Some c
     → is_ended c.conversation.session ≡ false → is_whole found ≡ false → is_incomplete found ≡ false
-    → (d : Decision) × (decided (meets t (stepped k found)) k ≡ Some d) × ((s : Session) → is_ended (session_after s d) ≡ true)
-decided_end t k c incomplete same known lasts not here = absurd (true≢false here)
-decided_end t k c (whole pdu) same known lasts not here = absurd (true≢false not)
-decided_end t k c (faulty fault head) same known lasts not here = (terminate fault.fes fault.fei, rw (same, known, lasts) refl, λ s. refl)
+    → (d : Decision) × (decided (meets t (stepped k found m)) k ≡ Some d) × ((s : Session) → is_ended (session_after s d) ≡ true)
+decided_end t k c incomplete m same known lasts not here = absurd (true≢false here)
+decided_end t k c (whole pdu) m same known lasts not here = absurd (true≢false not)
+decided_end t k c (faulty fault head) m same known lasts not here = (terminate fault.fes fault.fei, rw (same, known, lasts) refl, λ s. refl)
 
 ends_there : (by_others : Bool) (s : Session) (o : Option Decision) (d : Decision) → o ≡ Some d
     → ((before : Session) → is_ended (session_after before d) ≡ true)
@@ -78,12 +79,12 @@ ends_there : (by_others : Bool) (s : Session) (o : Option Decision) (d : Decisio
 ends_there true s o d decides ends = refl
 ends_there false s o d decides ends = rw decides (ends s)
 
-faulty_ends : (t : TargetState) (k : ℕ) (c : ConnectionState) (found : Front) → (k == k) ≡ true → place t.connections k ≡ Some c
+faulty_ends : (t : TargetState) (k : ℕ) (c : ConnectionState) (found : Front) (m : Medium) → (k == k) ≡ true → place t.connections k ≡ Some c
     → is_ended c.conversation.session ≡ false → is_whole found ≡ false → is_incomplete found ≡ false
-    → is_ended (connection_moved (meets t (stepped k found)) k c).conversation.session ≡ true
-faulty_ends t k c found same known lasts not here =
-    let x = meets t (stepped k found) in
-    let d = decided_end t k c found same known lasts not here in
+    → is_ended (connection_moved (meets t (stepped k found m)) k c).conversation.session ≡ true
+faulty_ends t k c found m same known lasts not here =
+    let x = meets t (stepped k found m) in
+    let d = decided_end t k c found m same known lasts not here in
     ends_there (ends_by (ending_of x) (ends_live x) c.conversation) c.conversation.session (decided x k) d.0 d.1 d.2
 
 shorter : (ended : Bool) (len held : ℕ) → len < held → (if ended then 0 else suc len) < suc held
@@ -95,19 +96,19 @@ none_left true len held h = omega arith
 none_left false len held h = cc
 
 -- a step consumes a PDU, or ends the connection
-consumes_or_ends : (t : TargetState) (k : ℕ) (held : List ℕ) (c : ConnectionState) (found : Front) → (k == k) ≡ true
+consumes_or_ends : (t : TargetState) (k : ℕ) (held : List ℕ) (c : ConnectionState) (found : Front) (m : Medium) → (k == k) ≡ true
     → place t.connections k ≡ Some c → is_ended c.conversation.session ≡ false → is_incomplete found ≡ false → front Target held ≡ found
-    → (if is_ended (connection_moved (meets t (stepped k found)) k c).conversation.session then 0 else suc (length (drop (consumed_of found) held)))
+    → (if is_ended (connection_moved (meets t (stepped k found m)) k c).conversation.session then 0 else suc (length (drop (consumed_of found) held)))
     < suc (length held)
-consumes_or_ends t k held c incomplete same known lasts here stands = absurd (true≢false here)
-consumes_or_ends t k held c (whole pdu) same known lasts here stands =
+consumes_or_ends t k held c incomplete m same known lasts here stands = absurd (true≢false here)
+consumes_or_ends t k held c (whole pdu) m same known lasts here stands =
     let begins = front_whole Target held pdu stands in
     let eight = eight_within Target pdu begins.is_pdu in
-    shorter (is_ended (connection_moved (meets t (stepped k (whole pdu))) k c).conversation.session) (length (drop (length pdu.bytes) held)) (length held)
+    shorter (is_ended (connection_moved (meets t (stepped k (whole pdu) m)) k c).conversation.session) (length (drop (length pdu.bytes) held)) (length held)
     (omega (arith, length-drop (length pdu.bytes) held, eight, begins.within))
-consumes_or_ends t k held c (faulty fault head) same known lasts here stands =
-    none_left (is_ended (connection_moved (meets t (stepped k (faulty fault head))) k c).conversation.session) (length held) (length held)
-    (faulty_ends t k c (faulty fault head) same known lasts refl refl)
+consumes_or_ends t k held c (faulty fault head) m same known lasts here stands =
+    none_left (is_ended (connection_moved (meets t (stepped k (faulty fault head) m)) k c).conversation.session) (length held) (length held)
+    (faulty_ends t k c (faulty fault head) m same known lasts refl refl)
 
 -- a step that is not idle: what it moves, and that less is left
 pub record StepsOnce (k : ℕ) (old new : TargetState) : Type 0 where
@@ -118,22 +119,24 @@ left_is : (t : TargetState) (k : ℕ) (held : List ℕ) (c : ConnectionState) �
     → left_at t k ≡ (if is_ended c.conversation.session then 0 else suc (length held))
 left_is t k held c stream known = rw (stream, known) refl
 
-step_by : (k : ℕ) (held : List ℕ) (c : ConnectionState) (old new : TargetState) → place old.streams k ≡ Some held → place old.connections k ≡ Some c
-    → is_idle held c ≡ false → Moves (stepped k (front Target held)) old new → StepsOnce k old new
-step_by k held c old new stream known busy moves =
+step_by : (k : ℕ) (held : List ℕ) (c : ConnectionState) (ended : Bool) (old new : TargetState) → place old.streams k ≡ Some held
+    → place old.connections k ≡ Some c → is_idle held c ≡ false → StepsOn k held ended old new → StepsOnce k old new
+step_by k held c ended old new stream known busy steps =
     let found = front Target held in
+    let m = steps.medium in
+    let moves = steps.moves in
     let same : (k == k) ≡ true = grind (arith, nat_tests) in
     let lasts = neither (is_ended c.conversation.session) (is_incomplete found) busy in
-    let after = connection_moved (meets old (stepped k found)) k c in
-    let connection : place new.connections k ≡ Some after = moves.connection k ∙ ap (option_map (connection_moved (meets old (stepped k found)) k)) known in
+    let after = connection_moved (meets old (stepped k found m)) k c in
+    let connection : place new.connections k ≡ Some after = moves.connection k ∙ ap (option_map (connection_moved (meets old (stepped k found m)) k)) known in
     let held_after : place new.streams k ≡ Some (drop (consumed_of found) held) =
-    moves.stream k ∙ ap (option_map (stream_moved (stepped k found) k)) stream ∙ ap (λ b. Some (if b then drop (consumed_of found) held else held)) same in
+    moves.stream k ∙ ap (option_map (stream_moved (stepped k found m) k)) stream ∙ ap (λ b. Some (if b then drop (consumed_of found) held else held)) same in
     let before : left_at old k ≡ suc (length held) = left_is old k held c stream known ∙ ap (λ b. if b then 0 else suc (length held)) lasts.0 in
     record {
-      step = record { busy = rw (stream, known) busy; moves = rw stream moves };
+      step = record { busy = rw (stream, known) busy; medium = m; tells = steps.tells; moves = rw stream moves };
       less = subst (λ n. n < left_at old k) (sym (left_is new k (drop (consumed_of found) held) after held_after connection))
           (subst (λ n. (if is_ended after.conversation.session then 0 else suc (length (drop (consumed_of found) held))) < n) (sym before)
-          (consumes_or_ends old k held c found same known lasts.0 lasts.1 refl));
+          (consumes_or_ends old k held c found m same known lasts.0 lasts.1 refl));
     }
 
 steps_by : (k : ℕ) (s : Option (List ℕ)) (o : Option ConnectionState) (old new : TargetState) → place old.streams k ≡ s → place old.connections k ≡ o
@@ -141,7 +144,7 @@ steps_by : (k : ℕ) (s : Option (List ℕ)) (o : Option ConnectionState) (old n
 steps_by k None o old new stream known = (λ h. cc, λ h. cc)
 steps_by k (Some held) None old new stream known = (λ h. cc, λ h. cc)
 steps_by k (Some held) (Some c) old new stream known =
-    (λ h. step_by k held c old new stream known h.0 h.1, λ h. step_by k held c old new stream known h.0 h.1)
+    (λ h. step_by k held c false old new stream known h.0 h.1, λ h. step_by k held c true old new stream known h.0 h.1)
 
 pub one_steps : (k : ℕ) (old new : TargetState) → StepsAt k (place old.streams k) (place old.connections k) old (Ok One) new → StepsOnce k old new
 one_steps k old new h = (steps_by k (place old.streams k) (place old.connections k) old new refl refl).0 h

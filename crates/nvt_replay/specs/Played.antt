@@ -2,6 +2,8 @@
 use Rattle.std.specs.Prelude.{◌≡◌, ◌⊎◌, ℕ, zero, suc, ◌<◌, ◌&&◌, Bool, true, false, nat_lt, List, [], ◌∷◌, ◌++◌, length, take, drop, min, codes, Option, Some, None, MatchOption, Ok, if◌then◌else◌}
 use Rattle.std.specs.Io.KnownBytes.{Appends}
 use Rattle.hex.specs.Hex.{decode_of}
+use Rattle.io_queue.specs.Act.{Medium}
+use Rattle.io_queue.specs.Execution.{Tells, contents_at}
 use Rattle.number_table.specs.Table.{place}
 use Rattle.target_core.specs.Agreement.{front_of}
 use Rattle.target_core.specs.Connection.{ConnectionState}
@@ -51,7 +53,9 @@ is_idle_at (Some held) (Some c) = is_idle held c
 -- a step of connection k, which is not idle
 pub record Steps (k : ℕ) (old new : TargetState) : Type 0 where
   pub busy : is_idle_at (place old.streams k) (place old.connections k) ≡ false
-  pub moves : Moves (stepped k (front_of (place old.streams k))) old new
+  pub medium : Medium
+  pub tells : Tells medium old.disks new.disks
+  pub moves : Moves (stepped k (front_of (place old.streams k)) medium) old new
 
 -- n of them, one after the other
 abbrev pub StepsTimes : ℕ → ℕ → TargetState → TargetState → Type 0
@@ -106,6 +110,7 @@ pub record ArePrinted (these : ℕ → Bool) (old new : TargetState) : Type 0 wh
       ≡ (if these k && is_ended_at (place old.connections k) then None else place old.streams k)
   pub row : (c : ℕ) → place new.rows c ≡ place old.rows c
   pub controller : (c : ℕ) → place new.controllers c ≡ place old.controllers c
+  pub blocks : (d : ℕ) → contents_at new.disks d ≡ contents_at old.disks d
 
 -- all connections step until they are idle, and then the lines of all are printed
 pub record Settles (old : TargetState) (printed : List ℕ) (new : TargetState) : Type 0 where

@@ -1,5 +1,6 @@
 -- What the end of a replay says of its files.
-use Rattle.std.specs.Prelude.{◌≡◌, ℕ, ◌-◌, ◌≤◌, true, false, List, [], ◌∷◌, length, take, slice_index_or, All, Option, Result, Ok, Err}
+use Rattle.std.specs.Prelude.{◌≡◌, ℕ, ◌-◌, ◌≤◌, true, false, List, [], ◌∷◌, length, map, replicate, take, slice_index_or, All, Option, Result, Ok, Err}
+use Rattle.block_store.specs.Unit.{zero_unit}
 use Rattle.config_edits.specs.declared.edit.Edit.{Edit}
 use Rattle.config_rules.specs.Accept.{accept}
 use Rattle.config_rules.specs.Configuration.{Configuration, are_disks, disks_alone}
@@ -8,6 +9,7 @@ use Rattle.line_words.specs.Lines.{lines_of}
 use Rattle.target_core.specs.Moves.{Moves}
 use Rattle.target_core.specs.Target.{IsNewTarget, TargetState}
 use Rattle.target_history.specs.Event.{edited}
+use Rattle.target_history.specs.History.{Opening}
 use Rattle.nvt_replay.specs.Played.{PlaysAll, Prints}
 use Rattle.nvt_replay.specs.StreamLine.{IsStreamLine}
 use Rattle.nvt_replay.specs.Replies.{Refuses}
@@ -51,10 +53,14 @@ abbrev pub MovesByLines : List (List ℕ) → TargetState → TargetState → Ty
 MovesByLines [] old new = new ≡ old
 MovesByLines (line ∷ lines) old new = (next : TargetState) × MovesByLine line old next × MovesByLines lines next new
 
+-- the units of disks of these sizes: zeros
+abbrev pub zeroed : List ℕ → Opening
+zeroed units = map (λ n. replicate n zero_unit) units
+
 -- a target of these disks after the edits
 pub record IsConfigured (edits units : List ℕ) (t : TargetState) : Type 0 where
   pub first : TargetState
-  pub is_new : IsNewTarget (disks_alone units) first
+  pub is_new : IsNewTarget (zeroed units) first
   pub moves : MovesByLines (lines_of edits) first t
 
 -- the lines of the script, over the target that the edits made, print this text
@@ -112,6 +118,14 @@ EndsScript (StreamLine n) lines = IsFirstMalformed lines n
 EndsScript Memory lines = Unit {0}
 EndsScript Io lines = Unit {0}
 EndsScript Disks lines = ⊥
+
+-- what a fault says of disks of these sizes
+abbrev pub RefusesDisks : ReplayFault → List ℕ → Type 0
+RefusesDisks (EditLine n reply) units = ⊥
+RefusesDisks (StreamLine n) units = ⊥
+RefusesDisks Memory units = Unit {0}
+RefusesDisks Io units = ⊥
+RefusesDisks Disks units = are_disks units ≡ false
 
 -- what a fault says of the edits and the disks, before the script
 abbrev pub RefusesEdits : ReplayFault → List ℕ → List ℕ → Type 0

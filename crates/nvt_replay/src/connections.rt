@@ -12,6 +12,7 @@ ghost use Rattle.nvt_replay.specs.Played.{HasNone, number_taken};
 ghost use Rattle.nvt_replay.specs.Replies.{IsRefused, MakesLine};
 
 use crate::reply::{NotMade, make_line};
+use block_store::MemoryDisk;
 use std::alloc::{AllocError, Global};
 use std::marker::Model;
 use target_core::{OpenFault, StepFault, Stepped, Target};
@@ -21,7 +22,7 @@ pub const CONNECTIONS: usize = target_core::CONNECTIONS_MAX;
 /// A target, and which of its connections are open: opened and not given up.
 #[derive(Drop)]
 pub struct Connections {
-    target: Target,
+    target: Target<MemoryDisk>,
     marks: [bool; CONNECTIONS],
 }
 
@@ -40,7 +41,7 @@ impl Model for Connections {
 
 impl Connections {
     /// The connections of a target that has none yet.
-    pub fn over(target: Target) -> Connections
+    pub fn over(target: Target<MemoryDisk>) -> Connections
         requires { HasNone target }
         ensures { result ≡ target }
     {

@@ -3,6 +3,7 @@
 #![tactic(auto)]
 
 mod connections;
+mod disks;
 pub mod playback;
 mod print;
 pub mod reply;

@@ -8,12 +8,12 @@ ghost use Rattle.hex.specs.Hex.{decode_of, is_hex_digit};
 ghost use Rattle.config_rules.specs.Configuration.{are_disks, disks_alone};
 ghost use Rattle.line_words.specs.Lines.{lines_of};
 ghost use Rattle.number_table.specs.Table.{place};
-ghost use Rattle.target_core.specs.Target.{TargetState};
+ghost use Rattle.target_core.specs.Target.{IsNewTarget, TargetState};
 ghost use Rattle.nvt_replay.specs.Replay.{AcceptsAll, Configures, EndsScript, Explains};
 ghost use Rattle.nvt_replay.specs.Replay.{EndsAtLine, IsBeforeScript, IsConfigured, IsOfRun};
 ghost use Rattle.nvt_replay.specs.Replay.{MovesByLine, MovesByLines, PlaysBefore};
 ghost use Rattle.nvt_replay.specs.Replay.{Replays, ReplaysBefore};
-ghost use Rattle.nvt_replay.specs.Replay.{RefusesEdits, RefusesLines, TakesLine};
+ghost use Rattle.nvt_replay.specs.Replay.{RefusesDisks, RefusesEdits, RefusesLines, TakesLine, zeroed};
 ghost use Rattle.nvt_replay.specs.Played.{ArePrinted, HandsOut, HasNone, Plays, PlaysAll, PlaysLine};
 ghost use Rattle.nvt_replay.specs.Played.{PlaysEdit, PlaysEnd, PlaysOpen, PlaysReceive, Prints};
 ghost use Rattle.nvt_replay.specs.Played.{PlaysTick, Settles};
@@ -21,11 +21,12 @@ ghost use Rattle.nvt_replay.specs.Played.{connection_lines};
 ghost use Rattle.nvt_replay.specs.StreamLine.{HasHex, IsHex, IsStreamLine};
 
 use crate::connections::{CONNECTIONS, Connections};
+use crate::disks::{are_disks, memory_disks};
 use crate::print::Printer;
 use crate::reply::{NotMade, Reply, make_line};
 use crate::stream_line::{StreamLine, read_stream_line};
+use block_store::MemoryDisk;
 use config_text::Lines;
-use nvt_config::NewFault;
 use std::alloc::{AllocError, Global};
 use std::io::Write;
 use target_core::{OpenFault, Target};
@@ -88,7 +89,7 @@ pub fn replay<W: Write>(
 // Runs the script over the target.
 fn run<W: Write>(
     alloc: Global,
-    target: Target,
+    target: Target<MemoryDisk>,
     stream: &[u8],
     out: &mut W,
 ) -> Result<(), ReplayFault>
@@ -109,7 +110,8 @@ fn run<W: Write>(
 }
 
 // A target of these disks after the edits.
-fn configured(alloc: Global, edits: &[u8], units: &[u64]) -> Result<Target, ReplayFault>
+#[tactic(auto, using(crate::proofs::ReplayLemmas::refused_disks))]
+fn configured(alloc: Global, edits: &[u8], units: &[u64]) -> Result<Target<MemoryDisk>, ReplayFault>
     ensures disks { OnOk result (are_disks units.now ≡ true) }
     ensures refused { OnFalse (are_disks units.now) (result ≡ Err ReplayFault.Disks) }
     ensures ok { IfOk result (λ target.
@@ -117,17 +119,34 @@ fn configured(alloc: Global, edits: &[u8], units: &[u64]) -> Result<Target, Repl
     ensures configured { IfOk result (IsConfigured edits.now units.now) }
     ensures fault { IfErr result (λ fault. RefusesEdits fault edits.now units.now) }
 {
-    let mut target = match Target::new(alloc, units) {
-        Ok(target) => target,
-        Err(NewFault::Disks) => return Err(ReplayFault::Disks),
-        Err(NewFault::Memory) => return Err(ReplayFault::Memory),
-    };
+    let mut target = new_target(alloc, units)?;
     take_edits(alloc, &mut target, edits)?;
     Ok(target)
 }
 
+// A target over a disk of zeros in memory, of each of these sizes.
+fn new_target(alloc: Global, units: &[u64]) -> Result<Target<MemoryDisk>, ReplayFault>
+    ensures ok { IfOk result (IsNewTarget (zeroed units.now)) }
+    ensures disks { OnOk result (are_disks units.now ≡ true) }
+    ensures refused { OnFalse (are_disks units.now) (result ≡ Err ReplayFault.Disks) }
+    ensures fault { IfErr result (λ fault. RefusesDisks fault units.now) }
+{
+    if !are_disks(units) {
+        return Err(ReplayFault::Disks);
+    }
+    let disks = memory_disks(alloc, units)?;
+    match Target::new(alloc, disks) {
+        Ok(target) => Ok(target),
+        Err(_) => Err(ReplayFault::Memory),
+    }
+}
+
 // Applies the edits, up to the first line that is refused.
-fn take_edits(alloc: Global, target: &mut Target, edits: &[u8]) -> Result<(), ReplayFault>
+fn take_edits(
+    alloc: Global,
+    target: &mut Target<MemoryDisk>,
+    edits: &[u8],
+) -> Result<(), ReplayFault>
     ensures ok { OnOk result (Configures (lines_of edits.now) target.old.config target.new.config) }
     ensures moves { OnOk result (MovesByLines (lines_of edits.now) target.old target.new) }
     ensures fault { IfErr result (λ fault.
@@ -144,7 +163,7 @@ fn take_edits(alloc: Global, target: &mut Target, edits: &[u8]) -> Result<(), Re
 // Applies one line of edits.
 fn take_edit(
     alloc: Global,
-    target: &mut Target,
+    target: &mut Target<MemoryDisk>,
     number: usize,
     line: &[u8],
 ) -> Result<(), ReplayFault>

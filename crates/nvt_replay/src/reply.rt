@@ -7,6 +7,7 @@ ghost use Rattle.target_history.specs.Event.{edited};
 ghost use Rattle.nvt_replay.specs.Replies.{IsEditRefused, IsRefused, MakesLine, not_read};
 ghost use Rattle.nvt_replay.specs.Replies.{text_of_reply};
 
+use block_store::MemoryDisk;
 use config_text::{LineFault, LineFaultKind, read_edit};
 use nvt_config::{Edit, EditFault};
 use std::alloc::Global;
@@ -45,7 +46,7 @@ pub enum NotMade {
 }
 
 /// Makes the edit that a line says.
-pub fn make_line(alloc: Global, target: &mut Target, line: &[u8]) -> Result<(), NotMade>
+pub fn make_line(alloc: Global, target: &mut Target<MemoryDisk>, line: &[u8]) -> Result<(), NotMade>
     ensures made { OnOk result (MakesLine line.now target.old target.new) }
     ensures refused { IfErr result (IsRefused target.old.config line.now) }
     ensures err { OnErr result (target.new ≡ target.old) }
@@ -56,7 +57,7 @@ pub fn make_line(alloc: Global, target: &mut Target, line: &[u8]) -> Result<(), 
     }
 }
 
-fn make_edit(target: &mut Target, edit: &Edit) -> Result<(), NotMade>
+fn make_edit(target: &mut Target<MemoryDisk>, edit: &Edit) -> Result<(), NotMade>
     ensures made { OnOk result (accept target.old.config edit.now ≡ Ok target.new.config) }
     ensures moves { OnOk result (Moves (edited edit.now) target.old target.new) }
     ensures refused { IfErr result (IsEditRefused target.old.config edit.now) }

@@ -1,5 +1,5 @@
 //! The bytes that came to one side of a connection and are not consumed yet.
-ghost use Rattle.std.specs.Prelude.{◌≡◌, ◌+◌, ◌-◌, ◌≤◌, [], ◌++◌, length, take, drop, min, IfOk};
+ghost use Rattle.std.specs.Prelude.{◌≡◌, ◌+◌, ◌-◌, ◌≤◌, [], ◌++◌, length, take, drop, min, vec_len, vec_capacity, IfOk};
 ghost use Rattle.pdu_cut.specs.Side.{capacity_of};
 
 use crate::cut::Cut;
@@ -9,23 +9,25 @@ use crate::view::PduView;
 use std::alloc::{AllocError, Global};
 use std::marker::Model;
 
-/// A receive buffer. It allocates when it is made, and never again.
+/// A receive buffer. It allocates when it is made, and never again. It holds the bytes from `start`
+/// on; those before are consumed, and go where the room behind runs short.
 #[derive(Debug, Drop)]
 pub struct RxBuf {
     side: Side,
     bytes: Vec<u8>,
+    start: usize,
 }
 
 impl Model for RxBuf {
-    ghost use Rattle.std.specs.Prelude.{◌≤◌, vec_len, vec_capacity};
+    ghost use Rattle.std.specs.Prelude.{◌≤◌, drop, vec_len, vec_capacity};
     ghost use Rattle.pdu_cut.specs.Side.{capacity_of};
     ghost use Rattle.pdu_cut.specs.Received.{Received};
 
     ghost Value = { Received };
 
-    ghost view = { λ b. record { side = b.side; held = b.bytes.items } };
+    ghost view = { λ b. record { side = b.side; held = drop b.start b.bytes.items } };
 
-    ghost invariant = { λ b. (vec_len b.bytes ≤ capacity_of b.side)
+    ghost invariant = { λ b. (b.start ≤ vec_len b.bytes) × (vec_len b.bytes ≤ capacity_of b.side)
         × (capacity_of b.side ≤ vec_capacity b.bytes) };
 }
 
@@ -40,6 +42,7 @@ impl RxBuf {
         Ok(RxBuf {
             side,
             bytes: Vec::with_capacity(alloc, side.capacity())?,
+            start: 0,
         })
     }
 
@@ -47,7 +50,7 @@ impl RxBuf {
     pub fn room(&self) -> usize
         ensures { result + length self.now.held ≡ capacity_of self.now.side }
     {
-        self.side.capacity() - self.bytes.len()
+        self.side.capacity() - (self.bytes.len() - self.start)
     }
 
     /// Takes as many of the piece's first bytes as it has room for, and returns their number.
@@ -58,6 +61,10 @@ impl RxBuf {
             self.new ≡ record self.old { held = held } }
     {
         let taken = self.room().min(piece.len());
+        if self.side.capacity() - self.bytes.len() < taken {
+            move_to_front(&mut self.bytes, self.start);
+            self.start = 0;
+        }
         self.bytes.extend_from_slice(&piece[..taken]).unwrap();
         taken
     }
@@ -67,7 +74,7 @@ impl RxBuf {
         ensures front { front_shown result ≡ front self.now.side self.now.held }
         ensures whole { IfPdu result (λ pdu. BeginsWithPdu self.now.side self.now.held pdu) }
     {
-        let bytes = self.bytes.as_slice();
+        let bytes = self.held();
         if bytes.len() < COMMON_HEADER_LEN {
             return Cut::More;
         }
@@ -89,11 +96,33 @@ impl RxBuf {
         }
     }
 
+    fn held(&self) -> &[u8]
+        ensures { result.now ≡ self.now.held }
+    {
+        &self.bytes.as_slice()[self.start..]
+    }
+
     /// Removes the first `len` bytes held.
     pub fn consume(&mut self, len: usize)
         requires { len ≤ length self.old.held }
         ensures { self.new ≡ record self.old { held = drop len self.old.held } }
     {
-        drop(self.bytes.drain(..len));
+        self.start += len;
+        if self.start == self.bytes.len() {
+            self.bytes.clear();
+            self.start = 0;
+        }
     }
+}
+
+/// Moves the bytes from `start` on to the front, so that all the room is behind them.
+fn move_to_front(bytes: &mut Vec<u8>, start: usize)
+    requires { start ≤ vec_len bytes.old }
+    ensures items { bytes.new.items ≡ drop start bytes.old.items }
+    ensures len { vec_len bytes.new + start ≡ vec_len bytes.old }
+    ensures capacity { vec_capacity bytes.new ≡ vec_capacity bytes.old }
+{
+    let held = bytes.len() - start;
+    bytes.copy_within(start.., 0);
+    bytes.truncate(held);
 }

@@ -4,11 +4,14 @@ use Rattle.std.proofs.Math.Path.{fun_ext}
 use Rattle.std.proofs.lemmas.Bool.{eqb-true}
 use Rattle.std.specs.Prelude.{if◌then◌else◌, ◌==◌}
 use Rattle.std.specs.Option.{option_map}
-use Rattle.config_rules.specs.Configuration.{Configuration, disks_alone}
+use Rattle.config_rules.specs.Configuration.{Configuration}
 use Rattle.fabrics_connect.specs.declared.row.Row.{Row}
 use Rattle.number_table.specs.Table.{place}
 use Rattle.number_table.proofs.Tables.{place-replicate}
 use Rattle.controller_tables.specs.Controllers.{controller_places}
+use Rattle.std.proofs.Math.ListN.{get_or-map}
+use Rattle.block_store.specs.Stored.{Stored}
+use Rattle.io_queue.specs.Execution.{contents_at, no_disk, write_on, written}
 use Rattle.pdu_cut.specs.declared.side.Side.TheVariants.{Target}
 use Rattle.pdu_cut.specs.Front.{Front, incomplete, whole, faulty}
 use Rattle.pdu_cut.specs.Pdu.{Pdu}
@@ -24,8 +27,9 @@ use Rattle.target_decision.specs.Decision.{consumed_of}
 use Rattle.admin_queue.specs.Pages.{Pages}
 use Rattle.target_decision.specs.World.{World, connections_max}
 use Rattle.target_history.specs.Event.{Event, edited, port_in, front_in, gives_up, opened, opens, steps, stepped, given_up, ticked}
-use Rattle.target_history.specs.Happening.{Happening, clock_after, config_after, controller_after, conversation_after, conversation_moved, row_after, sends}
-use Rattle.target_history.specs.History.{config_of, conversation_of, happened, last_front, meets_after, pdus_of, sent, with_pdu, world_of}
+use Rattle.target_history.specs.Happening.{Happening, acts, clock_after, config_after, controller_after, conversation_after, conversation_moved, row_after, sends}
+use Rattle.target_history.specs.History.{Opening, blocks_of, clock_of, config_of, conversation_of, happened, last_front, meets_after, pdus_of, sent, with_pdu, world_of}
+use Rattle.target_history.proofs.Blocks.{blocks_step}
 use Rattle.target_history.proofs.Lives.{controller_step, row_step}
 use Rattle.target_history.proofs.Steps.{conversation_step}
 use Rattle.target_core.proofs.Shows.{new_show, pages_agree, views_step}
@@ -40,21 +44,23 @@ worlds_same v w pages config rows controllers =
     ∙ ap (λ (a : ℕ → Option Controller). let u : World = record { pages = w.pages; config = w.config; row = w.row; controller = a } in u) (fun_ext controllers)
 
 -- what a decision may look at is what the history says
-world_agrees : (t : TargetState) (units : List ℕ) (before : List Happening) (received taken : ℕ → List ℕ)
-    → AgreesWith t units before received taken → world_at t ≡ world_of units before
-world_agrees t units before received taken agrees =
-    worlds_same (world_at t) (world_of units before) (pages_agree t.shown units before agrees.shown) agrees.config agrees.row agrees.controller
+world_agrees : (t : TargetState) (disks : Opening) (before : List Happening) (received taken : ℕ → List ℕ)
+    → AgreesWith t disks before received taken → world_at t ≡ world_of disks before
+world_agrees t disks before received taken agrees =
+    worlds_same (world_at t) (world_of disks before) (pages_agree t.shown disks before agrees.shown) agrees.config agrees.row agrees.controller
+
+happenings_same : (event : Event) (v w : World) (f g : ℕ → Option Conversation) (m n : ℕ) (b c : ℕ → List (List ℕ)) → v ≡ w → f ≡ g → m ≡ n → b ≡ c
+    → (let x : Happening = record { event = event; world = v; conversation = f; clock = m; blocks = b } in x)
+    ≡ (let x : Happening = record { event = event; world = w; conversation = g; clock = n; blocks = c } in x)
+happenings_same event v w f g m n b c worlds conversations clocks blocks = rw (worlds, conversations, clocks, blocks) refl
 
 -- .. and so is all that an event meets
-meets_agree : (t : TargetState) (event : Event) (units : List ℕ) (before : List Happening) (received taken : ℕ → List ℕ)
-    → AgreesWith t units before received taken → meets t event ≡ meets_after units before event
-meets_agree t event units before received taken agrees =
-    ap (λ (w : World). let x : Happening = record { event = event; world = w; conversation = conversation_at t; clock = t.clock } in x)
-    (world_agrees t units before received taken agrees)
-    ∙ ap (λ (f : ℕ → Option Conversation). let x : Happening = record { event = event; world = world_of units before; conversation = f; clock = t.clock } in x)
-    (fun_ext agrees.conversation)
-    ∙ ap (λ (n : ℕ). let x : Happening = record { event = event; world = world_of units before; conversation = conversation_of before; clock = n } in x)
-    agrees.clock
+meets_agree : (t : TargetState) (event : Event) (disks : Opening) (before : List Happening) (received taken : ℕ → List ℕ)
+    → AgreesWith t disks before received taken → meets t event ≡ meets_after disks before event
+meets_agree t event disks before received taken agrees =
+    happenings_same event (world_at t) (world_of disks before) (conversation_at t) (conversation_of before) t.clock (clock_of before)
+    (contents_at t.disks) (blocks_of disks before) (world_agrees t disks before received taken agrees) (fun_ext agrees.conversation) agrees.clock
+    (fun_ext agrees.blocks)
 
 -- ---- connections
 
@@ -120,7 +126,7 @@ stands_here (edited edit) t k stands = tt
 stands_here (opened port n) t k stands = tt
 stands_here (given_up n) t k stands = tt
 stands_here (ticked now) t k stands = tt
-stands_here (stepped n found) t k stands = by (k == n) refl where
+stands_here (stepped n found m) t k stands = by (k == n) refl where
   by : (same : Bool) → (k == n) ≡ same → stands_at same found (place t.streams k)
   by true is = rw (eqb-true k n is) stands
   by false is = tt
@@ -129,15 +135,15 @@ stands_here (stepped n found) t k stands = by (k == n) refl where
 
 pub moves_agree : (event : Event) (old new : TargetState) → Moves event old new → AgreesAfter event old new
 moves_agree event old new moves = record {
-  keeps = λ units events received taken agrees.
-      let before = happened units events in
-      let x : Happening = meets_after units before event in
-      let met : meets old event ≡ x = meets_agree old event units before received taken agrees in
-      let config : new.config ≡ config_after event (config_of units before) = moves.config ∙ ap (config_after event) agrees.config in
+  keeps = λ disks events received taken agrees.
+      let before = happened disks events in
+      let x : Happening = meets_after disks before event in
+      let met : meets old event ≡ x = meets_agree old event disks before received taken agrees in
+      let config : new.config ≡ config_after event (config_of disks before) = moves.config ∙ ap (config_after event) agrees.config in
       record {
         config = config;
         clock = moves.clock ∙ ap (clock_after event) agrees.clock;
-        shown = views_step x old.shown new.shown units before (rw config at moves.shown) agrees.shown;
+        shown = views_step x old.shown new.shown disks before (rw config at moves.shown) agrees.shown;
         conversation = λ k. ap (option_map (λ (c : ConnectionState). c.conversation))
             (moves.connection k ∙ ap (λ (y : Happening). connection_after y k (place old.connections k)) met)
             ∙ moved_here x k (place old.connections k) ∙ ap (conversation_after x k) (agrees.conversation k)
@@ -150,22 +156,25 @@ moves_agree event old new moves = record {
             (stream_by event k (place old.streams k) (pdus_of before k) (last_front before k) (received k) (opens event k) (gives_up event k)
             (steps event k) (stands_here event old k moves.stands) (agrees.stream k));
         output = λ k. rw (moves.connection k, met) (output_step x before k (place old.connections k) (taken k) (sym (agrees.conversation k)) (agrees.output k));
+        blocks = λ d. moves.blocks d ∙ ap (λ (y : Happening). written (write_on d (acts y)) (contents_at old.disks d)) met
+            ∙ ap (written (write_on d (acts x))) (agrees.blocks d) ∙ sym (blocks_step disks x before d);
       };
 }
 
 -- ---- no event
 
 pub same_agrees : (old new : TargetState) → new ≡ old → AgreesStill old new
-same_agrees old new same = record { keeps = λ units events received taken agrees. rw same agrees }
+same_agrees old new same = record { keeps = λ disks events received taken agrees. rw same agrees }
 
-pub new_agrees : (target : TargetState) (units : List ℕ) → IsNewTarget (disks_alone units) target → Agrees target units [] nothing nothing
-new_agrees target units fresh = record {
-  config = fresh.config;
-  clock = fresh.clock;
-  shown = new_show target.shown units fresh.shown;
-  conversation = λ k. rw (fresh.connections, place-replicate connections_max k) refl;
-  row = λ c. rw (fresh.rows, place-replicate controller_places c) refl;
-  controller = λ c. rw (fresh.controllers, place-replicate controller_places c) refl;
-  stream = λ k. rw (fresh.streams, place-replicate connections_max k) refl;
-  output = λ k. rw (fresh.connections, place-replicate connections_max k) (refl, refl);
+pub new_agrees : (target : TargetState) (disks : Opening) → IsNewTarget disks target → Agrees target disks [] nothing nothing
+new_agrees target disks fresh = record {
+  config = fresh.over.config;
+  clock = fresh.over.clock;
+  shown = new_show target.shown disks fresh.over.shown;
+  conversation = λ k. rw (fresh.over.connections, place-replicate connections_max k) refl;
+  row = λ c. rw (fresh.over.rows, place-replicate controller_places c) refl;
+  controller = λ c. rw (fresh.over.controllers, place-replicate controller_places c) refl;
+  stream = λ k. rw (fresh.over.streams, place-replicate connections_max k) refl;
+  output = λ k. rw (fresh.over.connections, place-replicate connections_max k) (refl, refl);
+  blocks = λ d. rw (← fresh.units) (sym (get_or-map (λ (s : Stored). s.contents) target.disks d no_disk));
 }

@@ -17,16 +17,16 @@ use Rattle.target_core.specs.declared.fault.OpenFault.{OpenFault}
 use Rattle.target_core.specs.declared.fault.StepFault.{StepFault}
 use Rattle.target_core.specs.declared.fault.Stepped.{Stepped}
 use Rattle.target_core.specs.declared.fault.Stepped.TheVariants.{Idle, One, Ended}
-use Rattle.target_core.specs.Agreement.{AgreesAfter, AgreesByStep, AgreesStill, AgreesWithReceived, AgreesWithTaken, EditAgrees, EndAgrees, EndedAgrees, OpenAgrees, OutputAgrees, ReceiveAgrees, StandsAt, StepAgrees, StreamAgrees, TakenAgrees}
+use Rattle.target_core.specs.Agreement.{AgreesAfter, AgreesAfterStep, AgreesByStep, AgreesStill, AgreesWithReceived, AgreesWithTaken, EditAgrees, EndAgrees, EndedAgrees, OpenAgrees, OutputAgrees, ReceiveAgrees, StandsAt, StepAgrees, StreamAgrees, TakenAgrees}
 use Rattle.target_core.specs.Connection.{ConnectionState}
-use Rattle.target_core.specs.Moves.{Moves, StepsAt, StepsBy}
+use Rattle.target_core.specs.Moves.{Moves, StepsAt, StepsBy, StepsOn}
 use Rattle.target_core.specs.Target.{ReceivesAt, TakenAt, TargetState, free_number, is_ended_at, room_of, with_connection, with_stream}
 use Rattle.target_decision.specs.declared.session.Conversation.{Conversation}
 use Rattle.target_decision.specs.declared.session.Session.TheVariants as session
 use Rattle.target_decision.specs.Session.{is_ended}
 use Rattle.target_history.specs.Event.{edited, given_up, opened, stepped}
 use Rattle.target_history.specs.Happening.{Happening}
-use Rattle.target_history.specs.History.{Admission, admission_of, conversation_of, happened, has_ended, is_initialized, is_known, last_front, pdus_of, port_of, responses_since, sent, session_of, session_with}
+use Rattle.target_history.specs.History.{Admission, Opening, admission_of, conversation_of, happened, has_ended, is_initialized, is_known, last_front, pdus_of, port_of, responses_since, sent, session_of, session_with}
 use Rattle.target_core.proofs.Agreements.{moves_agree, same_agrees}
 
 -- ---- events
@@ -42,11 +42,19 @@ pub open_keeps : (old new : TargetState) (port : ℕ) (result : Result ℕ OpenF
 open_keeps old new port (Ok k) opens err = moves_agree (opened port k) old new opens.1
 open_keeps old new port (Err fault) opens err = same_agrees old new err
 
+stepped_agrees : (old new : TargetState) (k : ℕ) (held : List ℕ) (ended : Bool) → StepsOn k held ended old new
+    → AgreesAfterStep k (front Target held) old new
+stepped_agrees old new k held ended h = record {
+  medium = h.medium;
+  tells = h.tells;
+  agrees = moves_agree (stepped k (front Target held) h.medium) old new h.moves;
+}
+
 step_keeps_by : (old new : TargetState) (k : ℕ) (held : List ℕ) (c : ConnectionState) (s : Stepped) → place old.streams k ≡ Some held
     → StepsBy k held c s old new → AgreesByStep k s old new
 step_keeps_by old new k held c Idle known h = same_agrees old new h.1
-step_keeps_by old new k held c One known h = rw known (moves_agree (stepped k (front Target held)) old new h.1)
-step_keeps_by old new k held c Ended known h = rw known (moves_agree (stepped k (front Target held)) old new h.1)
+step_keeps_by old new k held c One known h = rw known (stepped_agrees old new k held false h.1)
+step_keeps_by old new k held c Ended known h = rw known (stepped_agrees old new k held true h.1)
 
 step_keeps_at : (old new : TargetState) (k : ℕ) (s : Option (List ℕ)) (o : Option ConnectionState) (result : Result Stepped StepFault)
     → place old.streams k ≡ s → StepsAt k s o old result new → StepAgrees k old result new
@@ -91,7 +99,7 @@ receive_agrees : (old new : TargetState) (k : ℕ) (held bytes : List ℕ) → p
 receive_agrees old new k held bytes known receives =
     let within = place_within old.streams k held known in
     record {
-      keeps = λ units events received taken agrees. rw receives (record {
+      keeps = λ disks events received taken agrees. rw receives (record {
         config = agrees.config;
         clock = agrees.clock;
         shown = agrees.shown;
@@ -99,9 +107,10 @@ receive_agrees old new k held bytes known receives =
         controller = agrees.controller;
         conversation = agrees.conversation;
         stream = λ j. rw (place-with_value old.streams k (held ++ bytes) j within)
-            (received_at (j == k) held bytes (place old.streams j) (pdus_of (happened units events) j) (last_front (happened units events) j) (received j)
+            (received_at (j == k) held bytes (place old.streams j) (pdus_of (happened disks events) j) (last_front (happened disks events) j) (received j)
             (λ is. ap (place old.streams) (eqb-true j k is) ∙ known) (agrees.stream j));
         output = agrees.output;
+        blocks = agrees.blocks;
       });
     }
 
@@ -147,7 +156,7 @@ taken_agrees old new k c n known takes =
     let within = place_within old.connections k c known in
     let after : ConnectionState = record { conversation = c.conversation; output = drop n c.output } in
     record {
-      keeps = λ units events received taken agrees. rw takes (record {
+      keeps = λ disks events received taken agrees. rw takes (record {
         config = agrees.config;
         clock = agrees.clock;
         shown = agrees.shown;
@@ -158,8 +167,9 @@ taken_agrees old new k c n known takes =
             ∙ agrees.conversation j);
         stream = agrees.stream;
         output = λ j. rw (place-with_value old.connections k after j within)
-            (taken_at (j == k) c n (place old.connections j) (sent (happened units events) j) (taken j)
+            (taken_at (j == k) c n (place old.connections j) (sent (happened disks events) j) (taken j)
             (λ is. ap (place old.connections) (eqb-true j k is) ∙ known) (agrees.output j));
+        blocks = agrees.blocks;
       });
     }
 
@@ -201,5 +211,5 @@ ended_at h k o agrees = by o (is_known h k) agrees where
 
 pub ended_tells : (t : TargetState) (k : ℕ) (ended : Bool) → ended ≡ is_ended_at (place t.connections k) → EndedAgrees k t ended
 ended_tells t k ended h = record {
-  tells = λ units events received taken agrees. h ∙ ended_at (happened units events) k (place t.connections k) (agrees.conversation k);
+  tells = λ disks events received taken agrees. h ∙ ended_at (happened disks events) k (place t.connections k) (agrees.conversation k);
 }

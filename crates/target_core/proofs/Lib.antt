@@ -6,3 +6,4 @@ pub mod Places
 pub mod Settling
 pub mod Shows
 pub mod Stepping
+pub mod Units

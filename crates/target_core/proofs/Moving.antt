@@ -12,6 +12,9 @@ use Rattle.config_rules.specs.Configuration.{Configuration}
 use Rattle.controller_tables.specs.Controllers.{TablesState, gone_by}
 use Rattle.controller_tables.proofs.Staying.{nothing_gone, nothing_goes, nothing_leaves}
 use Rattle.fabrics_connect.specs.declared.row.Row.{Row}
+use Rattle.block_store.specs.Stored.{Stored}
+use Rattle.io_queue.specs.Act.{Medium}
+use Rattle.io_queue.specs.Execution.{contents_at}
 use Rattle.pdu_cut.specs.declared.side.Side.TheVariants.{Target}
 use Rattle.pdu_cut.specs.Front.{Front, front}
 use Rattle.target_core.specs.Connection.{ConnectionState, acted, fresh_on, settled}
@@ -30,7 +33,7 @@ use Rattle.target_decision.specs.World.{World}
 use Rattle.target_history.specs.declared.ending.Ending.{Ending}
 use Rattle.target_history.specs.declared.ending.Ending.TheVariants as ending
 use Rattle.target_history.specs.Ending.{ending_decided, ending_edited, ending_lost, ends_by, ends_controller}
-use Rattle.target_history.specs.Event.{Event, edited, front_in, opened, stepped, given_up, ticked}
+use Rattle.target_history.specs.Event.{Event, edited, front_in, medium_in, opened, stepped, given_up, ticked}
 use Rattle.target_history.specs.Happening.{Happening, change_decided, config_after, controller_changed, decided, decision_of, ending_of, ends_live, is_end_decided, row_changed, row_kept, sends_on, session_decided, terminates}
 use Rattle.target_core.proofs.Settling.{same_at}
 
@@ -38,28 +41,28 @@ abbrev pub tables_of : TargetState → TablesState
 tables_of t = record { rows = t.rows; own = t.controllers }
 
 -- what an event makes of a connection, by what is decided on it and what ends elsewhere
-abbrev pub turned : World → Option Decision → Front → Ending → (ℕ → Bool) → ConnectionState → ConnectionState
-turned w d found e gone c = record {
+abbrev pub turned : World → (ℕ → List (List ℕ)) → Medium → Option Decision → Front → Ending → (ℕ → Bool) → ConnectionState → ConnectionState
+turned w blocks m d found e gone c = record {
   conversation = record {
     port = c.conversation.port;
     session = if ends_by e gone c.conversation then Ended else session_decided c.conversation.session d;
   };
-  output = c.output ++ sends_on w (Some c.conversation) d found;
+  output = c.output ++ sends_on w blocks m (Some c.conversation) d found;
 }
 
 pub moved_is : (x : Happening) (k : ℕ) (c : ConnectionState) → x.conversation k ≡ Some c.conversation
-    → connection_moved x k c ≡ turned x.world (decided x k) (front_in x.event) (ending_of x) (ends_live x) c
+    → connection_moved x k c ≡ turned x.world x.blocks (medium_in x.event) (decided x k) (front_in x.event) (ending_of x) (ends_live x) c
 moved_is x k c met =
     ap (λ (o : Option Conversation). let d : ConnectionState = record {
       conversation = record {
         port = c.conversation.port;
         session = if ends_by (ending_of x) (ends_live x) c.conversation then Ended else session_decided c.conversation.session (decided x k);
       };
-      output = c.output ++ sends_on x.world o (decided x k) (front_in x.event);
+      output = c.output ++ sends_on x.world x.blocks (medium_in x.event) o (decided x k) (front_in x.event);
     } in d) met
 
-settled_turned : (w : World) (found : Front) (e : Ending) (gone : ℕ → Bool) (c : ConnectionState) → settled e gone c ≡ turned w None found e gone c
-settled_turned w found e gone c = by (ends_by e gone c.conversation) where
+settled_turned : (w : World) (blocks : ℕ → List (List ℕ)) (m : Medium) (found : Front) (e : Ending) (gone : ℕ → Bool) (c : ConnectionState) → settled e gone c ≡ turned w blocks m None found e gone c
+settled_turned w blocks m found e gone c = by (ends_by e gone c.conversation) where
   by : (ended : Bool)
       → (if ended then record { conversation = record { port = c.conversation.port; session = Ended }; output = c.output } else c)
       ≡ (let d : ConnectionState = record {
@@ -75,8 +78,8 @@ pub silent_at : (x : Happening) (k : ℕ) (o : Option ConnectionState)
     → option_map (settled (ending_of x) (ends_live x)) o ≡ option_map (connection_moved x k) o
 silent_at x k None met none = refl
 silent_at x k (Some c) met none =
-    ap Some (settled_turned x.world (front_in x.event) (ending_of x) (ends_live x) c
-    ∙ ap (λ (d : Option Decision). turned x.world d (front_in x.event) (ending_of x) (ends_live x) c) (sym none)
+    ap Some (settled_turned x.world x.blocks (medium_in x.event) (front_in x.event) (ending_of x) (ends_live x) c
+    ∙ ap (λ (d : Option Decision). turned x.world x.blocks (medium_in x.event) d (front_in x.event) (ending_of x) (ends_live x) c) (sym none)
     ∙ sym (moved_is x k c met))
 
 pub stream_stays : (o : Option (List ℕ)) → o ≡ option_map (λ held. held) o
@@ -97,8 +100,8 @@ pub edit_moves : (old new : TargetState) (edit : Edit) → accept old.config edi
     → ((c : ℕ) → place new.rows c ≡ (if gone_by (ending_edited edit) new.config (tables_of old) c then None else
     option_map (row_kept (ending_edited edit) c) (place old.rows c)))
     → ((c : ℕ) → place new.controllers c ≡ (if gone_by (ending_edited edit) new.config (tables_of old) c then None else place old.controllers c))
-    → Moves (edited edit) old new
-edit_moves old new edit accepted clock shown streams connections rows controllers =
+    → new.disks ≡ old.disks → Moves (edited edit) old new
+edit_moves old new edit accepted clock shown streams connections rows controllers disks =
     let x = meets old (edited edit) in
     let after : config_after (edited edit) old.config ≡ new.config = rw accepted refl in
     let gone = gone_after old (edited edit) new.config after in
@@ -114,6 +117,7 @@ edit_moves old new edit accepted clock shown streams connections rows controller
       row = λ c. rows c
           ∙ ap (λ (g : ℕ → Bool). if g c then None else option_map (row_kept (ending_edited edit) c) (place old.rows c)) gone;
       controller = λ c. controllers c ∙ ap (λ (g : ℕ → Bool). if g c then None else place old.controllers c) gone;
+      blocks = λ d. ap (λ (l : List Stored). contents_at l d) disks;
     }
 
 -- ---- the clock
@@ -124,8 +128,8 @@ pub tick_moves : (old new : TargetState) (now : ℕ) → new.config ≡ old.conf
     → ((c : ℕ) → place new.rows c ≡ (if gone_by (ending.Clock (max old.clock now)) old.config (tables_of old) c then None else
     option_map (row_kept (ending.Clock (max old.clock now)) c) (place old.rows c)))
     → ((c : ℕ) → place new.controllers c ≡ (if gone_by (ending.Clock (max old.clock now)) old.config (tables_of old) c then None else place old.controllers c))
-    → Moves (ticked now) old new
-tick_moves old new now config clock shown streams connections rows controllers =
+    → new.disks ≡ old.disks → Moves (ticked now) old new
+tick_moves old new now config clock shown streams connections rows controllers disks =
     let x = meets old (ticked now) in
     record {
       stands = tt;
@@ -137,6 +141,7 @@ tick_moves old new now config clock shown streams connections rows controllers =
       stream = λ k. rw streams (stream_stays (place old.streams k));
       row = rows;
       controller = controllers;
+      blocks = λ d. ap (λ (l : List Stored). contents_at l d) disks;
     }
 
 -- ---- an open
@@ -144,8 +149,8 @@ tick_moves old new now config clock shown streams connections rows controllers =
 pub open_moves : (old new : TargetState) (port k : ℕ) → position is_none old.connections ≡ Some k → k < length old.streams
     → new.config ≡ old.config → new.shown ≡ old.shown → new.clock ≡ old.clock
     → new.streams ≡ with_value old.streams k [] → new.connections ≡ with_value old.connections k (fresh_on port)
-    → new.rows ≡ old.rows → new.controllers ≡ old.controllers → Moves (opened port k) old new
-open_moves old new port k free within config shown clock streams connections rows controllers =
+    → new.rows ≡ old.rows → new.controllers ≡ old.controllers → new.disks ≡ old.disks → Moves (opened port k) old new
+open_moves old new port k free within config shown clock streams connections rows controllers disks =
     let empty = least_free-Some old.connections k free in
     record {
       stands = tt;
@@ -156,6 +161,7 @@ open_moves old new port k free within config shown clock streams connections row
       stream = λ j. rw (streams, place-with_value old.streams k [] j within) (stream_here j (j == k));
       row = λ c. rw rows (nothing_leaves (ends_live x c) c (place old.rows c) (none c));
       controller = λ c. rw controllers (nothing_goes (ends_live x c) (place old.controllers c) (none c));
+      blocks = λ d. ap (λ (l : List Stored). contents_at l d) disks;
     }
   where
     x : Happening
@@ -183,8 +189,8 @@ pub end_moves : (old new : TargetState) (k : ℕ) (c : ConnectionState) (e : End
     → new.connections ≡ without (map (option_map (settled e (gone_by e old.config (tables_of old)))) old.connections) k
     → ((n : ℕ) → place new.rows n ≡ (if gone_by e old.config (tables_of old) n then None else option_map (row_kept e n) (place old.rows n)))
     → ((n : ℕ) → place new.controllers n ≡ (if gone_by e old.config (tables_of old) n then None else place old.controllers n))
-    → Moves (given_up k) old new
-end_moves old new k c e known is config shown clock streams connections rows controllers =
+    → new.disks ≡ old.disks → Moves (given_up k) old new
+end_moves old new k c e known is config shown clock streams connections rows controllers disks =
     let lost : ending_of x ≡ e = rw known (sym is) in
     record {
       stands = tt;
@@ -197,6 +203,7 @@ end_moves old new k c e known is config shown clock streams connections rows con
       stream = λ j. rw (streams, place-without old.streams k j) (stream_here j (j == k));
       row = λ n. rw lost (rows n);
       controller = λ n. rw lost (controllers n);
+      blocks = λ d. ap (λ (l : List Stored). contents_at l d) disks;
     }
   where
     x : Happening

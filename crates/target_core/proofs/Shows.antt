@@ -1,5 +1,5 @@
 -- The views go on as the history does.
-use Rattle.std.proofs.Common.{◌≡◌, ℕ, List, [], ◌∷◌, Result, Ok, refl, sym, ap, ◌∙◌}
+use Rattle.std.proofs.Common.{◌≡◌, ℕ, List, [], ◌∷◌, length, map, Result, Ok, refl, sym, ap, ◌∙◌}
 use Rattle.std.proofs.Math.Path.{fun_ext}
 use Rattle.admin_queue.specs.Pages.{Pages}
 use Rattle.change_lists.specs.ActiveView.{active_page}
@@ -11,7 +11,7 @@ use Rattle.target_core.specs.declared.views.Plans.{Plans}
 use Rattle.target_core.specs.Views.{ArePlansOf, ShowAfter, ShowFirst, ShowHistory, ShowNext, ShowPlanned, ViewsShown, pages_shown}
 use Rattle.target_history.specs.Event.{Event, edited, opened, stepped, given_up, ticked}
 use Rattle.target_history.specs.Happening.{Happening, config_after}
-use Rattle.target_history.specs.History.{active_of, config_of, generation_of, page_of, pages_of}
+use Rattle.target_history.specs.History.{Opening, active_of, config_of, generation_of, page_of, pages_of}
 
 -- what was planned is what the edit makes
 pub planned_next : (made : Result Configuration EditFault) (plans : Plans) (c : Configuration) (old new : ViewsShown)
@@ -29,15 +29,15 @@ both : (a b : List ℕ → List ℕ) (c d : List ℕ → ℕ → List ℕ) → a
 both a b c d h k = rw (h, k) refl
 
 -- the pages of views that show a history
-pub pages_agree : (v : ViewsShown) (units : List ℕ) (before : List Happening) → ShowHistory v units before → pages_shown v ≡ pages_of units before
-pages_agree v units before show =
-    both (page_in v.discovery) (page_of units before) (active_page v.active) (active_of units before)
+pub pages_agree : (v : ViewsShown) (disks : Opening) (before : List Happening) → ShowHistory v disks before → pages_shown v ≡ pages_of disks before
+pages_agree v disks before show =
+    both (page_in v.discovery) (page_of disks before) (active_page v.active) (active_of disks before)
     (fun_ext (λ host. rw (show.counts host, show.records host) refl))
     (fun_ext (λ subsystem. fun_ext (λ above. rw (show.nsids subsystem) refl)))
 
-stays : (old new : ViewsShown) (units : List ℕ) (before after : List Happening) → config_of units after ≡ config_of units before
-    → generation_of units after ≡ generation_of units before → new ≡ old → ShowHistory old units before → ShowHistory new units after
-stays old new units before after config generation same show =
+stays : (old new : ViewsShown) (disks : Opening) (before after : List Happening) → config_of disks after ≡ config_of disks before
+    → generation_of disks after ≡ generation_of disks before → new ≡ old → ShowHistory old disks before → ShowHistory new disks after
+stays old new disks before after config generation same show =
     rw same (record {
       records = λ host. rw config (show.records host);
       counts = λ host. rw generation (show.counts host);
@@ -46,25 +46,25 @@ stays old new units before after config generation same show =
 
 -- what an event would have been
 abbrev over : Happening → Event → Happening
-over x event = record { event = event; world = x.world; conversation = x.conversation; clock = x.clock }
+over x event = record { event = event; world = x.world; conversation = x.conversation; clock = x.clock; blocks = x.blocks }
 
 -- one more event
-pub views_step : (x : Happening) (old new : ViewsShown) (units : List ℕ) (before : List Happening)
-    → ShowAfter x.event (config_of units (x ∷ before)) old new → ShowHistory old units before → ShowHistory new units (x ∷ before)
-views_step x old new units before after show = by x.event after where
-  by : (event : Event) → ShowAfter event (config_after event (config_of units before)) old new
-      → ShowHistory new units (over x event ∷ before)
+pub views_step : (x : Happening) (old new : ViewsShown) (disks : Opening) (before : List Happening)
+    → ShowAfter x.event (config_of disks (x ∷ before)) old new → ShowHistory old disks before → ShowHistory new disks (x ∷ before)
+views_step x old new disks before after show = by x.event after where
+  by : (event : Event) → ShowAfter event (config_after event (config_of disks before)) old new
+      → ShowHistory new disks (over x event ∷ before)
   by (edited edit) after = record {
     records = λ host. after.discovery.records host;
     counts = λ host. after.discovery.counts host
         ∙ rw (after.discovery.records host, show.records host, show.counts host)
-        (sym (count_goes_on (config_of units before) (config_after (edited edit) (config_of units before)) host (generation_of units before host)));
+        (sym (count_goes_on (config_of disks before) (config_after (edited edit) (config_of disks before)) host (generation_of disks before host)));
     nsids = λ subsystem. after.active.nsids subsystem;
   }
-  by (opened port k) after = stays old new units before (over x (opened port k) ∷ before) refl refl after show
-  by (stepped k found) after = stays old new units before (over x (stepped k found) ∷ before) refl refl after show
-  by (given_up k) after = stays old new units before (over x (given_up k) ∷ before) refl refl after show
-  by (ticked now) after = stays old new units before (over x (ticked now) ∷ before) refl refl after show
+  by (opened port k) after = stays old new disks before (over x (opened port k) ∷ before) refl refl after show
+  by (stepped k found m) after = stays old new disks before (over x (stepped k found m) ∷ before) refl refl after show
+  by (given_up k) after = stays old new disks before (over x (given_up k) ∷ before) refl refl after show
+  by (ticked now) after = stays old new disks before (over x (ticked now) ∷ before) refl refl after show
 
-pub new_show : (v : ViewsShown) (units : List ℕ) → ShowFirst (disks_alone units) v → ShowHistory v units []
-new_show v units first = record { records = first.discovery.records; counts = first.discovery.counts; nsids = first.active.nsids }
+pub new_show : (v : ViewsShown) (disks : Opening) → ShowFirst (disks_alone (map length disks)) v → ShowHistory v disks []
+new_show v disks first = record { records = first.discovery.records; counts = first.discovery.counts; nsids = first.active.nsids }

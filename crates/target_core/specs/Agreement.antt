@@ -4,6 +4,8 @@ use Rattle.std.specs.Prelude.{◌≡◌, ℕ, Bool, ◌==◌, ◌||◌, ◌&&◌
 use Rattle.number_table.specs.Table.{place}
 use Rattle.config_edits.specs.declared.edit.Edit.{Edit}
 use Rattle.config_edits.specs.declared.fault.EditFault.{EditFault}
+use Rattle.io_queue.specs.Act.{Medium}
+use Rattle.io_queue.specs.Execution.{Tells, contents_at}
 use Rattle.pdu_cut.specs.declared.side.Side.TheVariants.{Target}
 use Rattle.pdu_cut.specs.Front.{Front, incomplete, whole, faulty, front}
 use Rattle.pdu_cut.specs.Pdu.{Pdu}
@@ -18,7 +20,7 @@ use Rattle.target_core.specs.Target.{TargetState, conversation_at}
 use Rattle.target_core.specs.Views.{ShowHistory}
 use Rattle.target_history.specs.Event.{Event, edited, gives_up, opened, opens, stepped, given_up}
 use Rattle.target_history.specs.Happening.{Happening}
-use Rattle.target_history.specs.History.{clock_of, config_of, controller_of, conversation_of, happened, has_ended, is_known, last_front, pdus_of, row_of, sent}
+use Rattle.target_history.specs.History.{Opening, blocks_of, clock_of, config_of, controller_of, conversation_of, happened, has_ended, is_known, last_front, pdus_of, row_of, sent}
 
 -- what was found last, where it is a fault, stands at the front of the bytes that are held
 abbrev pub StandsAt : Front → List ℕ → Type 0
@@ -40,19 +42,21 @@ OutputAgrees (Some c) was_sent taken = was_sent ≡ taken ++ c.output
 -- A target agrees with what happened to it, with what each connection received since it was opened, and
 -- with what was taken from it since. Its discovery view shows each host the records of the configuration,
 -- and counts the edits that changed them; each connection is known where the history says so, and has come
--- as far as it says; each controller lives where the history says so, and is as it says.
-pub record AgreesWith (t : TargetState) (units : List ℕ) (happened : List Happening) (received taken : ℕ → List ℕ) : Type 0 where
-  pub config : t.config ≡ config_of units happened
+-- as far as it says; each controller lives where the history says so, and is as it says; each disk holds the units
+-- that it opened with, written over in the order of the events.
+pub record AgreesWith (t : TargetState) (disks : Opening) (happened : List Happening) (received taken : ℕ → List ℕ) : Type 0 where
+  pub config : t.config ≡ config_of disks happened
   pub clock : t.clock ≡ clock_of happened
-  pub shown : ShowHistory t.shown units happened
+  pub shown : ShowHistory t.shown disks happened
   pub conversation : (k : ℕ) → conversation_at t k ≡ conversation_of happened k
   pub row : (c : ℕ) → place t.rows c ≡ row_of happened c
   pub controller : (c : ℕ) → place t.controllers c ≡ controller_of happened c
   pub stream : (k : ℕ) → StreamAgrees (place t.streams k) (pdus_of happened k) (last_front happened k) (received k)
   pub output : (k : ℕ) → OutputAgrees (place t.connections k) (sent happened k) (taken k)
+  pub blocks : (d : ℕ) → contents_at t.disks d ≡ blocks_of disks happened d
 
-abbrev pub Agrees : TargetState → List ℕ → List Event → (ℕ → List ℕ) → (ℕ → List ℕ) → Type 0
-Agrees t units events received taken = AgreesWith t units (happened units events) received taken
+abbrev pub Agrees : TargetState → Opening → List Event → (ℕ → List ℕ) → (ℕ → List ℕ) → Type 0
+Agrees t disks events received taken = AgreesWith t disks (happened disks events) received taken
 
 -- what connection k had, and more
 abbrev pub extended : (ℕ → List ℕ) → ℕ → List ℕ → ℕ → List ℕ
@@ -67,23 +71,23 @@ nothing k = []
 
 -- whatever history and bytes the old target agrees with, the new one agrees with the same
 pub record AgreesStill (old new : TargetState) : Type 0 where
-  pub keeps : (units : List ℕ) (events : List Event) (received taken : ℕ → List ℕ)
-      → Agrees old units events received taken → Agrees new units events received taken
+  pub keeps : (disks : Opening) (events : List Event) (received taken : ℕ → List ℕ)
+      → Agrees old disks events received taken → Agrees new disks events received taken
 
 -- .. with the history that is longer by this event
 pub record AgreesAfter (event : Event) (old new : TargetState) : Type 0 where
-  pub keeps : (units : List ℕ) (events : List Event) (received taken : ℕ → List ℕ)
-      → Agrees old units events received taken → Agrees new units (event ∷ events) (left event received) (left event taken)
+  pub keeps : (disks : Opening) (events : List Event) (received taken : ℕ → List ℕ)
+      → Agrees old disks events received taken → Agrees new disks (event ∷ events) (left event received) (left event taken)
 
 -- .. with the same history, where connection k received these bytes too
 pub record AgreesWithReceived (k : ℕ) (bytes : List ℕ) (old new : TargetState) : Type 0 where
-  pub keeps : (units : List ℕ) (events : List Event) (received taken : ℕ → List ℕ)
-      → Agrees old units events received taken → Agrees new units events (extended received k bytes) taken
+  pub keeps : (disks : Opening) (events : List Event) (received taken : ℕ → List ℕ)
+      → Agrees old disks events received taken → Agrees new disks events (extended received k bytes) taken
 
 -- .. with the same history, where these bytes too were taken from connection k
 pub record AgreesWithTaken (k : ℕ) (bytes : List ℕ) (old new : TargetState) : Type 0 where
-  pub keeps : (units : List ℕ) (events : List Event) (received taken : ℕ → List ℕ)
-      → Agrees old units events received taken → Agrees new units events received (extended taken k bytes)
+  pub keeps : (disks : Opening) (events : List Event) (received taken : ℕ → List ℕ)
+      → Agrees old disks events received taken → Agrees new disks events received (extended taken k bytes)
 
 -- what a call's answer says of the agreement: where it is Ok, what follows from it, and else the same as
 -- before
@@ -91,10 +95,16 @@ abbrev pub front_of : Option (List ℕ) → Front
 front_of None = incomplete
 front_of (Some held) = front Target held
 
+-- a step with which the disks did this, good exactly where none counts a failure more
+pub record AgreesAfterStep (k : ℕ) (found : Front) (old new : TargetState) : Type 0 where
+  pub medium : Medium
+  pub tells : Tells medium old.disks new.disks
+  pub agrees : AgreesAfter (stepped k found medium) old new
+
 abbrev pub AgreesByStep : ℕ → Stepped → TargetState → TargetState → Type 0
 AgreesByStep k Idle old new = AgreesStill old new
-AgreesByStep k One old new = AgreesAfter (stepped k (front_of (place old.streams k))) old new
-AgreesByStep k Ended old new = AgreesAfter (stepped k (front_of (place old.streams k))) old new
+AgreesByStep k One old new = AgreesAfterStep k (front_of (place old.streams k)) old new
+AgreesByStep k Ended old new = AgreesAfterStep k (front_of (place old.streams k)) old new
 
 abbrev pub EditAgrees : Edit → TargetState → Result (Unit {0}) EditFault → TargetState → Type 0
 EditAgrees edit old result new = MatchResult result (λ done. AgreesAfter (edited edit) old new) (λ fault. AgreesStill old new)
@@ -118,5 +128,5 @@ EndAgrees k old new = MatchOption (place old.connections k) (AgreesStill old new
 
 -- whatever history the target agrees with, the answer says whether that history has ended the connection
 pub record EndedAgrees (k : ℕ) (t : TargetState) (ended : Bool) : Type 0 where
-  pub tells : (units : List ℕ) (events : List Event) (received taken : ℕ → List ℕ)
-      → Agrees t units events received taken → ended ≡ (is_known (happened units events) k && has_ended (happened units events) k)
+  pub tells : (disks : Opening) (events : List Event) (received taken : ℕ → List ℕ)
+      → Agrees t disks events received taken → ended ≡ (is_known (happened disks events) k && has_ended (happened disks events) k)

@@ -2,18 +2,23 @@
 use Rattle.std.specs.Prelude.{◌≡◌, ◌≤◌, ℕ, Bool, length, true, false, List, [], Option, Some, None, Result, Err, MatchResult, ◌++◌, drop, if◌then◌else◌}
 use Rattle.std.specs.Option.{option_map}
 use Rattle.number_table.specs.Table.{place, with_value}
+use Rattle.block_store.specs.Stored.{Stored}
+use Rattle.io_queue.specs.Act.{Medium}
+use Rattle.io_queue.specs.Execution.{Tells, contents_at, write_on, written}
 use Rattle.pdu_cut.specs.declared.side.Side.TheVariants.{Target}
 use Rattle.pdu_cut.specs.Front.{Front, front}
 use Rattle.target_core.specs.declared.fault.StepFault.{StepFault}
 use Rattle.target_core.specs.declared.fault.StepFault.TheVariants.{NoConn, Memory}
 use Rattle.target_core.specs.declared.fault.Stepped.{Stepped}
 use Rattle.target_core.specs.declared.fault.Stepped.TheVariants.{Idle, One, Ended}
-use Rattle.target_core.specs.Connection.{ConnectionState, fresh_on}
+use Rattle.target_core.specs.Connection.{Acts, ConnectionState, fresh_on}
 use Rattle.target_core.specs.Target.{TargetState, is_idle, is_incomplete, meets}
 use Rattle.target_core.specs.Views.{ShowAfter}
+use Rattle.target_decision.specs.declared.decision.Decision.{Decision}
 use Rattle.target_decision.specs.Decision.{consumed_of}
+use Rattle.target_decision.specs.World.{World}
 use Rattle.target_history.specs.Event.{Event, edited, front_in, gives_up, opened, opens, port_in, steps, stepped, given_up, ticked}
-use Rattle.target_history.specs.Happening.{Happening, clock_after, config_after, controller_after, conversation_moved, row_after, sends, terminates}
+use Rattle.target_history.specs.Happening.{Happening, acts, clock_after, config_after, controller_after, conversation_moved, row_after, sends, terminates}
 
 abbrev pub connection_moved : Happening → ℕ → ConnectionState → ConnectionState
 connection_moved x k c = record { conversation = conversation_moved x k c.conversation; output = c.output ++ sends x k }
@@ -37,7 +42,7 @@ StandsIn found None = ⊥
 StandsIn found (Some held) = (front Target held ≡ found) × (is_incomplete found ≡ false)
 
 abbrev pub Stands : Event → TargetState → Type 0
-Stands (stepped n found) t = StandsIn found (place t.streams n)
+Stands (stepped n found m) t = StandsIn found (place t.streams n)
 Stands (edited edit) t = Unit {0}
 Stands (opened port n) t = Unit {0}
 Stands (given_up n) t = Unit {0}
@@ -52,6 +57,7 @@ pub record Moves (event : Event) (old new : TargetState) : Type 0 where
   pub stream : (k : ℕ) → place new.streams k ≡ stream_after event k (place old.streams k)
   pub row : (c : ℕ) → place new.rows c ≡ row_after (meets old event) c (place old.rows c)
   pub controller : (c : ℕ) → place new.controllers c ≡ controller_after (meets old event) c (place old.controllers c)
+  pub blocks : (d : ℕ) → contents_at new.disks d ≡ written (write_on d (acts (meets old event))) (contents_at old.disks d)
 
 -- ---- the parts of a step
 
@@ -61,6 +67,18 @@ module _ {T : Type 0} where
   ActedAt k f None old new = new ≡ old
   ActedAt k f (Some c) old new = new ≡ with_value old k (f c)
 
+-- what was decided on this front is done to the connection at k, where one is, with these disks
+pub record ActsOn (k : ℕ) (w : World) (d : Decision) (found : Front) (c : ConnectionState) (old new : List (Option ConnectionState))
+    (disks after : List Stored) : Type 0 where
+  pub turned : ConnectionState
+  pub acts : Acts w d found c turned disks after
+  pub placed : new ≡ with_value old k turned
+
+abbrev pub ActsAt : ℕ → World → Decision → Front → Option ConnectionState → List (Option ConnectionState) → List (Option ConnectionState)
+    → List Stored → List Stored → Type 0
+ActsAt k w d found None old new disks after = (new ≡ old) × (after ≡ disks)
+ActsAt k w d found (Some c) old new disks after = ActsOn k w d found c old new disks after
+
 abbrev pub CanConsume : ℕ → Option (List ℕ) → Type 0
 CanConsume len None = Unit {0}
 CanConsume len (Some held) = len ≤ length held
@@ -68,15 +86,19 @@ CanConsume len (Some held) = len ≤ length held
 abbrev pub stepped_by : Bool → Stepped
 stepped_by ended = if ended then Ended else One
 
--- a step of a connection that holds these bytes: its answer says whether it ended the connection
+-- a step that consumed what stands at the front of these bytes, and whether it ended the connection: what the disks
+-- did is good exactly where none counts a failure more
+pub record StepsOn (k : ℕ) (held : List ℕ) (ended : Bool) (old new : TargetState) : Type 0 where
+  pub medium : Medium
+  pub tells : Tells medium old.disks new.disks
+  pub moves : Moves (stepped k (front Target held) medium) old new
+  pub ends : terminates (meets old (stepped k (front Target held) medium)) k ≡ ended
+
+-- a step of a connection that holds these bytes, by its answer
 abbrev pub StepsBy : ℕ → List ℕ → ConnectionState → Stepped → TargetState → TargetState → Type 0
 StepsBy k held c Idle old new = (is_idle held c ≡ true) × (new ≡ old)
-StepsBy k held c One old new =
-    (is_idle held c ≡ false) × Moves (stepped k (front Target held)) old new
-    × (terminates (meets old (stepped k (front Target held))) k ≡ false)
-StepsBy k held c Ended old new =
-    (is_idle held c ≡ false) × Moves (stepped k (front Target held)) old new
-    × (terminates (meets old (stepped k (front Target held))) k ≡ true)
+StepsBy k held c One old new = (is_idle held c ≡ false) × StepsOn k held false old new
+StepsBy k held c Ended old new = (is_idle held c ≡ false) × StepsOn k held true old new
 
 -- a step of connection k: NoConn where none is known, and else its own, which memory alone refuses
 abbrev pub StepsAt : ℕ → Option (List ℕ) → Option ConnectionState → TargetState → Result Stepped StepFault → TargetState → Type 0

@@ -1,10 +1,12 @@
 -- A target, as its calls see it.
-use Rattle.std.specs.Prelude.{◌≡◌, ℕ, ◌-◌, ◌==◌, Bool, true, false, ◌||◌, List, [], Option, Some, None, is_none, find, position, replicate, Result, Ok, IsErr, ◌++◌, min, length, take, drop, if◌then◌else◌}
+use Rattle.std.specs.Prelude.{◌≡◌, ℕ, ◌-◌, ◌==◌, Bool, true, false, ◌||◌, List, [], Option, Some, None, is_none, find, position, replicate, Result, Ok, IsErr, ◌++◌, map, min, length, take, drop, if◌then◌else◌}
 use Rattle.std.specs.Option.{option_map}
 use Rattle.number_table.specs.Table.{place, with_value, without}
-use Rattle.config_rules.specs.Configuration.{Configuration}
+use Rattle.config_rules.specs.Configuration.{Configuration, disks_alone}
 use Rattle.config_lists.specs.declared.port.Port.{Port}
 use Rattle.controller_tables.specs.Controllers.{controller_places}
+use Rattle.block_store.specs.Stored.{Stored}
+use Rattle.io_queue.specs.Execution.{contents_at, sizes}
 use Rattle.pdu_cut.specs.declared.side.Side.TheVariants.{Target}
 use Rattle.pdu_cut.specs.Side.{capacity_of}
 use Rattle.pdu_cut.specs.Front.{Front, incomplete, whole, faulty, front}
@@ -22,10 +24,11 @@ use Rattle.admin_queue.specs.Pages.{Pages}
 use Rattle.target_decision.specs.World.{World, connections_max}
 use Rattle.target_history.specs.Event.{Event}
 use Rattle.target_history.specs.Happening.{Happening}
+use Rattle.target_history.specs.History.{Opening}
 
 -- the configuration, what the views of it show, and the clock, in ms; of each connection that is known the
--- bytes received and not consumed, and what else is known of it; and of each controller that lives what all
--- connections may see of it, and what its own admin queue alone uses
+-- bytes received and not consumed, and what else is known of it; of each controller that lives what all
+-- connections may see of it, and what its own admin queue alone uses; and the disks
 pub record TargetState : Type 0 where
   pub config : Configuration
   pub shown : ViewsShown
@@ -34,9 +37,10 @@ pub record TargetState : Type 0 where
   pub connections : List (Option ConnectionState)
   pub rows : List (Option Row)
   pub controllers : List (Option Controller)
+  pub disks : List Stored
 
--- this configuration, unchanged so far, and no connection and no controller of those that there may be
-pub record IsNewTarget (c : Configuration) (t : TargetState) : Type 0 where
+-- this configuration, unchanged so far, over these disks, and no connection and no controller of those that there may be
+pub record IsOver (c : Configuration) (stored : List Stored) (t : TargetState) : Type 0 where
   pub config : t.config ≡ c
   pub shown : ShowFirst c t.shown
   pub clock : t.clock ≡ 0
@@ -44,12 +48,23 @@ pub record IsNewTarget (c : Configuration) (t : TargetState) : Type 0 where
   pub connections : t.connections ≡ replicate connections_max None
   pub rows : t.rows ≡ no_controllers
   pub controllers : t.controllers ≡ replicate controller_places None
+  pub disks : t.disks ≡ stored
+
+-- .. the configuration of disks that hold these units, and nothing else
+pub record IsNewTarget (opening : Opening) (t : TargetState) : Type 0 where
+  pub over : IsOver (disks_alone (map length opening)) t.disks t
+  pub units : map (λ (s : Stored). s.contents) t.disks ≡ opening
 
 -- what holds of each target: it has a stream for each connection that is known, of those that there may be
 pub record IsTarget (streams : List (Option (List ℕ))) (connections : List (Option ConnectionState)) : Type 0 where
   pub places : length connections ≡ connections_max
   pub alike : (k : ℕ) → is_none (place streams k) ≡ is_none (place connections k)
   pub within : length streams ≡ connections_max
+
+-- .. and the disks of its configuration
+pub record IsSound (config : Configuration) (disks : List Stored) (streams : List (Option (List ℕ))) (connections : List (Option ConnectionState)) : Type 0 where
+  pub tables : IsTarget streams connections
+  pub units : config.units ≡ sizes disks
 
 -- ---- what a decision may look at
 
@@ -68,7 +83,13 @@ world_at t = record {
 }
 
 abbrev pub meets : TargetState → Event → Happening
-meets t event = record { event = event; world = world_at t; conversation = conversation_at t; clock = t.clock }
+meets t event = record {
+  event = event;
+  world = world_at t;
+  conversation = conversation_at t;
+  clock = t.clock;
+  blocks = contents_at t.disks;
+}
 
 -- ---- the calls
 

@@ -11,7 +11,7 @@ use Rattle.target_core.specs.declared.views.Plans.{Plans}
 use Rattle.target_core.specs.declared.views.Views.{Views}
 use Rattle.target_history.specs.Event.{Event, edited, opened, stepped, given_up, ticked}
 use Rattle.target_history.specs.Happening.{Happening}
-use Rattle.target_history.specs.History.{config_of, generation_of}
+use Rattle.target_history.specs.History.{Opening, config_of, generation_of}
 
 -- what each view shows; a further log page is a field more, here and below
 pub record ViewsShown : Type 0 where
@@ -53,13 +53,13 @@ pub record ShowPlanned (plans : Plans) (old new : ViewsShown) : Type 0 where
 abbrev pub ShowAfter : Event → Configuration → ViewsShown → ViewsShown → Type 0
 ShowAfter (edited edit) c old new = ShowNext c old new
 ShowAfter (opened port n) c old new = new ≡ old
-ShowAfter (stepped n found) c old new = new ≡ old
+ShowAfter (stepped n found m) c old new = new ≡ old
 ShowAfter (given_up n) c old new = new ≡ old
 ShowAfter (ticked now) c old new = new ≡ old
 
 -- they show what a history says: the discovery view each host the records of the configuration, and the
 -- number of the edits that changed them; the list of active namespaces those of the configuration
-pub record ShowHistory (v : ViewsShown) (units : List ℕ) (happened : List Happening) : Type 0 where
-  pub records : (host : List ℕ) → records_in v.discovery host ≡ records_of (config_of units happened) host
-  pub counts : (host : List ℕ) → count_in v.discovery host ≡ generation_of units happened host % 2 ^ 64
-  pub nsids : (subsystem : List ℕ) → nsids_in v.active subsystem ≡ active_nsids (config_of units happened).namespaces subsystem
+pub record ShowHistory (v : ViewsShown) (disks : Opening) (happened : List Happening) : Type 0 where
+  pub records : (host : List ℕ) → records_in v.discovery host ≡ records_of (config_of disks happened) host
+  pub counts : (host : List ℕ) → count_in v.discovery host ≡ generation_of disks happened host % 2 ^ 64
+  pub nsids : (subsystem : List ℕ) → nsids_in v.active subsystem ≡ active_nsids (config_of disks happened).namespaces subsystem

@@ -1,12 +1,14 @@
 //! One connection: how far it has come, and what it has to send.
 ghost use Rattle.std.specs.Prelude.{◌≡◌, ◌≤◌, OnErr, OnOk, drop, length};
 ghost use Rattle.controller_tables.specs.Controllers.{is_gone};
+ghost use Rattle.io_queue.specs.Execution.{sizes};
 ghost use Rattle.pdu_cut.specs.Cut.{front_shown};
-ghost use Rattle.target_core.specs.Connection.{acted, fresh_on, settled};
-ghost use Rattle.target_decision.specs.Decision.{head_of};
+ghost use Rattle.target_core.specs.Connection.{Acts, fresh_on, settled};
+ghost use Rattle.target_decision.specs.Decision.{PerformsWithin, head_of};
 ghost use Rattle.target_decision.specs.Session.{is_ended};
 ghost use Rattle.target_decision.specs.World.{world_in};
 
+use block_store::{Disk, Store};
 use bytes::BytesMut;
 use pdu_cut::Cut;
 use std::alloc::{AllocError, Global};
@@ -70,20 +72,24 @@ impl Connection {
         self.output.advance(len);
     }
 
-    /// Does what was decided on this front. All growth comes first: want of memory changes nothing.
-    pub(crate) fn act(
+    /// Does what was decided on this front, with these disks. All growth comes first: want of memory
+    /// changes nothing.
+    pub(crate) fn act<D: Disk>(
         &mut self,
         world: &World<'_>,
+        stores: &mut [Store<D>],
         decision: &Decision,
         front: &Cut<'_>,
     ) -> Result<(), AllocError>
-        requires { length (head_of (front_shown front.now)) ≤ 128 }
-        ensures acted { let found = front_shown front.now in
-            OnOk result (self.new ≡ acted (world_in world.now) decision.now found self.old) }
-        ensures err { OnErr result (self.new ≡ self.old) }
+        requires head { length (head_of (front_shown front.now)) ≤ 128 }
+        requires within { PerformsWithin (sizes stores.old) decision.now (front_shown front.now) }
+        ensures acts { OnOk result (Acts (world_in world.now) decision.now (front_shown front.now)
+            self.old self.new stores.old stores.new) }
+        ensures err { OnErr result ((self.new ≡ self.old) × (stores.new ≡ stores.old)) }
     {
         perform(
             world,
+            stores,
             &mut self.conversation.session,
             &mut self.output,
             decision,

@@ -19,6 +19,7 @@
 #![tactic(auto)]
 
 mod connection;
+mod disks;
 mod fault;
 mod settle;
 mod stream;

@@ -1,25 +1,27 @@
 //! The target: a configuration and the connections that hosts made.
-ghost use Rattle.std.specs.Prelude.{◌≡◌, ◌<◌, ◌≤◌, IfOk, IfErr, IsOkUnless, OnErr, OnOk, MatchOption, Some, None, [], drop, length, replicate};
+ghost use Rattle.std.specs.Prelude.{◌≡◌, ◌<◌, ◌≤◌, IfOk, IfErr, IsOkUnless, OnErr, OnOk, MatchOption, Some, None, [], drop, length, map, true};
 ghost use Rattle.std.specs.Bool.{OnFalse, OnTrue};
 ghost use Rattle.std.specs.Option.{option_copied};
 ghost use Rattle.number_table.specs.Table.{place};
 ghost use Rattle.config_rules.specs.Accept.{accept};
-ghost use Rattle.config_rules.specs.Configuration.{are_disks, disks_alone};
+ghost use Rattle.config_rules.specs.Configuration.{are_disks};
 ghost use Rattle.target_core.specs.Agreement.{Agrees, AgreesAfter, EditAgrees, EndAgrees, EndedAgrees, OpenAgrees, ReceiveAgrees, StepAgrees, TakenAgrees, nothing};
+ghost use Rattle.io_queue.specs.Execution.{sizes};
 ghost use Rattle.pdu_cut.specs.Cut.{front_shown};
-ghost use Rattle.target_core.specs.Connection.{acted};
-ghost use Rattle.target_core.specs.Moves.{ActedAt, CanConsume, Moves, StepsAt, stepped_by};
+ghost use Rattle.target_core.specs.Moves.{ActedAt, ActsAt, CanConsume, Moves, StepsAt, stepped_by};
 ghost use Rattle.target_decision.specs.Begin.{NamesWell, row_decided};
-ghost use Rattle.target_decision.specs.Decision.{head_of, is_end};
+ghost use Rattle.target_decision.specs.Decision.{PerformsWithin, head_of, is_end};
 ghost use Rattle.target_decision.specs.World.{connections_max, world_in};
-ghost use Rattle.target_core.specs.Target.{free_number, is_ended_at, is_incomplete, open_fault, output_at, room_at, IsNewTarget, ReceivesAt, TakenAt};
+ghost use Rattle.target_core.specs.Target.{free_number, is_ended_at, is_incomplete, open_fault, output_at, room_at, IsNewTarget, IsOver, ReceivesAt, TakenAt};
 ghost use Rattle.target_history.specs.Event.{edited, given_up, opened, ticked};
 
 use crate::connection::Connection;
+use crate::disks::{are_disks, stores_over, units_of};
 use crate::fault::{NoConn, OpenFault, StepFault, Stepped};
 use crate::settle::settle;
 use crate::stream::Stream;
 use crate::views::Views;
+use block_store::{Disk, Store};
 use controller_tables::{ControllerTables, change_of};
 use fabrics_connect::Row;
 use number_table::NumberTable;
@@ -33,7 +35,7 @@ use target_history::Ending;
 /// A target. It serves up to 64 connections, each by the least number that was free when it was
 /// opened, and up to 32 controllers.
 #[derive(Drop)]
-pub struct Target {
+pub struct Target<D: Disk> {
     alloc: Global,
     config: Config,
     views: Views,
@@ -41,10 +43,11 @@ pub struct Target {
     streams: NumberTable<Stream>,
     connections: NumberTable<Connection>,
     controllers: ControllerTables,
+    stores: Vec<Store<D>>,
 }
 
-impl Model for Target {
-    ghost use Rattle.target_core.specs.Target.{IsTarget, TargetState};
+impl<D: Disk> Model for Target<D> {
+    ghost use Rattle.target_core.specs.Target.{IsSound, TargetState};
     ghost use Rattle.target_core.specs.Views.{shown_by};
 
     ghost Value = { TargetState };
@@ -57,24 +60,30 @@ impl Model for Target {
       connections = t.connections;
       rows = t.controllers.rows;
       controllers = t.controllers.own;
+      disks = t.stores.items;
     } };
 
-    ghost invariant = { λ t. IsTarget t.streams t.connections };
+    ghost invariant = { λ t. IsSound t.config t.stores.items t.streams t.connections };
 }
 
 // What each call promises is in two parts: what becomes of the target's own state, exactly, and that
 // the target goes on to agree with the history of all events, longer by the call's own.
-impl Target {
-    /// A target with disks of these sizes, in units of 512 bytes, and no port and no connection.
-    /// Answers `Disks` for more than 256 disks or one of more than 2^40 units, and then `Memory`.
-    pub fn new(alloc: Global, units: &[u64]) -> Result<Target, NewFault>
-        ensures ok { IfOk result (IsNewTarget (disks_alone units.now)) }
-        ensures accepted { OnTrue (are_disks units.now) (IsOkUnless result NewFault.Memory) }
-        ensures refused { OnFalse (are_disks units.now) (result ≡ Err NewFault.Disks) }
-        ensures agrees { IfOk result (λ target. Agrees target units.now [] nothing nothing) }
+impl<D: Disk + Drop> Target<D> {
+    /// A target over these disks, with no port and no connection. Answers `Disks` for more than 256
+    /// disks or one of more than 2^40 units, and then `Memory`; the disks are dropped then.
+    pub fn new(alloc: Global, disks: Vec<D>) -> Result<Target<D>, NewFault>
+        ensures ok { IfOk result (IsNewTarget (map D.contents disks.items)) }
+        ensures accepted { OnTrue (are_disks (map length (map D.contents disks.items)))
+            (IsOkUnless result NewFault.Memory) }
+        ensures refused { OnFalse (are_disks (map length (map D.contents disks.items)))
+            (result ≡ Err NewFault.Disks) }
+        ensures agrees { IfOk result (λ target.
+            Agrees target (map D.contents disks.items) [] nothing nothing) }
     {
-        let config = Config::new(alloc, units)?;
-        match Target::over(alloc, config) {
+        if !are_disks(&disks) {
+            return Err(NewFault::Disks);
+        }
+        match Target::with_disks(alloc, disks) {
             Ok(target) => Ok(target),
             Err(AllocError) => Err(NewFault::Memory),
         }
@@ -191,8 +200,22 @@ impl Target {
         self.set_clock(now_ms);
     }
 
-    fn over(alloc: Global, config: Config) -> Result<Target, AllocError>
-        ensures { IfOk result (IsNewTarget config) }
+    #[tactic(auto, using(crate::proofs::Units::sizes_are, crate::proofs::Units::is_new))]
+    fn with_disks(alloc: Global, disks: Vec<D>) -> Result<Target<D>, AllocError>
+        requires { are_disks (map length (map D.contents disks.items)) ≡ true }
+        ensures { IfOk result (IsNewTarget (map D.contents disks.items)) }
+    {
+        let units = units_of(alloc, &disks)?;
+        let stores = stores_over(alloc, disks)?;
+        match Config::new(alloc, &units) {
+            Ok(config) => Target::over(alloc, config, stores),
+            Err(_) => Err(AllocError),
+        }
+    }
+
+    fn over(alloc: Global, config: Config, stores: Vec<Store<D>>) -> Result<Target<D>, AllocError>
+        requires { config.units ≡ sizes stores.items }
+        ensures { IfOk result (IsOver config stores.items) }
     {
         Ok(Target {
             alloc,
@@ -201,6 +224,7 @@ impl Target {
             streams: NumberTable::new(alloc, CONNECTIONS_MAX)?,
             connections: NumberTable::new(alloc, CONNECTIONS_MAX)?,
             controllers: ControllerTables::new(alloc)?,
+            stores,
             config,
         })
     }
@@ -302,6 +326,7 @@ impl Target {
         let len = consumed_of(&front);
         match act(
             &mut self.connections,
+            &mut self.stores,
             k,
             self.alloc,
             &world,
@@ -380,10 +405,11 @@ fn is_incomplete(front: &Cut<'_>) -> bool
     matches!(front, Cut::More)
 }
 
-// Does what was decided to its own connection, where that is known, and makes the row of the
-// controller that it begins.
-fn act(
+// Does what was decided to its own connection, where that is known, with these disks, and makes the row
+// of the controller that it begins.
+fn act<D: Disk>(
     connections: &mut NumberTable<Connection>,
+    stores: &mut Vec<Store<D>>,
     k: usize,
     alloc: Global,
     world: &World<'_>,
@@ -392,17 +418,18 @@ fn act(
 ) -> Result<Option<Row>, AllocError>
     requires head { length (head_of (front_shown front.now)) ≤ 128 }
     requires named { NamesWell decision.now (front_shown front.now) }
-    ensures acted { let f = acted (world_in world.now) decision.now (front_shown front.now) in
-        OnOk result (ActedAt k f (place connections.old k) connections.old connections.new) }
+    requires within { PerformsWithin (sizes stores.old.items) decision.now (front_shown front.now) }
+    ensures acts { OnOk result (ActsAt k (world_in world.now) decision.now (front_shown front.now)
+        (place connections.old k) connections.old connections.new stores.old.items stores.new.items) }
     ensures row { IfOk result (λ row. MatchOption (place connections.old k) (row ≡ None)
         (λ c. row ≡ row_decided decision.now c.conversation.port (front_shown front.now))) }
-    ensures err { OnErr result (connections.new ≡ connections.old) }
+    ensures err { OnErr result ((connections.new ≡ connections.old) × (stores.new.items ≡ stores.old.items)) }
 {
     let Some(connection) = connections.get_mut(k) else {
         return Ok(None);
     };
     let row = new_row(alloc, connection.conversation().port, decision, front)?;
-    connection.act(world, decision, front)?;
+    connection.act(world, stores, decision, front)?;
     Ok(row)
 }
 

@@ -16,7 +16,10 @@ use Rattle.fabrics_connect.specs.Command.{HasNames}
 use Rattle.fabrics_connect.specs.Connect.{answer_to, connect, decision_of}
 use Rattle.fabrics_connect.specs.Laws.{IsLeastFree}
 use Rattle.fabrics_connect.proofs.Consequences.{controller_named, identifiers_are_least}
+use Rattle.io_queue.specs.declared.operation.Operation.{Operation}
+use Rattle.io_queue.specs.Decision.{decide as io_decide}
 use Rattle.nvt_fields.specs.declared.pdu_type.PduType.{PduType}
+use Rattle.nvt_fields.specs.declared.status.Status.{Status}
 use Rattle.nvt_fields.specs.declared.pdu_type.PduType.TheVariants.{IcReq, IcResp, H2cTermReq, C2hTermReq, CapsuleCmd, CapsuleResp, H2cData, C2hData, R2t}
 use Rattle.pdu_codec.specs.declared.command.Property.{Property}
 use Rattle.pdu_codec.specs.declared.initialize.IcReq as ic_req
@@ -38,7 +41,7 @@ use Rattle.target_decision.specs.declared.session.Role.TheVariants.{Admin, Io}
 use Rattle.target_decision.specs.declared.session.Session.{Session}
 use Rattle.target_decision.specs.declared.session.Session.TheVariants.{Opened, Initialized, Connected, Ended}
 use Rattle.target_decision.specs.Begin.{BeginsFree, NamesWell}
-use Rattle.target_decision.specs.Capsule.{admin_answered, admin_at, admin_by, change_by, command, command_in, fabrics_command, first_command, given_by, is_ready_at, on_admin_queue, on_io_queue, queue_command, reply_of, set_by}
+use Rattle.target_decision.specs.Capsule.{admin_answered, admin_at, admin_by, change_by, command, command_in, fabrics_command, first_command, given_by, io_answered, io_at, io_by, io_of, is_ready_at, on_admin_queue, on_io_queue, queue_command, reply_of, set_by}
 use Rattle.target_decision.specs.Connect.{answered, connect_on}
 use Rattle.target_decision.specs.Decision.{capsule, decide, decide_in, entry_of, first_by, initialize, next_by, terminate}
 use Rattle.target_decision.specs.Outcome.{Outcome}
@@ -113,9 +116,24 @@ admin_by_sound w ready (Some c) cntlid entry bytes = search (either_sound, outco
 admin_sound : (w : World) (cntlid : ℕ) (entry bytes : List ℕ) → IsSound w (admin_at w cntlid entry) entry bytes
 admin_sound w cntlid entry bytes = admin_by_sound w (is_ready_at (w.row cntlid)) (admin_controller w cntlid) cntlid entry bytes
 
-queue_sound : (w : World) (role : Role) (entry bytes : List ℕ) → IsSound w (queue_command w role entry) entry bytes
+io_answered_sound : (w : World) (r : Result Operation Status) (entry bytes : List ℕ) → IsSound w (io_answered r) entry bytes
+io_answered_sound w (Ok op) entry bytes = tt
+io_answered_sound w (Err status) entry bytes = tt
+
+io_of_sound : (w : World) (subsystem : Option (List ℕ)) (port : ℕ) (entry bytes : List ℕ) (brings : ℕ) → IsSound w (io_of subsystem port w entry brings) entry bytes
+io_of_sound w None port entry bytes brings = tt
+io_of_sound w (Some subsystem) port entry bytes brings = io_answered_sound w (io_decide w.config port subsystem entry brings) entry bytes
+
+io_by_sound : (w : World) (row : Option Row) (entry bytes : List ℕ) (brings : ℕ) → IsSound w (io_by row w entry brings) entry bytes
+io_by_sound w None entry bytes brings = tt
+io_by_sound w (Some row) entry bytes brings = search (either_sound, io_of_sound)
+
+io_sound : (w : World) (cntlid : ℕ) (entry bytes : List ℕ) (brings : ℕ) → IsSound w (io_at w cntlid entry brings) entry bytes
+io_sound w cntlid entry bytes brings = io_by_sound w (w.row cntlid) entry bytes brings
+
+queue_sound : (w : World) (role : Role) (entry bytes : List ℕ) → IsSound w (queue_command w role entry bytes) entry bytes
 queue_sound w (Admin cntlid) entry bytes = search (either_sound, fabrics_sound, admin_sound)
-queue_sound w (Io cntlid qid) entry bytes = search (either_sound)
+queue_sound w (Io cntlid qid) entry bytes = search (either_sound, io_sound)
 
 first_sound : (w : World) (port : ℕ) (entry bytes : List ℕ) → IsSound w (first_command w port entry bytes) entry bytes
 first_sound w port entry bytes = search (either_sound, connect_sound)

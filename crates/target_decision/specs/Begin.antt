@@ -11,19 +11,15 @@ use Rattle.target_decision.specs.declared.decision.Change.{Change}
 use Rattle.target_decision.specs.declared.decision.Change.TheVariants as change
 use Rattle.target_decision.specs.declared.decision.Decision.{Decision}
 use Rattle.target_decision.specs.declared.decision.Decision.TheVariants as decision
+pub use Rattle.target_decision.specs.Decision.{bytes_at}
 use Rattle.target_decision.specs.Decision.{entry_of}
 use Rattle.target_decision.specs.World.{World}
 
--- the submission queue entry, and the data, of the capsule at a front
+-- the submission queue entry of the capsule at a front
 abbrev pub entry_at : Front → List ℕ
 entry_at (whole pdu) = entry_of pdu
 entry_at incomplete = []
 entry_at (faulty fault head) = []
-
-abbrev pub bytes_at : Front → List ℕ
-bytes_at (whole pdu) = data_part pdu
-bytes_at incomplete = []
-bytes_at (faulty fault head) = []
 
 -- ---- the row of the controller that it begins
 

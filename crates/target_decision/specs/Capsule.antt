@@ -1,20 +1,23 @@
 -- A command capsule, by its submission queue entry and the data that it brings (Base 2.0, sections 5
 -- and 6).
-use Rattle.std.specs.Prelude.{ℕ, Bool, false, not, ◌==◌, ◌&&◌, List, Option, Some, None, Result, Ok, Err, if◌then◌else◌}
+use Rattle.std.specs.Prelude.{ℕ, Bool, false, not, ◌==◌, ◌&&◌, List, length, Option, Some, None, Result, Ok, Err, if◌then◌else◌}
 use Rattle.admin_queue.specs.declared.outcome.Effect.{Effect}
 use Rattle.admin_queue.specs.declared.outcome.Effect.TheVariants as effect
 use Rattle.admin_queue.specs.Commands.{admin}
 use Rattle.admin_queue.specs.Controller.{AdminController}
 use Rattle.admin_queue.specs.Outcome.{Outcome as AdminOutcome}
 use Rattle.fabrics_connect.specs.declared.row.Row.{Row}
+use Rattle.io_queue.specs.declared.operation.Operation.{Operation}
+use Rattle.io_queue.specs.Decision.{decide as io_decide}
 use Rattle.nvt_fields.specs.declared.status.Status.{Status}
-use Rattle.nvt_fields.specs.Status.{success, invalid_opcode, invalid_field, command_sequence_error}
+use Rattle.nvt_fields.specs.Status.{invalid_field, command_sequence_error}
 use Rattle.pdu_codec.specs.declared.command.Property.{Property}
 use Rattle.pdu_codec.specs.Sqe.{opcode_of, fuse_of, fctype_of, property_of}
 use Rattle.property_regs.specs.declared.regs.InvalidField.{InvalidField}
 use Rattle.property_regs.specs.declared.regs.Regs.{Regs}
 use Rattle.property_regs.specs.declared.regs.Change.{Change as RegsChange}
 use Rattle.property_regs.specs.Regs.{property_get, property_set}
+use Rattle.target_decision.specs.declared.decision.Answer.TheVariants as answer
 use Rattle.target_decision.specs.declared.decision.Change.{Change}
 use Rattle.target_decision.specs.declared.decision.Change.TheVariants as change
 use Rattle.target_decision.specs.declared.decision.Reply.{Reply}
@@ -25,7 +28,7 @@ use Rattle.target_decision.specs.declared.session.Session.{Session}
 use Rattle.target_decision.specs.declared.session.Session.TheVariants.{Opened, Initialized, Connected, Ended}
 use Rattle.target_decision.specs.Connect.{connect_on}
 use Rattle.target_decision.specs.Controller.{registers_at}
-use Rattle.target_decision.specs.Outcome.{Outcome, done, refuse, refused}
+use Rattle.target_decision.specs.Outcome.{Outcome, done, given, refuse, refused}
 use Rattle.target_decision.specs.Queue.{next_head, next_head_of}
 use Rattle.target_decision.specs.World.{World, admin_controller}
 
@@ -81,7 +84,7 @@ change_by cntlid effect.KeepAlive = change.KeepAlive (record { cntlid = cntlid; 
 change_by cntlid (effect.KeepAliveTimeout kato) = change.KeepAlive (record { cntlid = cntlid; kato = Some kato })
 
 abbrev pub admin_answered : ℕ → AdminOutcome → Outcome
-admin_answered cntlid (Ok s) = Ok (record { result = s.result; «data» = s.payload; change = change_by cntlid s.effect })
+admin_answered cntlid (Ok s) = given s.result s.payload (change_by cntlid s.effect)
 admin_answered cntlid (Err status) = refused status
 
 -- an admin command of a controller that is ready, or not
@@ -101,13 +104,31 @@ on_admin_queue w cntlid entry =
 
 -- ---- on an I/O queue
 
--- a second Connect is out of sequence, and no other Fabrics command is for an I/O queue; until disks are
--- built no I/O command is known
-abbrev pub on_io_queue : World → ℕ → List ℕ → Outcome
-on_io_queue w cntlid entry =
+-- an operation that is to be performed, or a status
+abbrev pub io_answered : Result Operation Status → Outcome
+io_answered (Ok op) = Ok (record { answer = answer.Performed op; change = change.Stay })
+io_answered (Err status) = refused status
+
+-- a command of a controller of this subsystem that was made through this port; a discovery controller has no I/O queue
+abbrev pub io_of : Option (List ℕ) → ℕ → World → List ℕ → ℕ → Outcome
+io_of None port w entry brings = refused command_sequence_error
+io_of (Some subsystem) port w entry brings = io_answered (io_decide w.config port subsystem entry brings)
+
+-- .. of one that is ready, or not
+abbrev pub io_by : Option Row → World → List ℕ → ℕ → Outcome
+io_by None w entry brings = refused command_sequence_error
+io_by (Some row) w entry brings = refuse (not row.ready) command_sequence_error (io_of row.subsystem row.port w entry brings)
+
+-- .. of the controller of this identifier
+abbrev pub io_at : World → ℕ → List ℕ → ℕ → Outcome
+io_at w cntlid entry brings = io_by (w.row cntlid) w entry brings
+
+-- a second Connect is out of sequence, and no other Fabrics command is for an I/O queue
+abbrev pub on_io_queue : World → ℕ → List ℕ → List ℕ → Outcome
+on_io_queue w cntlid entry bytes =
     if opcode_of entry == fabrics_opcode
     then (if fctype_of entry == connect_type then refused command_sequence_error else refused invalid_field)
-    else refuse (not (is_ready_at (w.row cntlid))) command_sequence_error (refused invalid_opcode)
+    else io_at w cntlid entry (length bytes)
 
 -- ---- on any connection
 
@@ -117,12 +138,12 @@ first_command w port entry bytes =
     if (opcode_of entry == fabrics_opcode) && (fctype_of entry == connect_type)
     then connect_on w port entry bytes else refused command_sequence_error
 
-abbrev pub queue_command : World → Role → List ℕ → Outcome
-queue_command w (Admin cntlid) entry = on_admin_queue w cntlid entry
-queue_command w (Io cntlid qid) entry = on_io_queue w cntlid entry
+abbrev pub queue_command : World → Role → List ℕ → List ℕ → Outcome
+queue_command w (Admin cntlid) entry bytes = on_admin_queue w cntlid entry
+queue_command w (Io cntlid qid) entry bytes = on_io_queue w cntlid entry bytes
 
 abbrev pub command_in : World → ℕ → Session → List ℕ → List ℕ → Outcome
-command_in w port (Connected role queue) entry bytes = queue_command w role entry
+command_in w port (Connected role queue) entry bytes = queue_command w role entry bytes
 command_in w port Opened entry bytes = first_command w port entry bytes
 command_in w port Initialized entry bytes = first_command w port entry bytes
 command_in w port Ended entry bytes = first_command w port entry bytes
@@ -146,7 +167,10 @@ head_after session (change.Configure s) = head_counted session
 head_after session (change.KeepAlive start) = head_counted session
 
 abbrev pub reply_of : Session → ℕ → Outcome → Reply
-reply_of session cid (Ok s) =
-    record { cid = cid; sqhd = head_after session s.change; status = success; result = s.result; «data» = s.«data»; change = s.change }
-reply_of session cid (Err r) =
-    record { cid = cid; sqhd = head_after session change.Stay; status = r.status; result = r.result; «data» = None; change = change.Stay }
+reply_of session cid (Ok s) = record { cid = cid; sqhd = head_after session s.change; answer = s.answer; change = s.change }
+reply_of session cid (Err r) = record {
+  cid = cid;
+  sqhd = head_after session change.Stay;
+  answer = answer.Given (record { status = r.status; result = r.result; «data» = None });
+  change = change.Stay;
+}

@@ -3,19 +3,26 @@ use Rattle.std.specs.Prelude.{ℕ, ◌*◌, nat_lt, not, ◌==◌, List, [], ◌
 use Rattle.admin_queue.specs.declared.payload.Payload.{Payload}
 use Rattle.admin_queue.specs.Controller.{AdminController}
 use Rattle.admin_queue.specs.Payload.{payload_bytes}
+use Rattle.io_queue.specs.declared.operation.Operation.{Operation}
+use Rattle.io_queue.specs.Act.{Medium}
+use Rattle.io_queue.specs.Execution.{Act, act_of, returned, status_by}
+use Rattle.io_queue.specs.Operation.{IsWithin, disk_of}
+use Rattle.io_queue.specs.Reply.{data_pdu}
 use Rattle.nvt_fields.specs.FatalErrorStatus.{fatal_code_of}
+use Rattle.nvt_fields.specs.declared.status.Status.{Status}
 use Rattle.nvt_fields.specs.declared.pdu_type.PduType.{PduType}
 use Rattle.nvt_fields.specs.declared.pdu_type.PduType.TheVariants.{IcReq, H2cTermReq, CapsuleCmd, H2cData}
 use Rattle.nvt_fields.specs.declared.termination.FatalErrorStatus.{FatalErrorStatus}
 use Rattle.nvt_fields.specs.declared.termination.FatalErrorStatus.TheVariants.{InvalidHeaderField, SequenceError, LimitExceeded, UnsupportedParameter}
 use Rattle.pdu_codec.specs.declared.initialize.IcReq as ic_req
-use Rattle.pdu_codec.specs.C2hData.{c2h_data}
 use Rattle.pdu_codec.specs.CapsuleResp.{capsule_resp}
 use Rattle.pdu_codec.specs.Initialize.{hpda_at, ic_req_of, ic_resp, pfv_at}
 use Rattle.pdu_codec.specs.Sqe.{cid_of, entry_in}
 use Rattle.pdu_codec.specs.TermReq.{c2h_term_req}
 use Rattle.pdu_cut.specs.Front.{Front, incomplete, whole, faulty}
 use Rattle.pdu_cut.specs.Pdu.{Pdu, header_part, data_part}
+use Rattle.target_decision.specs.declared.decision.Answer.{Answer}
+use Rattle.target_decision.specs.declared.decision.Answer.TheVariants as answer
 use Rattle.target_decision.specs.declared.decision.Decision.{Decision}
 use Rattle.target_decision.specs.declared.decision.Decision.TheVariants as decision
 use Rattle.target_decision.specs.declared.decision.Reply.{Reply}
@@ -90,28 +97,33 @@ payload_at w c None = None
 payload_at w None (Some payload) = None
 payload_at w (Some c) (Some payload) = Some (payload_bytes payload w.pages w.config c)
 
--- the data that a decision returns in a session: commands on admin queues alone return data
+abbrev pub payload_in : Answer → Option Payload
+payload_in (answer.Given g) = g.«data»
+payload_in (answer.Performed op) = None
+
+-- what a decision returns of its controller
+abbrev pub payload_of : Decision → Option Payload
+payload_of (decision.Reply r) = payload_in r.answer
+payload_of decision.Initialize = None
+payload_of (decision.Terminate t) = None
+payload_of decision.Close = None
+
+-- the bytes of it, in a session: commands on admin queues alone return any
 abbrev pub data_of : World → Session → Decision → Option (List ℕ)
-data_of w session (decision.Reply r) = payload_at w (admin_controller_in w session) r.«data»
-data_of w session decision.Initialize = None
-data_of w session (decision.Terminate t) = None
-data_of w session decision.Close = None
+data_of w session d = payload_at w (admin_controller_in w session) (payload_of d)
 
--- the data of a reply, whole in one PDU, where it has data
-abbrev pub data_pdu : ℕ → Option (List ℕ) → List ℕ
-data_pdu cid None = []
-data_pdu cid (Some payload) = c2h_data (record { cid = cid; offset = 0; last = true; hpda = 0; payload = payload })
+-- what a reply says
+pub record Said : Type 0 where
+  pub status : Status
+  pub result : ℕ
+  pub returned : Option (List ℕ)
 
-abbrev pub response_of : Reply → List ℕ
-response_of r = capsule_resp (record { result = r.result; sqhd = r.sqhd; cid = r.cid; status = r.status })
+abbrev pub response_of : Reply → Status → ℕ → List ℕ
+response_of r status result = capsule_resp (record { result = result; sqhd = r.sqhd; cid = r.cid; status = status })
 
--- The bytes that a decision sends: head is the header of the PDU that was decided on, or its first
--- bytes, and payload the data that the reply returns.
-abbrev pub wire_of : Decision → List ℕ → Option (List ℕ) → List ℕ
-wire_of decision.Initialize head payload = ic_resp (record { pfv = 0; cpda = 0; dgst = 0; maxh2cdata = 16384 })
-wire_of (decision.Reply r) head payload = data_pdu r.cid payload ++ response_of r
-wire_of (decision.Terminate t) head payload = c2h_term_req (fatal_code_of t.fes) t.fei head
-wire_of decision.Close head payload = []
+-- the data, where there are any, and then the response
+abbrev pub reply_wire : Reply → Said → List ℕ
+reply_wire r said = data_pdu r.cid said.returned ++ response_of r said.status said.result
 
 -- what a termination returns of the PDU in error: its header, or the 8 bytes that are faulty
 abbrev pub head_of : Front → List ℕ
@@ -119,9 +131,60 @@ head_of incomplete = []
 head_of (whole pdu) = header_part pdu
 head_of (faulty fault head) = head
 
--- the bytes that a decision sends in a session, on what stands at the front
-abbrev pub sent_by : World → Session → Decision → Front → List ℕ
-sent_by w session d front = wire_of d (head_of front) (data_of w session d)
+-- ---- what a decision does, where the disks held this and did that
+
+-- the data in the capsule at a front
+abbrev pub bytes_at : Front → List ℕ
+bytes_at (whole pdu) = data_part pdu
+bytes_at incomplete = []
+bytes_at (faulty fault head) = []
+
+-- what an answer says, with the data that it returns of its controller, where it returns any
+abbrev pub said_by : Answer → Option (List ℕ) → List ℕ → (ℕ → List (List ℕ)) → Medium → Said
+said_by (answer.Given g) payload bytes contents m = record { status = g.status; result = g.result; returned = payload }
+said_by (answer.Performed op) payload bytes contents m = record {
+  status = status_by op bytes (contents (disk_of op)) m;
+  result = 0;
+  returned = returned op (contents (disk_of op)) m;
+}
+
+-- the bytes that a decision sends on a front, with the data that it returns of its controller
+abbrev pub wire_of : Decision → Front → Option (List ℕ) → (ℕ → List (List ℕ)) → Medium → List ℕ
+wire_of decision.Initialize front payload contents m = ic_resp (record { pfv = 0; cpda = 0; dgst = 0; maxh2cdata = 16384 })
+wire_of (decision.Reply r) front payload contents m = reply_wire r (said_by r.answer payload (bytes_at front) contents m)
+wire_of (decision.Terminate t) front payload contents m = c2h_term_req (fatal_code_of t.fes) t.fei (head_of front)
+wire_of decision.Close front payload contents m = []
+
+-- .. in a session
+abbrev pub sent_by : World → (ℕ → List (List ℕ)) → Medium → Session → Decision → Front → List ℕ
+sent_by w contents m session d front = wire_of d front (data_of w session d) contents m
+
+abbrev pub operation_in : Answer → Option Operation
+operation_in (answer.Given g) = None
+operation_in (answer.Performed op) = Some op
+
+-- the operation that a decision is to perform
+abbrev pub operation_of : Decision → Option Operation
+operation_of (decision.Reply r) = operation_in r.answer
+operation_of decision.Initialize = None
+operation_of (decision.Terminate t) = None
+operation_of decision.Close = None
+
+abbrev pub act_in : Option Operation → List ℕ → Medium → Option Act
+act_in None bytes m = None
+act_in (Some op) bytes m = act_of op bytes m
+
+-- what a decision writes to a disk
+abbrev pub act_by : Decision → Front → Medium → Option Act
+act_by d front m = act_in (operation_of d) (bytes_at front) m
+
+abbrev pub WithinIn : List ℕ → Option Operation → List ℕ → Type 0
+WithinIn units None bytes = Unit {0}
+WithinIn units (Some op) bytes = IsWithin units (length bytes) op
+
+-- disks of these sizes have what a decision asks of them
+abbrev pub PerformsWithin : List ℕ → Decision → Front → Type 0
+PerformsWithin units d front = WithinIn units (operation_of d) (bytes_at front)
 
 -- ---- what else a step does with the front
 

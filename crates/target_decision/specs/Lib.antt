@@ -1,3 +1,4 @@
+pub mod Act
 pub mod Begin
 pub mod Capsule
 pub mod Connect

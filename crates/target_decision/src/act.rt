@@ -1,48 +1,70 @@
-//! What follows from a decision on its own connection: its PDUs are sent, and the session moves.
-ghost use Rattle.std.specs.Prelude.{◌≡◌, ◌≤◌, ◌++◌, IfOk, OnErr, OnOk, length};
+//! What follows from a decision on its own connection: an operation is performed on its disk, its PDUs
+//! are sent, and the session moves.
+ghost use Rattle.std.specs.Prelude.{◌≡◌, ◌<◌, ◌≤◌, ◌^◌, IfOk, OnErr, OnOk, length};
+ghost use Rattle.io_queue.specs.Execution.{sizes};
 ghost use Rattle.pdu_cut.specs.Cut.{front_shown};
 ghost use Rattle.pdu_cut.specs.Front.{whole};
 ghost use Rattle.fabrics_connect.specs.Row.{row_begun};
 ghost use Rattle.pdu_cut.specs.Pdu.{data_part};
 ghost use Rattle.target_decision.specs.Begin.{NamesIn, NamesWell, row_decided};
-ghost use Rattle.target_decision.specs.Decision.{consumed_of, entry_of, head_of, sent_by};
+ghost use Rattle.target_decision.specs.Act.{Does, room_of};
+ghost use Rattle.target_decision.specs.Decision.{PerformsWithin, consumed_of, data_of, entry_of, head_of};
 ghost use Rattle.target_decision.specs.Session.{session_after};
 ghost use Rattle.target_decision.specs.World.{world_in};
 
 use crate::data::{Data, len_in};
-use crate::decision::{Change, Decision};
+use crate::decision::{Answer, Change, Decision, Reply};
 use crate::session::Session;
-use crate::wire::{self, WIRE_MAX};
+use crate::wire::{self, WIRE_MAX, head_of};
 use crate::world::World;
+use block_store::{Disk, Store};
 use bytes::BytesMut;
 use fabrics_connect::{Connect, NewController, Row};
 use pdu_codec::Sqe;
 use pdu_cut::{Cut, PduView};
 use std::alloc::{AllocError, Global};
 
-/// Sends what the decision on this front owes in the session, and moves the session. All growth
-/// comes first: want of memory changes nothing.
-pub fn perform(
+/// Does what the decision on this front owes in the session: performs its operation, sends what it owes,
+/// and moves the session. All growth comes first: want of memory changes nothing.
+pub fn perform<D: Disk>(
     world: &World<'_>,
+    stores: &mut [Store<D>],
     session: &mut Session,
     output: &mut BytesMut,
     decision: &Decision,
     front: &Cut<'_>,
 ) -> Result<(), AllocError>
-    requires { length (head_of (front_shown front.now)) ≤ 128 }
+    requires head { length (head_of (front_shown front.now)) ≤ 128 }
+    requires within { PerformsWithin (sizes stores.old) decision.now (front_shown front.now) }
     ensures session { OnOk result (session.new ≡ session_after session.old decision.now) }
-    ensures output { let found = front_shown front.now in
-        let sent = sent_by (world_in world.now) session.old decision.now found in
-        OnOk result (output.new.items ≡ output.old.items ++ sent) }
-    ensures err { OnErr result
-        ((session.new ≡ session.old) × (output.new.items ≡ output.old.items)) }
+    ensures does { let payload = data_of (world_in world.now) session.old decision.now in
+        OnOk result (Does decision.now (front_shown front.now) payload stores.old stores.new
+        output.old.items output.new.items) }
+    ensures err { OnErr result ((session.new ≡ session.old) × (stores.new ≡ stores.old)
+        × (output.new.items ≡ output.old.items)) }
 {
-    let head = head_of(front);
     let data = Data::of(world, session, decision);
-    output.reserve(WIRE_MAX + head.len() + len_in(&data))?;
-    wire::write(output, decision, head, &data);
+    let returned = len_in(&data) + room_of(decision);
+    output.reserve(WIRE_MAX + head_of(front).len() + returned)?;
+    wire::write(output, stores, decision, front, &data);
     session.turn(decision);
     Ok(())
+}
+
+// How many bytes a decision may send of what it reads.
+fn room_of(decision: &Decision) -> usize
+    requires { room_of decision.now < 2 ^ 16 }
+    ensures { result ≡ room_of decision.now }
+{
+    match decision {
+        Decision::Reply(
+            Reply {
+                answer: Answer::Performed(operation),
+                ..
+            },
+        ) => operation.room(),
+        _ => 0,
+    }
 }
 
 /// The row of the controller that a decision on this front, on this port, begins, where it begins
@@ -90,16 +112,5 @@ pub fn consumed_of(front: &Cut<'_>) -> usize
     match front {
         Cut::Pdu(pdu) => pdu.plen() as usize,
         Cut::More | Cut::Fault { .. } => 0,
-    }
-}
-
-// What a termination returns of the PDU in error: its header, or the bytes that are faulty.
-fn head_of<'a>(front: &Cut<'a>) -> &'a [u8]
-    ensures { result.now ≡ head_of (front_shown front.now) }
-{
-    match front {
-        Cut::More => &[],
-        Cut::Pdu(pdu) => pdu.header(),
-        Cut::Fault { head, .. } => head,
     }
 }

@@ -3,7 +3,7 @@ ghost use Rattle.std.specs.Prelude.{◌≡◌};
 ghost use Rattle.target_decision.specs.Capsule.{admin_answered, admin_at, change_by};
 ghost use Rattle.target_decision.specs.World.{world_in};
 
-use crate::capsule::{Outcome, Success, is_ready, refused};
+use crate::capsule::{Outcome, given, is_ready, refused};
 use crate::decision::{Change, TimerStart};
 use crate::world::World;
 use admin_queue::{Effect, admin};
@@ -27,11 +27,11 @@ fn answered(cntlid: u16, outcome: admin_queue::Outcome) -> Outcome
     ensures { result ≡ admin_answered cntlid outcome }
 {
     match outcome {
-        Ok(success) => Ok(Success {
-            result: success.result,
-            data: success.payload,
-            change: change_by(cntlid, &success.effect),
-        }),
+        Ok(success) => given(
+            success.result,
+            success.payload,
+            change_by(cntlid, &success.effect),
+        ),
         Err(status) => refused(status),
     }
 }

@@ -5,15 +5,15 @@ ghost use Rattle.target_decision.specs.Capsule.{command, first_command, queue_co
 ghost use Rattle.target_decision.specs.Capsule.{is_ready_at, on_admin_queue, on_io_queue};
 ghost use Rattle.target_decision.specs.Capsule.{head_after, reply_of};
 ghost use Rattle.target_decision.specs.Decision.{capsule};
-ghost use Rattle.target_decision.specs.Outcome.{done, refused};
+ghost use Rattle.target_decision.specs.Outcome.{done, given, refused};
 ghost use Rattle.target_decision.specs.World.{world_in};
 
-use crate::decision::{Change, Decision, Reply, terminate};
+use crate::decision::{Answer, Change, Decision, Given, Reply, terminate};
 use crate::fabrics::{CONNECT, FABRICS};
 use crate::queue::next_head;
 use crate::session::{Conversation, Role, Session};
 use crate::world::World;
-use crate::{admin, connect, fabrics};
+use crate::{admin, connect, fabrics, io};
 use admin_queue::Payload;
 use fabrics_connect::Row;
 use nvt_fields::{FatalErrorStatus, PduType, Status};
@@ -23,14 +23,13 @@ use pdu_cut::PduView;
 /// The most bytes of data that a capsule may bring.
 const IN_CAPSULE_MAX: usize = 8_192;
 
-/// A command's outcome: its result, what data it returns and what it changes, or its refusal.
+/// A command's outcome: what it is answered and what it changes, or its refusal.
 pub(crate) type Outcome = Result<Success, Refusal>;
 
-/// What a command that succeeds gives.
+/// What a command that is not refused gives.
 #[derive(Clone, Copy)]
 pub(crate) struct Success {
-    pub result: u64,
-    pub data: Option<Payload>,
+    pub answer: Answer,
     pub change: Change,
 }
 
@@ -63,7 +62,7 @@ fn command(world: &World<'_>, v: &Conversation, sqe: &Sqe<'_>, payload: &[u8]) -
         return refused(Status::INVALID_FIELD);
     }
     match v.session {
-        Session::Connected { role, .. } => on_queue(world, role, sqe),
+        Session::Connected { role, .. } => on_queue(world, role, sqe, payload),
         _ => before_connect(world, v.port, sqe, payload),
     }
 }
@@ -78,12 +77,12 @@ fn before_connect(world: &World<'_>, port: u16, sqe: &Sqe<'_>, payload: &[u8]) -
     }
 }
 
-fn on_queue(world: &World<'_>, role: Role, sqe: &Sqe<'_>) -> Outcome
-    ensures { result ≡ queue_command (world_in world.now) role sqe.now.entry.now }
+fn on_queue(world: &World<'_>, role: Role, sqe: &Sqe<'_>, payload: &[u8]) -> Outcome
+    ensures { result ≡ queue_command (world_in world.now) role sqe.now.entry.now payload.now }
 {
     match role {
         Role::Admin { cntlid } => on_admin_queue(world, cntlid, sqe),
-        Role::Io { cntlid, .. } => on_io_queue(world, cntlid, sqe),
+        Role::Io { cntlid, .. } => on_io_queue(world, cntlid, sqe, payload),
     }
 }
 
@@ -97,9 +96,8 @@ fn on_admin_queue(world: &World<'_>, cntlid: u16, sqe: &Sqe<'_>) -> Outcome
     }
 }
 
-// Until disks are built, no I/O command is known.
-fn on_io_queue(world: &World<'_>, cntlid: u16, sqe: &Sqe<'_>) -> Outcome
-    ensures { result ≡ on_io_queue (world_in world.now) cntlid sqe.now.entry.now }
+fn on_io_queue(world: &World<'_>, cntlid: u16, sqe: &Sqe<'_>, payload: &[u8]) -> Outcome
+    ensures { result ≡ on_io_queue (world_in world.now) cntlid sqe.now.entry.now payload.now }
 {
     if sqe.opcode() == FABRICS {
         return match sqe.fctype() {
@@ -107,11 +105,7 @@ fn on_io_queue(world: &World<'_>, cntlid: u16, sqe: &Sqe<'_>) -> Outcome
             _ => refused(Status::INVALID_FIELD),
         };
     }
-    if is_ready(world.rows.get(cntlid)) {
-        refused(Status::INVALID_OPCODE)
-    } else {
-        refused(Status::COMMAND_SEQUENCE_ERROR)
-    }
+    io::command(world, cntlid, sqe, payload.len() as u64)
 }
 
 pub(crate) fn is_ready(row: Option<&Row>) -> bool
@@ -130,17 +124,17 @@ fn reply(session: &Session, cid: u16, outcome: Outcome) -> Reply
         Ok(success) => Reply {
             cid,
             sqhd: head_after(session, &success.change),
-            status: Status::SUCCESS,
-            result: success.result,
-            data: success.data,
+            answer: success.answer,
             change: success.change,
         },
         Err(refusal) => Reply {
             cid,
             sqhd: head_after(session, &Change::Stay),
-            status: refusal.status,
-            result: refusal.result,
-            data: None,
+            answer: Answer::Given(Given {
+                status: refusal.status,
+                result: refusal.result,
+                data: None,
+            }),
             change: Change::Stay,
         },
     }
@@ -167,9 +161,19 @@ pub(crate) fn refused(status: Status) -> Outcome
 pub(crate) fn done(value: u64, change: Change) -> Outcome
     ensures { result ≡ done value change }
 {
+    given(value, None, change)
+}
+
+/// What succeeds with this result and this data.
+pub(crate) fn given(value: u64, payload: Option<Payload>, change: Change) -> Outcome
+    ensures { result ≡ given value payload change }
+{
     Ok(Success {
-        result: value,
-        data: None,
+        answer: Answer::Given(Given {
+            status: Status::SUCCESS,
+            result: value,
+            data: payload,
+        }),
         change,
     })
 }

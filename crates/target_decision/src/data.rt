@@ -2,10 +2,10 @@
 ghost use Rattle.std.specs.Prelude.{◌≡◌, ◌<◌, ◌≤◌, ◌^◌, length};
 ghost use Rattle.admin_queue.specs.Payload.{payload_len};
 ghost use Rattle.target_decision.specs.Data.{bytes_in, bytes_of, len_in};
-ghost use Rattle.target_decision.specs.Decision.{data_of};
+ghost use Rattle.target_decision.specs.Decision.{data_of, payload_of};
 ghost use Rattle.target_decision.specs.World.{world_in};
 
-use crate::decision::Decision;
+use crate::decision::{Answer, Decision, Reply};
 use crate::session::{Role, Session};
 use crate::world::World;
 use admin_queue::{AdminController, Payload};
@@ -27,10 +27,7 @@ impl<'a> Data<'a> {
     ) -> Option<Data<'a>>
         ensures { bytes_in result ≡ data_of (world_in world.now) session.now decision.now }
     {
-        let Decision::Reply(reply) = decision else {
-            return None;
-        };
-        let payload = reply.data?;
+        let payload = payload_of(decision)?;
         let controller = world.admin_controller_in(session)?;
         Some(Data {
             world,
@@ -55,6 +52,21 @@ impl<'a> Data<'a> {
         let world = self.world;
         self.payload
             .write(world.pages, world.config, &self.controller, out);
+    }
+}
+
+// What a decision returns of its controller.
+fn payload_of(decision: &Decision) -> Option<Payload>
+    ensures { result ≡ payload_of decision.now }
+{
+    match decision {
+        Decision::Reply(
+            Reply {
+                answer: Answer::Given(given),
+                ..
+            },
+        ) => given.data,
+        _ => None,
     }
 }
 

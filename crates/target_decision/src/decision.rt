@@ -3,7 +3,7 @@ ghost use Rattle.std.specs.Prelude.{◌≡◌};
 ghost use Rattle.pdu_cut.specs.Cut.{front_shown};
 ghost use Rattle.target_decision.specs.Begin.{BeginsFree, NamesWell};
 ghost use Rattle.target_decision.specs.Decision.{decide, decide_pdu, first_by, initialize};
-ghost use Rattle.target_decision.specs.Decision.{is_end, next_by, terminate};
+ghost use Rattle.target_decision.specs.Decision.{PerformsWithin, is_end, next_by, terminate};
 ghost use Rattle.target_decision.specs.World.{world_in};
 
 use crate::capsule;
@@ -11,6 +11,7 @@ use crate::session::{Conversation, Session};
 use crate::world::World;
 use admin_queue::Payload;
 use fabrics_connect::NewController;
+use io_queue::Operation;
 use nvt_fields::{FatalErrorStatus, PduType, Status};
 use pdu_codec::{IcReq, Property};
 use pdu_cut::{Cut, PduView};
@@ -54,10 +55,24 @@ pub struct Reply {
     pub cid: u16,
     /// Submission queue head.
     pub sqhd: u16,
+    pub answer: Answer,
+    pub change: Change,
+}
+
+/// What a reply says.
+#[derive(Clone, Copy)]
+pub enum Answer {
+    Given(Given),
+    /// An operation is performed on its disk, and answered as that goes.
+    Performed(Operation),
+}
+
+/// An answer that is known when it is decided.
+#[derive(Clone, Copy)]
+pub struct Given {
     pub status: Status,
     pub result: u64,
     pub data: Option<Payload>,
-    pub change: Change,
 }
 
 /// What a reply changes beside the count of responses.
@@ -117,7 +132,11 @@ pub fn decide(world: &World<'_>, v: &Conversation, front: &Cut<'_>) -> Decision
     ensures decision { result ≡ decide (world_in world.now) v.now (front_shown front.now) }
     ensures begins { BeginsFree (world_in world.now).row result }
     ensures named { NamesWell result (front_shown front.now) }
+    ensures within { let units = (world_in world.now).config.units in
+        PerformsWithin units result (front_shown front.now) }
 {
+    // A configuration says that it is valid where it lends a list.
+    world.config.namespaces();
     decide_front(world, v, front)
 }
 

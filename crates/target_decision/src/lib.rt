@@ -13,6 +13,7 @@ mod controller;
 mod data;
 mod decision;
 mod fabrics;
+mod io;
 mod queue;
 mod session;
 mod wire;
@@ -21,7 +22,8 @@ mod world;
 pub use act::{consumed_of, new_row, perform};
 pub use controller::Controller;
 pub use decision::{
-    Beginning, Change, Decision, Joining, Reply, Setting, Termination, TimerStart, decide,
+    Answer, Beginning, Change, Decision, Given, Joining, Reply, Setting, Termination, TimerStart,
+    decide,
 };
 pub use queue::Queue;
 pub use session::{Conversation, Role, Session};

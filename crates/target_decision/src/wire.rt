@@ -2,15 +2,23 @@
 ghost use Rattle.std.specs.Prelude.{◌≡◌, ◌+◌, ◌≤◌, ◌++◌, Some, length};
 ghost use Rattle.admin_queue.specs.Payload.{payload_len};
 ghost use Rattle.target_decision.specs.Data.{bytes_in, bytes_of, len_in};
-ghost use Rattle.target_decision.specs.Decision.{data_pdu, response_of, wire_of};
+ghost use Rattle.io_queue.specs.Execution.{sizes};
+ghost use Rattle.io_queue.specs.Reply.{data_pdu};
+ghost use Rattle.pdu_cut.specs.Cut.{front_shown};
+ghost use Rattle.target_decision.specs.Act.{Does, room_in, room_of};
+ghost use Rattle.target_decision.specs.Decision.{PerformsWithin, WithinIn, bytes_at, head_of, operation_in, response_of};
 ghost use Rattle.nvt_fields.specs.FatalErrorStatus.{fatal_code_of};
 ghost use Rattle.pdu_codec.specs.Initialize.{ic_resp};
 ghost use Rattle.pdu_codec.specs.TermReq.{c2h_term_req};
 
 use crate::data::Data;
-use crate::decision::{Decision, Reply, Termination};
+use crate::decision::{Answer, Decision, Reply, Termination};
+use block_store::{Disk, Store};
 use bytes::BytesMut;
+use io_queue::perform;
+use nvt_fields::Status;
 use pdu_codec::{C2hHead, CapsuleResp, IcResp, TermReq};
+use pdu_cut::Cut;
 
 /// The most data bytes that the target takes in one H2CData.
 const MAX_H2C_DATA: u32 = 16_384;
@@ -18,26 +26,54 @@ const MAX_H2C_DATA: u32 = 16_384;
 /// The most bytes that a decision sends beside its data and the header in error: an ICResp's.
 pub(crate) const WIRE_MAX: usize = 128;
 
-/// Appends the PDUs of a decision. `head` is the header of the PDU decided on, or its first bytes.
-pub(crate) fn write(
+/// Performs the operation of a decision on this front, and appends its PDUs, with the data that it
+/// returns of its controller.
+pub(crate) fn write<D: Disk>(
     output: &mut BytesMut,
+    stores: &mut [Store<D>],
     decision: &Decision,
-    head: &[u8],
+    front: &Cut<'_>,
     returned: &Option<Data<'_>>,
 )
-    requires room { WIRE_MAX + length head.now + len_in returned.now ≤ output.old.spare }
-    requires head { length head.now ≤ 128 }
-    ensures { output.new.items
-        ≡ output.old.items ++ wire_of decision.now head.now (bytes_in returned.now) }
+    requires room { let head = head_of (front_shown front.now) in
+        WIRE_MAX + length head + len_in returned.now + room_of decision.now ≤ output.old.spare }
+    requires head { length (head_of (front_shown front.now)) ≤ 128 }
+    requires within { PerformsWithin (sizes stores.old) decision.now (front_shown front.now) }
+    ensures { Does decision.now (front_shown front.now) (bytes_in returned.now)
+        stores.old stores.new output.old.items output.new.items }
 {
     match decision {
         Decision::Initialize => write_initialized(output),
-        Decision::Reply(reply) => {
-            write_data(output, reply.cid, returned);
-            write_response(output, reply);
+        Decision::Reply(reply) => write_reply(output, stores, reply, front, returned),
+        Decision::Terminate(termination) => {
+            write_termination(output, termination, head_of(front));
         }
-        Decision::Terminate(termination) => write_termination(output, termination, head),
         Decision::Close => {}
+    }
+}
+
+fn write_reply<D: Disk>(
+    output: &mut BytesMut,
+    stores: &mut [Store<D>],
+    reply: &Reply,
+    front: &Cut<'_>,
+    returned: &Option<Data<'_>>,
+)
+    requires room { 48 + len_in returned.now + room_in (operation_in reply.now.answer) ≤ output.old.spare }
+    requires within { let bytes = bytes_at (front_shown front.now) in
+        WithinIn (sizes stores.old) (operation_in reply.now.answer) bytes }
+    ensures { Does (Decision.Reply reply.now) (front_shown front.now) (bytes_in returned.now)
+        stores.old stores.new output.old.items output.new.items }
+{
+    match &reply.answer {
+        Answer::Given(given) => {
+            write_data(output, reply.cid, returned);
+            write_response(output, reply, given.status, given.result);
+        }
+        Answer::Performed(operation) => {
+            let status = perform(stores, operation, bytes_at(front), reply.cid, output);
+            write_response(output, reply, status, 0);
+        }
     }
 }
 
@@ -84,15 +120,15 @@ fn write_payload(output: &mut BytesMut, cid: u16, payload: &Data<'_>)
     payload.write(&mut output.as_mut_slice()[start..]);
 }
 
-fn write_response(output: &mut BytesMut, reply: &Reply)
+fn write_response(output: &mut BytesMut, reply: &Reply, status: Status, value: u64)
     requires { 24 ≤ output.old.spare }
-    ensures { output.new.items ≡ output.old.items ++ response_of reply.now }
+    ensures { output.new.items ≡ output.old.items ++ response_of reply.now status value }
 {
     let response = CapsuleResp {
-        result: reply.result,
+        result: value,
         sqhd: reply.sqhd,
         cid: reply.cid,
-        status: reply.status,
+        status,
     };
     response.write(output).unwrap();
 }
@@ -104,4 +140,25 @@ fn write_termination(output: &mut BytesMut, termination: &Termination, head: &[u
         ++ c2h_term_req (fatal_code_of termination.now.fes) termination.now.fei head.now }
 {
     TermReq::write_c2h(output, termination.fes, termination.fei, head).unwrap();
+}
+
+// What a termination returns of the PDU in error: its header, or the bytes that are faulty.
+pub(crate) fn head_of<'a>(front: &Cut<'a>) -> &'a [u8]
+    ensures { result.now ≡ head_of (front_shown front.now) }
+{
+    match front {
+        Cut::More => &[],
+        Cut::Pdu(pdu) => pdu.header(),
+        Cut::Fault { head, .. } => head,
+    }
+}
+
+// The data in the capsule at a front.
+fn bytes_at<'a>(front: &Cut<'a>) -> &'a [u8]
+    ensures { result.now ≡ bytes_at (front_shown front.now) }
+{
+    match front {
+        Cut::Pdu(pdu) => pdu.data(),
+        Cut::More | Cut::Fault { .. } => &[],
+    }
 }

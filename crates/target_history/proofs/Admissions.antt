@@ -38,7 +38,10 @@ use Rattle.target_decision.specs.declared.session.Role.{Role}
 use Rattle.target_decision.specs.declared.session.Role.TheVariants.{Admin, Io}
 use Rattle.target_decision.specs.declared.session.Session.{Session}
 use Rattle.target_decision.specs.declared.session.Session.TheVariants.{Opened, Initialized, Connected, Ended}
-use Rattle.target_decision.specs.Capsule.{admin_answered, admin_by, change_by, command, command_in, fabrics_command, first_command, given_by, queue_command, reply_of, set_by}
+use Rattle.io_queue.specs.declared.operation.Operation.{Operation}
+use Rattle.io_queue.specs.Decision.{decide as io_decide}
+use Rattle.nvt_fields.specs.declared.status.Status.{Status}
+use Rattle.target_decision.specs.Capsule.{admin_answered, admin_by, change_by, command, command_in, fabrics_command, first_command, given_by, io_answered, io_by, io_of, queue_command, reply_of, set_by}
 use Rattle.target_decision.specs.Connect.{answered, connect_on}
 use Rattle.target_decision.specs.Decision.{decide, decide_in, entry_of, first_by, next_by, terminate}
 use Rattle.target_decision.specs.Outcome.{Outcome}
@@ -144,15 +147,29 @@ admin_admits : (row : ℕ → Option Row) (role : Option Role) (port : ℕ) (rea
 admin_admits row role port ready None w cntlid entry = tt
 admin_admits row role port ready (Some c) w cntlid entry = search (either_admits, outcome_admits)
 
-queue_admits : (row : ℕ → Option Row) (now : Option Role) (port : ℕ) (w : World) (role : Role) (entry : List ℕ)
-    → AdmitsIn row now port (queue_command w role entry)
-queue_admits row now port w (Admin cntlid) entry = search (either_admits, fabrics_admits, admin_admits)
-queue_admits row now port w (Io cntlid qid) entry = search (either_admits)
+operation_admits : (row : ℕ → Option Row) (role : Option Role) (port : ℕ) (r : Result Operation Status) → AdmitsIn row role port (io_answered r)
+operation_admits row role port (Ok op) = tt
+operation_admits row role port (Err status) = tt
+
+io_of_admits : (row : ℕ → Option Row) (role : Option Role) (port : ℕ) (subsystem : Option (List ℕ)) (id : ℕ) (w : World) (entry : List ℕ) (brings : ℕ)
+    → AdmitsIn row role port (io_of subsystem id w entry brings)
+io_of_admits row role port None id w entry brings = tt
+io_of_admits row role port (Some nqn) id w entry brings = operation_admits row role port (io_decide w.config id nqn entry brings)
+
+io_admits : (row : ℕ → Option Row) (role : Option Role) (port : ℕ) (o : Option Row) (w : World) (entry : List ℕ) (brings : ℕ)
+    → AdmitsIn row role port (io_by o w entry brings)
+io_admits row role port None w entry brings = tt
+io_admits row role port (Some r) w entry brings = search (either_admits, io_of_admits)
+
+queue_admits : (row : ℕ → Option Row) (now : Option Role) (port : ℕ) (w : World) (role : Role) (entry bytes : List ℕ)
+    → AdmitsIn row now port (queue_command w role entry bytes)
+queue_admits row now port w (Admin cntlid) entry bytes = search (either_admits, fabrics_admits, admin_admits)
+queue_admits row now port w (Io cntlid qid) entry bytes = search (either_admits, io_admits)
 
 in_admits : (w : World) (port : ℕ) (s : Session) (entry bytes : List ℕ) → AdmitsIn w.row (role_in s) port (command_in w port s entry bytes)
 in_admits w port Opened entry bytes = first_admits w port entry bytes
 in_admits w port Initialized entry bytes = first_admits w port entry bytes
-in_admits w port (Connected role q) entry bytes = queue_admits w.row (Some role) port w role entry
+in_admits w port (Connected role q) entry bytes = queue_admits w.row (Some role) port w role entry bytes
 in_admits w port Ended entry bytes = first_admits w port entry bytes
 
 command_admits : (w : World) (v : Conversation) (entry bytes : List ℕ) → AdmitsIn w.row (role_in v.session) v.port (command w v entry bytes)

@@ -7,16 +7,20 @@ use Rattle.admin_queue.proofs.Asking.{answered_alike}
 use Rattle.fabrics_connect.specs.declared.decision.AdmitAs.TheVariants as admit
 use Rattle.fabrics_connect.specs.declared.decision.Decision as connect_decision
 use Rattle.fabrics_connect.specs.declared.decision.Decision.TheVariants.{Admit, Deny}
+use Rattle.fabrics_connect.specs.declared.row.Row.{Row}
 use Rattle.fabrics_connect.specs.Command.{Parameters, parameters_of}
 use Rattle.fabrics_connect.specs.Connect.{admitted, begun, connect, joined_by, names_verdict, permission_verdict}
+use Rattle.io_queue.specs.Act.{Medium}
+use Rattle.io_queue.proofs.Deciding.{decided_alike}
 use Rattle.nvt_fields.specs.declared.pdu_type.PduType.{PduType}
 use Rattle.nvt_fields.specs.declared.pdu_type.PduType.TheVariants.{IcReq, IcResp, H2cTermReq, C2hTermReq, CapsuleCmd, CapsuleResp, H2cData, C2hData, R2t}
-use Rattle.nvt_fields.specs.declared.termination.FatalErrorStatus.TheVariants.{InvalidHeaderField, LimitExceeded, UnsupportedParameter}
 use Rattle.nvt_fields.specs.Status.{command_sequence_error}
 use Rattle.pdu_codec.specs.Initialize.{ic_req_of}
 use Rattle.pdu_codec.specs.Sqe.{cid_of, fctype_of, opcode_of}
 use Rattle.pdu_cut.specs.Front.{Front, incomplete, whole, faulty}
 use Rattle.pdu_cut.specs.Pdu.{Pdu, data_part, header_part}
+use Rattle.target_decision.specs.declared.decision.Answer.{Answer}
+use Rattle.target_decision.specs.declared.decision.Answer.TheVariants as answer
 use Rattle.target_decision.specs.declared.decision.Decision.{Decision}
 use Rattle.target_decision.specs.declared.decision.Decision.TheVariants as decision
 use Rattle.target_decision.specs.declared.queue.Queue.{Queue}
@@ -25,16 +29,16 @@ use Rattle.target_decision.specs.declared.session.Role.{Role}
 use Rattle.target_decision.specs.declared.session.Role.TheVariants.{Admin, Io}
 use Rattle.target_decision.specs.declared.session.Session.{Session}
 use Rattle.target_decision.specs.declared.session.Session.TheVariants.{Opened, Initialized, Connected, Ended}
-use Rattle.target_decision.specs.Capsule.{admin_at, admin_by, command, command_in, connect_type, fabrics_opcode, first_command, is_ready_at, on_admin_queue, on_io_queue, queue_command, reply_of}
+use Rattle.target_decision.specs.Capsule.{admin_at, admin_by, command_in, connect_type, fabrics_opcode, first_command, io_answered, io_at, io_by, io_of, is_ready_at, on_admin_queue, queue_command}
 use Rattle.target_decision.specs.Connect.{answered, connect_on}
-use Rattle.target_decision.specs.Decision.{data_of, decide, decide_in, entry_of, first_by, head_of, next_by, payload_at, sent_by, terminate, wire_of}
-use Rattle.target_decision.specs.Outcome.{Outcome, refused}
+use Rattle.target_decision.specs.Decision.{bytes_at, data_of, decide, decide_in, entry_of, next_by, operation_in, operation_of, payload_at, payload_of, reply_wire, said_by, sent_by, wire_of}
+use Rattle.target_decision.specs.Outcome.{Outcome, refuse, refused}
 use Rattle.target_decision.specs.Session.{is_ended}
-use Rattle.target_decision.specs.World.{World, admin_controller, admin_controller_in}
-use Rattle.target_history.specs.Event.{Event, front_in, gives_up, opens, steps}
+use Rattle.target_decision.specs.World.{World, admin_controller}
+use Rattle.target_history.specs.Event.{Event, front_in, gives_up, medium_in, opens, steps}
 use Rattle.target_history.specs.Happening.{Happening, decided_on, sends, sends_on}
 use Rattle.target_history.specs.History.{sent}
-use Rattle.target_history.specs.Laws.{AdminAlike, AreToldAlike, ConnectAlike, HappenedAlike, RoleAlike, SameFor, SentByOwnAlone, SessionAlike, WorldAlike, is_command, is_of, own}
+use Rattle.target_history.specs.Laws.{AdminAlike, AreSeenAlike, AreToldAlike, ConnectAlike, DiskAlike, HappenedAlike, IoAlike, IoSeen, RoleAlike, SameFor, SentByOwnAlone, SessionAlike, SubsystemAlike, WorldAlike, io_seen, is_command, is_of, operation_decided, own}
 
 -- ---- a Connect
 
@@ -90,9 +94,36 @@ on_admin_alike : (v w : World) (cntlid : ℕ) (entry : List ℕ) → AdminAlike 
     → on_admin_queue v cntlid entry ≡ on_admin_queue w cntlid entry
 on_admin_alike v w cntlid entry h = rw (h.registers, admin_alike v w cntlid entry h) refl
 
-queue_alike : (v w : World) (role : Role) (entry : List ℕ) → RoleAlike v w role → queue_command v role entry ≡ queue_command w role entry
-queue_alike v w (Admin cntlid) entry h = on_admin_alike v w cntlid entry h
-queue_alike v w (Io cntlid qid) entry h = rw h refl
+-- an I/O command, by what it sees of its controller
+abbrev io_from : Option IoSeen → World → List ℕ → ℕ → Outcome
+io_from None w entry brings = refused command_sequence_error
+io_from (Some s) w entry brings = refuse (not s.ready) command_sequence_error (io_of s.subsystem s.port w entry brings)
+
+io_is_from : (row : Option Row) (w : World) (entry : List ℕ) (brings : ℕ) → io_by row w entry brings ≡ io_from (io_seen row) w entry brings
+io_is_from None w entry brings = refl
+io_is_from (Some row) w entry brings = refl
+
+of_alike : (subsystem : Option (List ℕ)) (port : ℕ) (v w : World) (entry : List ℕ) (brings : ℕ) → SubsystemAlike subsystem port v w
+    → io_of subsystem port v entry brings ≡ io_of subsystem port w entry brings
+of_alike None port v w entry brings h = refl
+of_alike (Some nqn) port v w entry brings h = ap io_answered (decided_alike v.config w.config port nqn entry brings h)
+
+seen_alike : (o : Option IoSeen) (v w : World) (entry : List ℕ) (brings : ℕ) → AreSeenAlike o v w → io_from o v entry brings ≡ io_from o w entry brings
+seen_alike None v w entry brings h = refl
+seen_alike (Some s) v w entry brings h =
+    ap (refuse (not s.ready) command_sequence_error) (of_alike s.subsystem s.port v w entry brings h)
+
+io_alike : (v w : World) (cntlid : ℕ) (entry : List ℕ) (brings : ℕ) → IoAlike v w cntlid → io_at v cntlid entry brings ≡ io_at w cntlid entry brings
+io_alike v w cntlid entry brings h =
+    io_is_from (v.row cntlid) v entry brings
+    ∙ seen_alike (io_seen (v.row cntlid)) v w entry brings h.seen
+    ∙ ap (λ (o : Option IoSeen). io_from o w entry brings) h.controller
+    ∙ sym (io_is_from (w.row cntlid) w entry brings)
+
+queue_alike : (v w : World) (role : Role) (entry bytes : List ℕ) → RoleAlike v w role
+    → queue_command v role entry bytes ≡ queue_command w role entry bytes
+queue_alike v w (Admin cntlid) entry bytes h = on_admin_alike v w cntlid entry h
+queue_alike v w (Io cntlid qid) entry bytes h = rw (io_alike v w cntlid entry (length bytes) h) refl
 
 -- ---- what is decided
 
@@ -124,101 +155,13 @@ pdu_alike v w port Initialized pdu h =
     next_alike pdu.kind v w (on_port port Initialized) pdu
     (λ is. first_alike v w port entry (data_part pdu) (λ (c : connects ≡ true). h (both (is_command pdu.kind) connects is c)))
 pdu_alike v w port (Connected role queue) pdu h =
-    next_alike pdu.kind v w (on_port port (Connected role queue)) pdu (λ is. queue_alike v w role (entry_of pdu) h)
+    next_alike pdu.kind v w (on_port port (Connected role queue)) pdu (λ is. queue_alike v w role (entry_of pdu) (data_part pdu) h)
 pdu_alike v w port Ended pdu h = refl
 
 decide_alike : (v w : World) (c : Conversation) (front : Front) → SessionAlike v w c.port front c.session → decide v c front ≡ decide w c front
 decide_alike v w c incomplete h = refl
 decide_alike v w c (whole pdu) h = pdu_alike v w c.port c.session pdu h
 decide_alike v w c (faulty fault head) h = refl
-
--- ---- what returns no data: all but the commands on an admin queue
-
-abbrev NoDataIn : Outcome → Type 0
-NoDataIn (Ok success) = success.«data» ≡ None
-NoDataIn (Err refusal) = Unit {0}
-
-abbrev HasNoData : Decision → Type 0
-HasNoData (decision.Reply r) = r.«data» ≡ None
-HasNoData decision.Initialize = Unit {0}
-HasNoData (decision.Terminate t) = Unit {0}
-HasNoData decision.Close = Unit {0}
-
-either_none : (test : Bool) (o p : Outcome) → NoDataIn o → NoDataIn p → NoDataIn (if test then o else p)
-either_none true o p h k = h
-either_none false o p h k = k
-
-connect_none : (d : connect_decision.Decision) (entry : List ℕ) → NoDataIn (answered d entry)
-connect_none (Deny status result) entry = tt
-connect_none (Admit (admit.Queue cntlid qid)) entry = refl
-connect_none (Admit (admit.Controller new)) entry = refl
-
-first_none : (w : World) (port : ℕ) (entry bytes : List ℕ) → NoDataIn (first_command w port entry bytes)
-first_none w port entry bytes = search (either_none, connect_none)
-
-io_none : (w : World) (cntlid : ℕ) (entry : List ℕ) → NoDataIn (on_io_queue w cntlid entry)
-io_none w cntlid entry = search (either_none)
-
-reply_none : (s : Session) (cid : ℕ) (o : Outcome) → NoDataIn o → HasNoData (decision.Reply (reply_of s cid o))
-reply_none s cid (Ok success) h = h
-reply_none s cid (Err refusal) h = refl
-
-next_none : (kind : PduType) (w : World) (c : Conversation) (pdu : Pdu) → NoDataIn (command_in w c.port c.session (entry_of pdu) (data_part pdu))
-    → HasNoData (next_by kind w c pdu)
-next_none CapsuleCmd w c pdu h = by (nat_lt 8192 (length (data_part pdu))) where
-  o : Outcome
-  o = command w c (entry_of pdu) (data_part pdu)
-
-  none : NoDataIn o
-  none = search (either_none)
-
-  by : (long : Bool) → HasNoData (if long then terminate LimitExceeded 0 else decision.Reply (reply_of c.session (cid_of (entry_of pdu)) o))
-  by true = tt
-  by false = reply_none c.session (cid_of (entry_of pdu)) o none
-next_none IcReq w c pdu h = tt
-next_none IcResp w c pdu h = tt
-next_none H2cTermReq w c pdu h = tt
-next_none C2hTermReq w c pdu h = tt
-next_none CapsuleResp w c pdu h = tt
-next_none H2cData w c pdu h = tt
-next_none C2hData w c pdu h = tt
-next_none R2t w c pdu h = tt
-
-initialized_none : (w : World) (port : ℕ) (front : Front) → HasNoData (decide w (on_port port Initialized) front)
-initialized_none w port incomplete = tt
-initialized_none w port (whole pdu) = next_none pdu.kind w (on_port port Initialized) pdu (first_none w port (entry_of pdu) (data_part pdu))
-initialized_none w port (faulty fault head) = tt
-
-io_queue_none : (w : World) (port cntlid qid : ℕ) (queue : Queue) (front : Front) → HasNoData (decide w (on_port port (Connected (Io cntlid qid) queue)) front)
-io_queue_none w port cntlid qid queue incomplete = tt
-io_queue_none w port cntlid qid queue (whole pdu) =
-    next_none pdu.kind w (on_port port (Connected (Io cntlid qid) queue)) pdu (io_none w cntlid (entry_of pdu))
-io_queue_none w port cntlid qid queue (faulty fault head) = tt
-
-first_by_none : (kind : PduType) (pdu : Pdu) → HasNoData (first_by kind pdu)
-first_by_none IcReq pdu = by (not ((ic_req_of (header_part pdu)).pfv == 0)) (not ((ic_req_of (header_part pdu)).hpda == 0)) where
-  by : (a b : Bool) → HasNoData (if a then terminate UnsupportedParameter 8 else if b then terminate InvalidHeaderField 10 else decision.Initialize)
-  by true b = tt
-  by false true = tt
-  by false false = tt
-first_by_none IcResp pdu = tt
-first_by_none H2cTermReq pdu = tt
-first_by_none C2hTermReq pdu = tt
-first_by_none CapsuleCmd pdu = tt
-first_by_none CapsuleResp pdu = tt
-first_by_none H2cData pdu = tt
-first_by_none C2hData pdu = tt
-first_by_none R2t pdu = tt
-
-opened_none : (w : World) (port : ℕ) (front : Front) → HasNoData (decide w (on_port port Opened) front)
-opened_none w port incomplete = tt
-opened_none w port (whole pdu) = first_by_none pdu.kind pdu
-opened_none w port (faulty fault head) = tt
-
-ended_none : (w : World) (port : ℕ) (front : Front) → HasNoData (decide w (on_port port Ended) front)
-ended_none w port incomplete = tt
-ended_none w port (whole pdu) = tt
-ended_none w port (faulty fault head) = tt
 
 -- ---- what is sent
 
@@ -229,44 +172,54 @@ payload_alike v w (Some c) (Some r) h = ap Some (answered_alike.payload c v.page
 
 admin_data : (v w : World) (cntlid : ℕ) (queue : Queue) (d : Decision) → AdminAlike v w cntlid
     → data_of v (Connected (Admin cntlid) queue) d ≡ data_of w (Connected (Admin cntlid) queue) d
-admin_data v w cntlid queue (decision.Reply r) h =
-    payload_alike v w (admin_controller v cntlid) r.«data» h.told
-    ∙ ap (λ (o : Option AdminController). payload_at w o r.«data») h.controller
-admin_data v w cntlid queue decision.Initialize h = refl
-admin_data v w cntlid queue (decision.Terminate t) h = refl
-admin_data v w cntlid queue decision.Close h = refl
+admin_data v w cntlid queue d h =
+    payload_alike v w (admin_controller v cntlid) (payload_of d) h.told
+    ∙ ap (λ (o : Option AdminController). payload_at w o (payload_of d)) h.controller
 
-no_data : (v w : World) (s : Session) (d : Decision) → HasNoData d → data_of v s d ≡ data_of w s d
-no_data v w s (decision.Reply r) h = rw h refl
-no_data v w s decision.Initialize h = refl
-no_data v w s (decision.Terminate t) h = refl
-no_data v w s decision.Close h = refl
+-- without a controller none is returned
+data_alike : (v w : World) (port : ℕ) (s : Session) (front : Front) (d : Decision) → SessionAlike v w port front s → data_of v s d ≡ data_of w s d
+data_alike v w port Opened front d h = payload_alike v w None (payload_of d) tt
+data_alike v w port Initialized front d h = payload_alike v w None (payload_of d) tt
+data_alike v w port (Connected (Admin cntlid) queue) front d h = admin_data v w cntlid queue d h
+data_alike v w port (Connected (Io cntlid qid) queue) front d h = payload_alike v w None (payload_of d) tt
+data_alike v w port Ended front d h = payload_alike v w None (payload_of d) tt
 
-data_alike : (v w : World) (port : ℕ) (s : Session) (front : Front) → SessionAlike v w port front s
-    → data_of v s (decide v (on_port port s) front) ≡ data_of w s (decide v (on_port port s) front)
-data_alike v w port Opened front h = no_data v w Opened (decide v (on_port port Opened) front) (opened_none v port front)
-data_alike v w port Initialized front h = no_data v w Initialized (decide v (on_port port Initialized) front) (initialized_none v port front)
-data_alike v w port (Connected (Admin cntlid) queue) front h = admin_data v w cntlid queue (decide v (on_port port (Connected (Admin cntlid) queue)) front) h
-data_alike v w port (Connected (Io cntlid qid) queue) front h =
-    no_data v w (Connected (Io cntlid qid) queue) (decide v (on_port port (Connected (Io cntlid qid) queue)) front) (io_queue_none v port cntlid qid queue front)
-data_alike v w port Ended front h = no_data v w Ended (decide v (on_port port Ended) front) (ended_none v port front)
+said_alike : (a : Answer) (payload : Option (List ℕ)) (bytes : List ℕ) (b c : ℕ → List (List ℕ)) (m : Medium) → DiskAlike (operation_in a) b c
+    → said_by a payload bytes b m ≡ said_by a payload bytes c m
+said_alike (answer.Given g) payload bytes b c m h = refl
+said_alike (answer.Performed op) payload bytes b c m h = rw h refl
 
-sends_by : (stepping : Bool) (v w : World) (o : Option Conversation) (front : Front) → (stepping ≡ true → WorldAlike v w front o)
-    → sends_on v o (if stepping then decided_on v o front else None) front ≡ sends_on w o (if stepping then decided_on w o front else None) front
-sends_by stepping v w None front h = refl
-sends_by false v w (Some c) front h = refl
-sends_by true v w (Some c) front h = by (is_ended c.session) where
-  by : (over : Bool)
-      → sends_on v (Some c) (if over then None else Some (decide v c front)) front
-      ≡ sends_on w (Some c) (if over then None else Some (decide w c front)) front
-  by true = refl
-  by false =
-      ap (wire_of (decide v c front) (head_of front)) (data_alike v w c.port c.session front (h refl))
-      ∙ ap (λ (d : Decision). sent_by w c.session d front) (decide_alike v w c front (h refl))
+wire_alike : (d : Decision) (front : Front) (payload : Option (List ℕ)) (b c : ℕ → List (List ℕ)) (m : Medium) → DiskAlike (operation_of d) b c
+    → wire_of d front payload b m ≡ wire_of d front payload c m
+wire_alike decision.Initialize front payload b c m h = refl
+wire_alike (decision.Reply r) front payload b c m h = ap (reply_wire r) (said_alike r.answer payload (bytes_at front) b c m h)
+wire_alike (decision.Terminate t) front payload b c m h = refl
+wire_alike decision.Close front payload b c m h = refl
+
+abbrev decided_by : Bool → World → Option Conversation → Front → Option Decision
+decided_by stepping w o front = if stepping then decided_on w o front else None
+
+sends_by : (stepping : Bool) (v w : World) (b c : ℕ → List (List ℕ)) (m : Medium) (o : Option Conversation) (front : Front)
+    → (stepping ≡ true → WorldAlike v w front o) → DiskAlike (operation_decided (decided_by stepping v o front)) b c
+    → sends_on v b m o (decided_by stepping v o front) front ≡ sends_on w c m o (decided_by stepping w o front) front
+sends_by stepping v w b c m None front h i = refl
+sends_by false v w b c m (Some k) front h i = refl
+sends_by true v w b c m (Some k) front h i = by (is_ended k.session) i where
+  over_or : Bool → World → Option Decision
+  over_or over w = if over then None else Some (decide w k front)
+
+  by : (over : Bool) → DiskAlike (operation_decided (over_or over v)) b c
+      → sends_on v b m (Some k) (over_or over v) front ≡ sends_on w c m (Some k) (over_or over w) front
+  by true i = refl
+  by false i =
+      ap (λ (payload : Option (List ℕ)). wire_of (decide v k front) front payload b m) (data_alike v w k.port k.session front (decide v k front) (h refl))
+      ∙ wire_alike (decide v k front) front (data_of w k.session (decide v k front)) b c m i
+      ∙ ap (λ (d : Decision). sent_by w c m k.session d front) (decide_alike v w k front (h refl))
 
 sends_alike : (k : ℕ) (x y : Happening) → SameFor k x y → sends x k ≡ sends y k
 sends_alike k x y same =
-    rw (same.event, ← same.conversation) (sends_by (steps x.event k) x.world y.world (x.conversation k) (front_in x.event) same.world)
+    rw (same.event, ← same.conversation)
+    (sends_by (steps x.event k) x.world y.world x.blocks y.blocks (medium_in x.event) (x.conversation k) (front_in x.event) same.world same.disk)
 
 sent_more : (b c : Bool) (s t u z : List ℕ) → b ≡ c → s ≡ t → u ≡ z → (if b then [] else s ++ u) ≡ (if c then [] else t ++ z)
 sent_more b c s t u z p q r = rw (p, q, r) refl
@@ -286,9 +239,9 @@ none_of true b c h = cc
 none_of false true c h = cc
 none_of false false c h = (refl, refl, h)
 
-silent : (w : World) (o : Option Conversation) (front : Front) → sends_on w o None front ≡ []
-silent w None front = refl
-silent w (Some c) front = refl
+silent : (x : Happening) (o : Option Conversation) → sends_on x.world x.blocks (medium_in x.event) o None (front_in x.event) ≡ []
+silent x None = refl
+silent x (Some c) = refl
 
 own_sent : (h : List Happening) (k : ℕ) → sent h k ≡ sent (own h k) k
 own_sent [] k = refl
@@ -298,7 +251,7 @@ own_sent (x ∷ before) k = by (is_of x.event k) refl (own_sent before k) where
   by true is earlier = ap (λ (s : List ℕ). if opens x.event k || gives_up x.event k then [] else s ++ sends x k) earlier
   by false is earlier =
       let parts = none_of (opens x.event k) (steps x.event k) (gives_up x.event k) is in
-      rw (parts.0, parts.1, parts.2, silent x.world (x.conversation k) (front_in x.event)) (append-nil (sent before k) ∙ earlier)
+      rw (parts.0, parts.1, parts.2, silent x (x.conversation k)) (append-nil (sent before k) ∙ earlier)
 
 pub sent_by_own_alone : SentByOwnAlone
 sent_by_own_alone = record { same = λ g h k alike. own_sent g k ∙ alike_sent (own g k) (own h k) k alike ∙ sym (own_sent h k) }

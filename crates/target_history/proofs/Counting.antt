@@ -129,7 +129,7 @@ no_open : (event : Event) (k : ℕ) (d : Option Decision) (e : Decision) → (if
 no_open (edited edit) k d e h = refl
 no_open (opened port n) k d e h = cc
 no_open (given_up n) k d e h = refl
-no_open (stepped n front) k d e h = refl
+no_open (stepped n front m) k d e h = refl
 no_open (ticked now) k d e h = refl
 
 counts_here : (x : Happening) (before : List Happening) (k : ℕ) (r : Reply)

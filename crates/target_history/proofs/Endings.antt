@@ -24,7 +24,7 @@ use Rattle.target_history.specs.declared.ending.Ending.TheVariants as ending
 use Rattle.target_history.specs.Ending.{ending_changed, ending_edited, ending_lost, ending_set, ends_by, ends_role, ends_row, ends_row_at, ends_session, ends_timer, is_barred, is_on_port}
 use Rattle.target_history.specs.Event.{Event, edited, front_in, opened, stepped, steps, given_up, ticked}
 use Rattle.target_history.specs.Happening.{Happening, change_decided, change_of, decided, decided_on, decision_of, ending_by, ending_given_up, ending_of, ending_taken, ends_live, is_end_decided, row_kept, stepping}
-use Rattle.target_history.specs.History.{beats_by, clock_of, config_of, controller_of, conversation_of, happened, mark_of, meets_after, row_of}
+use Rattle.target_history.specs.History.{Opening, beats_by, clock_of, config_of, controller_of, conversation_of, happened, mark_of, meets_after, row_of}
 use Rattle.target_history.specs.Laws.{EditsEndControllers, NothingExpiresWithoutTicks, PermittedOutliveEdits, ResetsEndTheirQueuesAlone, StaysPermitted, deletes, has_ticks, is_deletion, is_io_queue_of, is_permitted, is_queue_of, is_role_of, is_tick, may_use_named}
 use Rattle.target_history.proofs.Lives.{controller_step, row_step}
 use Rattle.target_history.proofs.Steps.{conversation_step}
@@ -38,7 +38,7 @@ decided_is (edited edit) w conversation k h = cc
 decided_is (opened port n) w conversation k h = cc
 decided_is (given_up n) w conversation k h = cc
 decided_is (ticked now) w conversation k h = cc
-decided_is (stepped n front) w conversation k h = ap (λ (j : ℕ). decided_on w (conversation j) front) (same_number k n h)
+decided_is (stepped n front m) w conversation k h = ap (λ (j : ℕ). decided_on w (conversation j) front) (same_number k n h)
 
 -- ---- a reset
 
@@ -58,7 +58,7 @@ ending_by_is (edited edit) w conversation clock ch h changes = absurd (changes (
 ending_by_is (opened port n) w conversation clock ch h changes = absurd (changes (sym h))
 ending_by_is (given_up n) w conversation clock ch h changes = absurd (changes (sym h))
 ending_by_is (ticked now) w conversation clock ch h changes = absurd (changes (sym h))
-ending_by_is (stepped n front) w conversation clock ch h changes =
+ending_by_is (stepped n front m) w conversation clock ch h changes =
     taken_is (conversation n) w front (decided_on w (conversation n) front) ch refl h changes
 
 -- what an event ends that changes something, by the change alone
@@ -165,16 +165,16 @@ port_outlives edit port h =
       | inr (id, is) ↦ ap (λ (e : Edit). is_on_port (ending_edited e) port) is ∙ ap (λ (e : Edit). deletes e port) (sym is) ∙ h
     ]
 
-module _ (units : List ℕ) (events : List Event) (edit : Edit) (c : ℕ) (row : Row) (stays : StaysPermitted units events edit c row) where
+module _ (disks : Opening) (events : List Event) (edit : Edit) (c : ℕ) (row : Row) (stays : StaysPermitted disks events edit c row) where
   abbrev before : List Happening
-  before = happened units events
+  before = happened disks events
 
   abbrev x : Happening
-  x = meets_after units before (edited edit)
+  x = meets_after disks before (edited edit)
 
   lives : ends_live x c ≡ false
   lives =
-      rw (stays.lives, row_outlives edit (config_of units (x ∷ before)) c row stays.port stays.permitted, no_timer edit (controller_of before c)) refl
+      rw (stays.lives, row_outlives edit (config_of disks (x ∷ before)) c row stays.port stays.permitted, no_timer edit (controller_of before c)) refl
 
   row_stays : row_of (x ∷ before) c ≡ Some row
   row_stays = row_step x before c refl ∙ rw (lives, stays.lives) (ap Some (kept_whole edit c row))
@@ -193,7 +193,7 @@ pub permitted_outlive_edits : PermittedOutliveEdits
 permitted_outlive_edits = record {
   row = row_stays;
   controller = controller_stays;
-  connections = λ units events edit c row k v stays. conversation_stays units events edit c row stays k v;
+  connections = λ disks events edit c row k v stays. conversation_stays disks events edit c row stays k v;
 }
 
 deleted_ends : (edit : Edit) (config : Configuration) (c : ℕ) (row : Row) → deletes edit row.port ≡ true → ends_row (ending_edited edit) config c row ≡ true
@@ -211,17 +211,17 @@ barred_ends (PortDel id) config c row other h = cc
 barred_ends _ config c row other h = barred_is config row.host row.subsystem row.port h
 
 -- a controller whose row an edit ends is gone
-edit_ends : (units : List ℕ) (events : List Event) (edit : Edit) (c : ℕ) (row : Row) → row_of (happened units events) c ≡ Some row
-    → ends_row (ending_edited edit) (config_of units (happened units (edited edit ∷ events))) c row ≡ true
-    → row_of (happened units (edited edit ∷ events)) c ≡ None
-edit_ends units events edit c row lives h =
-    let before = happened units events in
-    row_step (meets_after units before (edited edit)) before c refl ∙ rw (lives, h) refl
+edit_ends : (disks : Opening) (events : List Event) (edit : Edit) (c : ℕ) (row : Row) → row_of (happened disks events) c ≡ Some row
+    → ends_row (ending_edited edit) (config_of disks (happened disks (edited edit ∷ events))) c row ≡ true
+    → row_of (happened disks (edited edit ∷ events)) c ≡ None
+edit_ends disks events edit c row lives h =
+    let before = happened disks events in
+    row_step (meets_after disks before (edited edit)) before c refl ∙ rw (lives, h) refl
 
 pub edits_end_controllers : EditsEndControllers
 edits_end_controllers = record {
-  deleted = λ units events edit c row lives h. edit_ends units events edit c row lives (deleted_ends edit _ c row h);
-  barred = λ units events edit c row lives other h. edit_ends units events edit c row lives (barred_ends edit _ c row other h);
+  deleted = λ disks events edit c row lives h. edit_ends disks events edit c row lives (deleted_ends edit _ c row h);
+  barred = λ disks events edit c row lives other h. edit_ends disks events edit c row lives (barred_ends edit _ c row other h);
 }
 
 -- ---- without ticks
@@ -229,21 +229,21 @@ edits_end_controllers = record {
 tickless : (event : Event) (events : List Event) → has_ticks (event ∷ events) ≡ false → (is_tick event ≡ false) × (has_ticks events ≡ false)
 tickless event events h = neither (is_tick event) (has_ticks events) h
 
-clock_stays : (units : List ℕ) (events : List Event) → has_ticks events ≡ false → clock_of (happened units events) ≡ 0
-clock_stays units [] h = refl
-clock_stays units (edited edit ∷ events) h = clock_stays units events h
-clock_stays units (opened port n ∷ events) h = clock_stays units events h
-clock_stays units (stepped n front ∷ events) h = clock_stays units events h
-clock_stays units (given_up n ∷ events) h = clock_stays units events h
-clock_stays units (ticked now ∷ events) h = cc
+clock_stays : (disks : Opening) (events : List Event) → has_ticks events ≡ false → clock_of (happened disks events) ≡ 0
+clock_stays disks [] h = refl
+clock_stays disks (edited edit ∷ events) h = clock_stays disks events h
+clock_stays disks (opened port n ∷ events) h = clock_stays disks events h
+clock_stays disks (stepped n front m ∷ events) h = clock_stays disks events h
+clock_stays disks (given_up n ∷ events) h = clock_stays disks events h
+clock_stays disks (ticked now ∷ events) h = cc
 
-mark_stays : (units : List ℕ) (events : List Event) (c : ℕ) → has_ticks events ≡ false → mark_of (happened units events) c ≡ 0
-mark_stays units [] c h = refl
-mark_stays units (event ∷ events) c h =
+mark_stays : (disks : Opening) (events : List Event) (c : ℕ) → has_ticks events ≡ false → mark_of (happened disks events) c ≡ 0
+mark_stays disks [] c h = refl
+mark_stays disks (event ∷ events) c h =
     let earlier = (tickless event events h).1 in
-    by (beats_by (change_of (meets_after units (happened units events) event)) c) (clock_stays units events earlier) (mark_stays units events c earlier) where
-      by : (beats : Bool) → clock_of (happened units events) ≡ 0 → mark_of (happened units events) c ≡ 0
-          → (if beats then clock_of (happened units events) else mark_of (happened units events) c) ≡ 0
+    by (beats_by (change_of (meets_after disks (happened disks events) event)) c) (clock_stays disks events earlier) (mark_stays disks events c earlier) where
+      by : (beats : Bool) → clock_of (happened disks events) ≡ 0 → mark_of (happened disks events) c ≡ 0
+          → (if beats then clock_of (happened disks events) else mark_of (happened disks events) c) ≡ 0
       by true clock mark = clock
       by false clock mark = mark
 
@@ -282,7 +282,7 @@ no_timer_by : (event : Event) (conversation : ℕ → Option Conversation) (d : 
     → ends_timer (ending_by event conversation d clock) o ≡ false
 no_timer_by (edited edit) conversation d clock o h = no_timer edit o
 no_timer_by (opened port n) conversation d clock o h = refl
-no_timer_by (stepped n front) conversation d clock o h = taken_no_timer (conversation n) d o
+no_timer_by (stepped n front m) conversation d clock o h = taken_no_timer (conversation n) d o
 no_timer_by (given_up n) conversation d clock o h = given_up_no_timer (conversation n) o
 no_timer_by (ticked now) conversation d clock o h = cc
 
@@ -290,7 +290,7 @@ pub nothing_expires_without_ticks : NothingExpiresWithoutTicks
 nothing_expires_without_ticks = record {
   clock = clock_stays;
   mark = mark_stays;
-  timers = λ units events event controller h.
-      let x = meets_after units (happened units events) event in
+  timers = λ disks events event controller h.
+      let x = meets_after disks (happened disks events) event in
       no_timer_by event x.conversation (decision_of x) x.clock controller (tickless event events h).0;
 }

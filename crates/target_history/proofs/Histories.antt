@@ -17,36 +17,37 @@ use Rattle.target_decision.specs.declared.session.Session.{Session}
 use Rattle.target_decision.specs.declared.session.Session.TheVariants.{Opened, Initialized, Connected, Ended}
 use Rattle.target_decision.specs.Decision.{decide, decide_in, first_by, next_by, terminate}
 use Rattle.target_decision.specs.Session.{is_ended}
+use Rattle.io_queue.specs.Act.{Medium}
 use Rattle.target_decision.specs.World.{World}
-use Rattle.target_history.specs.Event.{Event, edited, front_in, opened, opens, steps, stepped, given_up, ticked}
+use Rattle.target_history.specs.Event.{Event, edited, front_in, medium_in, opened, opens, steps, stepped, given_up, ticked}
 use Rattle.target_history.specs.Happening.{Happening, config_after, decided_on, responses, responses_decided, sends, sends_on}
-use Rattle.target_history.specs.History.{config_of, generation_after, generation_of, happened, has_ended, is_known, port_of, meets_after, sent, session_of, world_of}
+use Rattle.target_history.specs.History.{Opening, blocks_of, config_of, generation_after, generation_of, happened, has_ended, is_known, port_of, meets_after, sent, session_of, world_of}
 use Rattle.target_history.specs.Laws.{DeletedPortsEnd, EndedAreSentNothing, PagesChangeByEdits, ResponsesAnswerCapsules, capsules_of, is_capsule, is_command, is_edit, responses_of}
 use Rattle.target_history.proofs.Tests.{same_here}
 
 -- ---- an ended connection
 
-silent_on : (w : World) (known stepping : Bool) (port : ℕ) (front : Front)
-    → sends_on w (if known then Some (record { port = port; session = Ended }) else None)
+silent_on : (w : World) (blocks : ℕ → List (List ℕ)) (m : Medium) (known stepping : Bool) (port : ℕ) (front : Front)
+    → sends_on w blocks m (if known then Some (record { port = port; session = Ended }) else None)
     (if stepping then decided_on w (if known then Some (record { port = port; session = Ended }) else None) front else None) front ≡ []
-silent_on w true true port front = refl
-silent_on w true false port front = refl
-silent_on w false true port front = refl
-silent_on w false false port front = refl
+silent_on w blocks m true true port front = refl
+silent_on w blocks m true false port front = refl
+silent_on w blocks m false true port front = refl
+silent_on w blocks m false false port front = refl
 
 ended_session : (h : List Happening) (k : ℕ) → has_ended h k ≡ true → session_of h k ≡ Ended
 ended_session h k ended = rw ended refl
 
-ended_sends : (units : List ℕ) (events : List Event) (event : Event) (k : ℕ) → has_ended (happened units events) k ≡ true
-    → sends (meets_after units (happened units events) event) k ≡ []
-ended_sends units events event k ended =
-    let before = happened units events in
-    rw (ended_session before k ended) (silent_on (world_of units before) (is_known before k) (steps event k) (port_of before k) (front_in event))
+ended_sends : (disks : Opening) (events : List Event) (event : Event) (k : ℕ) → has_ended (happened disks events) k ≡ true
+    → sends (meets_after disks (happened disks events) event) k ≡ []
+ended_sends disks events event k ended =
+    let before = happened disks events in
+    rw (ended_session before k ended) (silent_on (world_of disks before) (blocks_of disks before) (medium_in event) (is_known before k) (steps event k) (port_of before k) (front_in event))
 
 pub ended_are_sent_nothing : EndedAreSentNothing
 ended_are_sent_nothing = record {
-  silent = λ units events event k ended opens gives_up.
-      rw (opens, gives_up, ended_sends units events event k ended) (append-nil (sent (happened units events) k));
+  silent = λ disks events event k ended opens gives_up.
+      rw (opens, gives_up, ended_sends disks events event k ended) (append-nil (sent (happened disks events) k));
 }
 
 -- ---- a deleted port
@@ -138,19 +139,19 @@ page_stays : (event : Event) (c : Configuration) (n : ℕ) (host : List ℕ) →
     ≡ discovery_page (n % 2 ^ 64) (records_of c host)
 page_stays (edited edit) c n host h = cc
 page_stays (opened port k) c n host h = refl
-page_stays (stepped k front) c n host h = refl
+page_stays (stepped k front m) c n host h = refl
 page_stays (given_up k) c n host h = refl
 page_stays (ticked now) c n host h = refl
 
 config_stays : (event : Event) (c : Configuration) → is_edit event ≡ false → config_after event c ≡ c
 config_stays (edited edit) c h = cc
 config_stays (opened port k) c h = refl
-config_stays (stepped k front) c h = refl
+config_stays (stepped k front m) c h = refl
 config_stays (given_up k) c h = refl
 config_stays (ticked now) c h = refl
 
 pub pages_change_by_edits : PagesChangeByEdits
 pages_change_by_edits = record {
-  stays = λ units x before host unedited. page_stays x.event (config_of units before) (generation_of units before host) host unedited;
-  lists = λ units x before subsystem above unedited. rw (config_stays x.event (config_of units before) unedited) refl;
+  stays = λ disks x before host unedited. page_stays x.event (config_of disks before) (generation_of disks before host) host unedited;
+  lists = λ disks x before subsystem above unedited. rw (config_stays x.event (config_of disks before) unedited) refl;
 }

@@ -15,7 +15,7 @@ use Rattle.target_history.specs.declared.ending.Ending.TheVariants as ending
 use Rattle.target_history.specs.Ending.{resets}
 use Rattle.target_history.specs.Event.{Event, edited, opened, stepped, steps, given_up, ticked}
 use Rattle.target_history.specs.Happening.{Happening, Start, begins, begins_by, change_of, conversation_after, ending_of, ends_live, port_at, port_met, started, stepping}
-use Rattle.target_history.specs.History.{conversation_of, drops_by, happened, has_queue, joins_by, meets_after, registers_of, row_of, row_with, start_of, start_or}
+use Rattle.target_history.specs.History.{Opening, conversation_of, drops_by, happened, has_queue, joins_by, meets_after, registers_of, row_of, row_with, start_of, start_or}
 use Rattle.target_history.specs.Laws.{QueuesAreOfOneConnection, role_at, role_of}
 use Rattle.target_history.proofs.Admissions.{AdmitsBy, CanTake, event_admits}
 use Rattle.target_history.proofs.Endings.{change_ends}
@@ -97,11 +97,11 @@ stepped_one (edited edit) j k h i = cc
 stepped_one (opened port n) j k h i = cc
 stepped_one (given_up n) j k h i = cc
 stepped_one (ticked now) j k h i = cc
-stepped_one (stepped n front) j k h i = same_number j n h ∙ sym (same_number k n i)
+stepped_one (stepped n front m) j k h i = same_number j n h ∙ sym (same_number k n i)
 
-module _ (units : List ℕ) (before : List Happening) (event : Event) (earlier : AllHold before) where
+module _ (disks : Opening) (before : List Happening) (event : Event) (earlier : AllHold before) where
   abbrev x : Happening
-  x = meets_after units before event
+  x = meets_after disks before event
 
   abbrev Admitted : Change → Type 0
   Admitted ch = AdmitsBy (row_of before) (role_at (stepping event (conversation_of before))) (port_met x) ch
@@ -231,9 +231,9 @@ module _ (units : List ℕ) (before : List Happening) (event : Event) (earlier :
   holds_after : AllHold (x ∷ before)
   holds_after = record { there = there_after; one = one_after }
 
-pub all_hold : (units : List ℕ) (events : List Event) → AllHold (happened units events)
-all_hold units [] = record { there = λ k role h. cc; one = λ j k role h i. cc }
-all_hold units (event ∷ events) = holds_after units (happened units events) event (all_hold units events)
+pub all_hold : (disks : Opening) (events : List Event) → AllHold (happened disks events)
+all_hold disks [] = record { there = λ k role h. cc; one = λ j k role h i. cc }
+all_hold disks (event ∷ events) = holds_after disks (happened disks events) event (all_hold disks events)
 
 pub queues_are_of_one_connection : QueuesAreOfOneConnection
-queues_are_of_one_connection = record { one = λ units events. (all_hold units events).one }
+queues_are_of_one_connection = record { one = λ disks events. (all_hold disks events).one }

@@ -1,5 +1,6 @@
 pub mod Admissions
 pub mod Alike
+pub mod Blocks
 pub mod Counting
 pub mod Endings
 pub mod Heads

@@ -1,5 +1,5 @@
 -- What one event makes of the queues that connections are.
-use Rattle.std.proofs.Common.{◌≡◌, ◌⊎◌, ℕ, Bool, true, false, ◌||◌, Option, Some, None, refl, sym, ap, ◌∙◌, inl, inr}
+use Rattle.std.proofs.Common.{List, ◌≡◌, ◌⊎◌, ℕ, Bool, true, false, ◌||◌, Option, Some, None, refl, sym, ap, ◌∙◌, inl, inr}
 use Rattle.std.specs.Prelude.{if◌then◌else◌, ◌==◌}
 use Rattle.std.specs.Option.{option_map}
 use Rattle.config_edits.specs.declared.edit.Edit.{Edit}
@@ -81,7 +81,7 @@ met_is (edited edit) conversation k h = cc
 met_is (opened port n) conversation k h = cc
 met_is (given_up n) conversation k h = cc
 met_is (ticked now) conversation k h = cc
-met_is (stepped n front) conversation k h = ap conversation (same_number k n h)
+met_is (stepped n front m) conversation k h = ap conversation (same_number k n h)
 
 role_kept : (e : Ending) (gone : ℕ → Bool) (s : Session) (role : Role) → role_in s ≡ Some role → ends_session e gone s ≡ false
     → ends_role e gone role ≡ false
@@ -205,23 +205,23 @@ step_loses x n (Some v) (Some (decision.Reply r)) met leaving = change_loses x r
 step_loses x n (Some v) (Some (decision.Terminate t)) met leaving = session_loses x n v.session (ap role_at met) (leaving refl)
 step_loses x n (Some v) (Some decision.Close) met leaving = session_loses x n v.session (ap role_at met) (leaving refl)
 
-event_loses : (event : Event) (w : World) (conversation : ℕ → Option Conversation) (clock : ℕ)
-    → let x : Happening = record { event = event; world = w; conversation = conversation; clock = clock } in
+event_loses : (event : Event) (w : World) (conversation : ℕ → Option Conversation) (clock : ℕ) (blocks : ℕ → List (List ℕ))
+    → let x : Happening = record { event = event; world = w; conversation = conversation; clock = clock; blocks = blocks } in
     LostFrom x (ending_of x)
-event_loses (edited edit) w conversation clock =
-    let x : Happening = record { event = edited edit; world = w; conversation = conversation; clock = clock } in
+event_loses (edited edit) w conversation clock blocks =
+    let x : Happening = record { event = edited edit; world = w; conversation = conversation; clock = clock; blocks = blocks } in
     edit_loses x edit
-event_loses (opened port n) w conversation clock = tt
-event_loses (ticked now) w conversation clock = tt
-event_loses (given_up n) w conversation clock =
-    let x : Happening = record { event = given_up n; world = w; conversation = conversation; clock = clock } in
+event_loses (opened port n) w conversation clock blocks = tt
+event_loses (ticked now) w conversation clock blocks = tt
+event_loses (given_up n) w conversation clock blocks =
+    let x : Happening = record { event = given_up n; world = w; conversation = conversation; clock = clock; blocks = blocks } in
     given_up_loses x n (conversation n) refl (same_here n)
-event_loses (stepped n front) w conversation clock =
-    let x : Happening = record { event = stepped n front; world = w; conversation = conversation; clock = clock } in
+event_loses (stepped n front m) w conversation clock blocks =
+    let x : Happening = record { event = stepped n front m; world = w; conversation = conversation; clock = clock; blocks = blocks } in
     step_loses x n (conversation n) (decided_on w (conversation n) front) refl (λ ends. rw (same_here n) (either_true (is_end_decided (decided_on w (conversation n) front)) false ends))
 
 pub loses : (x : Happening) → LostFrom x (ending_of x)
-loses x = event_loses x.event x.world x.conversation x.clock
+loses x = event_loses x.event x.world x.conversation x.clock x.blocks
 
 -- ---- what remains of a queue
 
@@ -253,17 +253,17 @@ step_lost (Some v) (Some (decision.Reply r)) role is ends = cc
 step_lost (Some v) (Some (decision.Terminate t)) role is ends = session_lost v.session role is
 step_lost (Some v) (Some decision.Close) role is ends = session_lost v.session role is
 
-event_lost : (event : Event) (w : World) (conversation : ℕ → Option Conversation) (clock : ℕ) (k : ℕ) (role : Role)
+event_lost : (event : Event) (w : World) (conversation : ℕ → Option Conversation) (clock : ℕ) (blocks : ℕ → List (List ℕ)) (k : ℕ) (role : Role)
     → role_at (conversation k) ≡ Some role
-    → let x : Happening = record { event = event; world = w; conversation = conversation; clock = clock } in
+    → let x : Happening = record { event = event; world = w; conversation = conversation; clock = clock; blocks = blocks } in
     leaves x k ≡ true → ending_of x ≡ lost_of role
-event_lost (edited edit) w conversation clock k role is h = cc
-event_lost (opened port n) w conversation clock k role is h = cc
-event_lost (ticked now) w conversation clock k role is h = cc
-event_lost (given_up n) w conversation clock k role is h =
+event_lost (edited edit) w conversation clock blocks k role is h = cc
+event_lost (opened port n) w conversation clock blocks k role is h = cc
+event_lost (ticked now) w conversation clock blocks k role is h = cc
+event_lost (given_up n) w conversation clock blocks k role is h =
     let same : k ≡ n = same_number k n h in
     given_up_lost (conversation n) role (ap (λ (j : ℕ). role_at (conversation j)) (sym same) ∙ is)
-event_lost (stepped n front) w conversation clock k role is h = by (k == n) refl h where
+event_lost (stepped n front m) w conversation clock blocks k role is h = by (k == n) refl h where
   by : (stepping : Bool) → (k == n) ≡ stepping → (is_end_decided (if stepping then decided_on w (conversation k) front else None) || false) ≡ true
       → ending_taken (conversation n) (decided_on w (conversation n) front) ≡ lost_of role
   by false differs h = cc
@@ -274,7 +274,7 @@ event_lost (stepped n front) w conversation clock k role is h = by (k == n) refl
 
 -- where a queue's connection leaves, that queue is lost
 pub leaving_loses : (x : Happening) (k : ℕ) (role : Role) → role_at (x.conversation k) ≡ Some role → leaves x k ≡ true → ending_of x ≡ lost_of role
-leaving_loses x k role is h = event_lost x.event x.world x.conversation x.clock k role is h
+leaving_loses x k role is h = event_lost x.event x.world x.conversation x.clock x.blocks k role is h
 
 session_remains : (e : Ending) (gone : ℕ → Bool) (s : Session) (role : Role) → role_in s ≡ Some role → ends_role e gone role ≡ false
     → ends_session e gone s ≡ false

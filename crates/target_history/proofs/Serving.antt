@@ -23,7 +23,7 @@ use Rattle.target_history.specs.declared.ending.Ending.TheVariants as ending
 use Rattle.target_history.specs.Ending.{ends_role, ends_row_at, ends_timer, is_on_port, resets}
 use Rattle.target_history.specs.Event.{Event, edited, opened, opens, stepped, given_up, ticked}
 use Rattle.target_history.specs.Happening.{Happening, Start, begins, begins_by, change_of, config_after, conversation_after, ending_of, ends_live, port_at, started}
-use Rattle.target_history.specs.History.{config_of, controller_of, conversation_of, drops_by, happened, has_queue, is_known, joins_by, meets_after, registers_of, row_of, row_with, start_of, start_or}
+use Rattle.target_history.specs.History.{Opening, config_of, controller_of, conversation_of, drops_by, happened, has_queue, is_known, joins_by, meets_after, registers_of, row_of, row_with, start_of, start_or}
 use Rattle.target_history.specs.Laws.{ControllersLiveByTheirAdmins, OpenVacant, QueueIdsAreOfConnections, QueuesAreOnTheirPort, is_queue_of, is_role_of, role_at, role_in, role_of}
 use Rattle.target_history.proofs.Holding.{AllHold, Holds, LivesOn, all_hold}
 use Rattle.target_history.proofs.Roles.{leaves, leaving_loses, lost_of, made_is, remains_is, role_by}
@@ -83,15 +83,15 @@ joined_by (change.Configure t) c q h = cc
 joined_by (change.KeepAlive d) c q h = cc
 
 -- what becomes a queue is the connection of the step
-event_makes : (event : Event) (w : World) (conversation : ℕ → Option Conversation) (clock : ℕ) (role : Role)
-    → let x : Happening = record { event = event; world = w; conversation = conversation; clock = clock } in
+event_makes : (event : Event) (w : World) (conversation : ℕ → Option Conversation) (clock : ℕ) (blocks : ℕ → List (List ℕ)) (role : Role)
+    → let x : Happening = record { event = event; world = w; conversation = conversation; clock = clock; blocks = blocks } in
     role_by (change_of x) ≡ Some role → (k : ℕ) × (role_at (conversation_after x k (conversation k)) ≡ Some role)
-event_makes (edited edit) w conversation clock role made = cc
-event_makes (opened port n) w conversation clock role made = cc
-event_makes (given_up n) w conversation clock role made = cc
-event_makes (ticked now) w conversation clock role made = cc
-event_makes (stepped n front) w conversation clock role made =
-    let x : Happening = record { event = stepped n front; world = w; conversation = conversation; clock = clock } in
+event_makes (edited edit) w conversation clock blocks role made = cc
+event_makes (opened port n) w conversation clock blocks role made = cc
+event_makes (given_up n) w conversation clock blocks role made = cc
+event_makes (ticked now) w conversation clock blocks role made = cc
+event_makes (stepped n front m) w conversation clock blocks role made =
+    let x : Happening = record { event = stepped n front m; world = w; conversation = conversation; clock = clock; blocks = blocks } in
     (n, made_is x n role (same_here n) refl refl made)
 
 -- ---- what ends a queue
@@ -138,13 +138,13 @@ role_port h port (Io d q) held c is = subst (λ (e : ℕ). LivesOn h e port) (sy
 
 -- ---- one more event
 
-module _ (units : List ℕ) (before : List Happening) (event : Event) (held : AllHold before) (earlier : AllServed before)
+module _ (disks : Opening) (before : List Happening) (event : Event) (held : AllHold before) (earlier : AllServed before)
     (vacant : (k : ℕ) → opens event k ≡ true → is_known before k ≡ false) where
   abbrev x : Happening
-  x = meets_after units before event
+  x = meets_after disks before event
 
   abbrev became : Configuration
-  became = config_after event (config_of units before)
+  became = config_after event (config_of disks before)
 
   -- a connection that is a queue is not opened
   not_opened : (k : ℕ) (role : Role) → role_of before k ≡ Some role → opens event k ≡ false
@@ -176,7 +176,7 @@ module _ (units : List ℕ) (before : List Happening) (event : Event) (held : Al
 
   makes : (role : Role) → role_by (change_of x) ≡ Some role → Served (x ∷ before) role
   makes role made =
-      let found = event_makes event x.world x.conversation x.clock role made in
+      let found = event_makes event x.world x.conversation x.clock x.blocks role made in
       (found.0, ap role_at (conversation_step x before found.0 refl) ∙ found.1)
 
   admin_after : (c : ℕ) → is_some (start_of (x ∷ before) c) ≡ true → Served (x ∷ before) (Admin c)
@@ -205,10 +205,10 @@ module _ (units : List ℕ) (before : List Happening) (event : Event) (held : Al
   served_after : AllServed (x ∷ before)
   served_after = record { admin = admin_after; io = io_after }
 
-pub all_served : (units : List ℕ) (events : List Event) → OpenVacant units events → AllServed (happened units events)
-all_served units [] vacant = record { admin = λ c h. cc; io = λ c q h i. cc }
-all_served units (event ∷ events) vacant =
-    served_after units (happened units events) event (all_hold units events) (all_served units events vacant.1) vacant.0
+pub all_served : (disks : Opening) (events : List Event) → OpenVacant disks events → AllServed (happened disks events)
+all_served disks [] vacant = record { admin = λ c h. cc; io = λ c q h i. cc }
+all_served disks (event ∷ events) vacant =
+    served_after disks (happened disks events) event (all_hold disks events) (all_served disks events vacant.1) vacant.0
 
 -- ---- the laws
 
@@ -236,10 +236,10 @@ mapped_some registers queue (Some s) q h = (refl, mapped_has queue registers s q
 
 pub controllers_live_by_their_admins : ControllersLiveByTheirAdmins
 controllers_live_by_their_admins = record {
-  lives = λ units events k c is.
-      let h = happened units events in
-      starts_live (start_of h c) (λ (s : Start). s.row.port ≡ port_at (conversation_of h k)) ((all_hold units events).there k (Admin c) is);
-  served = λ units events c vacant lives. (all_served units events vacant).admin c lives;
+  lives = λ disks events k c is.
+      let h = happened disks events in
+      starts_live (start_of h c) (λ (s : Start). s.row.port ≡ port_at (conversation_of h k)) ((all_hold disks events).there k (Admin c) is);
+  served = λ disks events c vacant lives. (all_served disks events vacant).admin c lives;
 }
 
 session_role : (s : Session) (c : ℕ) → is_queue_of c s ≡ true → (role : Role) × (role_in s ≡ Some role) × (is_role_of c role ≡ true)
@@ -255,23 +255,23 @@ row_port registers queue (Some s) port h = h
 
 pub queues_are_on_their_port : QueuesAreOnTheirPort
 queues_are_on_their_port = record {
-  port = λ units events k c v met own.
-      let h = happened units events in
+  port = λ disks events k c v met own.
+      let h = happened disks events in
       let found = session_role v.session c own in
-      let held : Holds h (port_at (conversation_of h k)) found.0 = (all_hold units events).there k found.0 (ap role_at met ∙ found.1) in
+      let held : Holds h (port_at (conversation_of h k)) found.0 = (all_hold disks events).there k found.0 (ap role_at met ∙ found.1) in
       let lives : LivesOn h c v.port = subst (LivesOn h c) (ap port_at met) (role_port h (port_at (conversation_of h k)) found.0 held c found.2) in
       row_port (registers_of h c) (has_queue h c) (start_of h c) v.port lives;
 }
 
 pub queue_ids_are_of_connections : QueueIdsAreOfConnections
 queue_ids_are_of_connections = record {
-  has = λ units events k c q is.
-      let h = happened units events in
-      let held = (all_hold units events).there k (Io c q) is in
+  has = λ disks events k c q is.
+      let h = happened disks events in
+      let held = (all_hold disks events).there k (Io c q) is in
       some_mapped (registers_of h c) (has_queue h c) (start_of h c) q held.1
       (starts_live (start_of h c) (λ (s : Start). s.row.port ≡ port_at (conversation_of h k)) held.0) held.2;
-  served = λ units events c q vacant there.
-      let h = happened units events in
+  served = λ disks events c q vacant there.
+      let h = happened disks events in
       let parts = mapped_some (registers_of h c) (has_queue h c) (start_of h c) q there in
-      (all_served units events vacant).io c q parts.0 parts.1;
+      (all_served disks events vacant).io c q parts.0 parts.1;
 }

@@ -1,15 +1,16 @@
 -- What happens to a target.
 use Rattle.std.specs.Prelude.{ℕ, Bool, false, ◌==◌}
 use Rattle.config_edits.specs.declared.edit.Edit.{Edit}
+use Rattle.io_queue.specs.Act.{Medium, good}
 use Rattle.pdu_cut.specs.Front.{Front, incomplete}
 
 -- An edit was accepted; a connection was opened on a port and got a number; a step of a connection found
--- this at the front of its stream, a whole PDU, which it consumed, or a fault; a connection was given up; the
--- clock was set, in ms. What a call refuses, and a step that is idle, is no event.
+-- this at the front of its stream, a whole PDU, which it consumed, or a fault, and the disks did this; a
+-- connection was given up; the clock was set, in ms. What a call refuses, and a step that is idle, is no event.
 pub data Event : Type 0 where
   edited : Edit → Event
   opened : ℕ → ℕ → Event
-  stepped : ℕ → Front → Event
+  stepped : ℕ → Front → Medium → Event
   given_up : ℕ → Event
   ticked : ℕ → Event
 
@@ -17,7 +18,7 @@ pub data Event : Type 0 where
 abbrev pub opens : Event → ℕ → Bool
 opens (edited edit) k = false
 opens (opened port n) k = k == n
-opens (stepped n front) k = false
+opens (stepped n front m) k = false
 opens (given_up n) k = false
 opens (ticked now) k = false
 
@@ -25,7 +26,7 @@ opens (ticked now) k = false
 abbrev pub port_in : Event → ℕ
 port_in (edited edit) = 0
 port_in (opened port n) = port
-port_in (stepped n front) = 0
+port_in (stepped n front m) = 0
 port_in (given_up n) = 0
 port_in (ticked now) = 0
 
@@ -33,7 +34,7 @@ port_in (ticked now) = 0
 abbrev pub gives_up : Event → ℕ → Bool
 gives_up (edited edit) k = false
 gives_up (opened port n) k = false
-gives_up (stepped n front) k = false
+gives_up (stepped n front m) k = false
 gives_up (given_up n) k = k == n
 gives_up (ticked now) k = false
 
@@ -41,7 +42,7 @@ gives_up (ticked now) k = false
 abbrev pub steps : Event → ℕ → Bool
 steps (edited edit) k = false
 steps (opened port n) k = false
-steps (stepped n front) k = k == n
+steps (stepped n front m) k = k == n
 steps (given_up n) k = false
 steps (ticked now) k = false
 
@@ -49,6 +50,14 @@ steps (ticked now) k = false
 abbrev pub front_in : Event → Front
 front_in (edited edit) = incomplete
 front_in (opened port n) = incomplete
-front_in (stepped n front) = front
+front_in (stepped n front m) = front
 front_in (given_up n) = incomplete
 front_in (ticked now) = incomplete
+
+-- what the disks did: all that was asked of them, where nothing was
+abbrev pub medium_in : Event → Medium
+medium_in (edited edit) = good
+medium_in (opened port n) = good
+medium_in (stepped n front m) = m
+medium_in (given_up n) = good
+medium_in (ticked now) = good

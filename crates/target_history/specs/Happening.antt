@@ -6,6 +6,8 @@ use Rattle.config_rules.specs.Accept.{accept}
 use Rattle.config_rules.specs.Configuration.{Configuration}
 use Rattle.fabrics_connect.specs.declared.row.Row.{Row}
 use Rattle.fabrics_connect.specs.Row.{joined, left, left_all, row_begun, with_ready}
+use Rattle.io_queue.specs.Act.{Medium}
+use Rattle.io_queue.specs.Execution.{Act}
 use Rattle.pdu_cut.specs.Front.{Front}
 use Rattle.property_regs.specs.declared.kind.ControllerKind.{ControllerKind}
 use Rattle.property_regs.specs.Regs.{is_ready, regs_after}
@@ -21,20 +23,22 @@ use Rattle.target_decision.specs.declared.session.Session.{Session}
 use Rattle.target_decision.specs.declared.session.Session.TheVariants.{Ended}
 use Rattle.target_decision.specs.Begin.{bytes_at, entry_at, row_by}
 use Rattle.target_decision.specs.Controller.{new_controller, registers_at, with_property, with_timer}
-use Rattle.target_decision.specs.Decision.{decide, is_end, sent_by}
+use Rattle.target_decision.specs.Decision.{act_by, decide, is_end, sent_by}
 use Rattle.target_decision.specs.Session.{is_ended, opened_on, session_after}
 use Rattle.target_decision.specs.World.{World}
 use Rattle.target_history.specs.declared.ending.Ending.{Ending}
 use Rattle.target_history.specs.declared.ending.Ending.TheVariants as ending
 use Rattle.target_history.specs.Ending.{ending_decided, ending_edited, ending_lost, ends_by, ends_controller}
-use Rattle.target_history.specs.Event.{Event, edited, front_in, gives_up, given_up, opened, opens, port_in, stepped, steps, ticked}
+use Rattle.target_history.specs.Event.{Event, edited, front_in, gives_up, given_up, medium_in, opened, opens, port_in, stepped, steps, ticked}
 
--- an event, the world that decisions may look at, each connection that is known, and the clock, in ms
+-- an event, the world that decisions may look at, each connection that is known, the clock, in ms, and the
+-- units of each disk
 pub record Happening : Type 0 where
   pub event : Event
   pub world : World
   pub conversation : ℕ → Option Conversation
   pub clock : ℕ
+  pub blocks : ℕ → List (List ℕ)
 
 -- ---- the configuration and the clock
 
@@ -45,7 +49,7 @@ accepted_or (Err fault) old = old
 abbrev pub config_after : Event → Configuration → Configuration
 config_after (edited edit) c = accepted_or (accept c edit) c
 config_after (opened port n) c = c
-config_after (stepped n front) c = c
+config_after (stepped n front m) c = c
 config_after (given_up n) c = c
 config_after (ticked now) c = c
 
@@ -54,7 +58,7 @@ abbrev pub clock_after : Event → ℕ → ℕ
 clock_after (ticked now) clock = max clock now
 clock_after (edited edit) clock = clock
 clock_after (opened port n) clock = clock
-clock_after (stepped n front) clock = clock
+clock_after (stepped n front m) clock = clock
 clock_after (given_up n) clock = clock
 
 -- ---- what is decided
@@ -70,7 +74,7 @@ decided x k = if steps x.event k then decided_on x.world (x.conversation k) (fro
 
 -- the connection that it is a step of, as it met it
 abbrev pub stepping : Event → (ℕ → Option Conversation) → Option Conversation
-stepping (stepped n front) conversation = conversation n
+stepping (stepped n front m) conversation = conversation n
 stepping (edited edit) conversation = None
 stepping (opened port n) conversation = None
 stepping (given_up n) conversation = None
@@ -131,7 +135,7 @@ ending_given_up (Some v) = ending_lost v.session
 abbrev pub ending_by : Event → (ℕ → Option Conversation) → Option Decision → ℕ → Ending
 ending_by (edited edit) conversation d clock = ending_edited edit
 ending_by (opened port n) conversation d clock = ending.Nothing
-ending_by (stepped n front) conversation d clock = ending_taken (conversation n) d
+ending_by (stepped n front m) conversation d clock = ending_taken (conversation n) d
 ending_by (given_up n) conversation d clock = ending_given_up (conversation n)
 ending_by (ticked now) conversation d clock = ending.Clock (max clock now)
 
@@ -161,14 +165,24 @@ ends x k = terminates x k || ends_at x (x.conversation k)
 
 -- ---- what a connection is sent, and becomes
 
-abbrev pub sends_on : World → Option Conversation → Option Decision → Front → List ℕ
-sends_on w None d front = []
-sends_on w (Some v) None front = []
-sends_on w (Some v) (Some d) front = sent_by w v.session d front
+abbrev pub sends_on : World → (ℕ → List (List ℕ)) → Medium → Option Conversation → Option Decision → Front → List ℕ
+sends_on w blocks m None d front = []
+sends_on w blocks m (Some v) None front = []
+sends_on w blocks m (Some v) (Some d) front = sent_by w blocks m v.session d front
 
 -- what it sends to connection k
 abbrev pub sends : Happening → ℕ → List ℕ
-sends x k = sends_on x.world (x.conversation k) (decided x k) (front_in x.event)
+sends x k = sends_on x.world x.blocks (medium_in x.event) (x.conversation k) (decided x k) (front_in x.event)
+
+-- ---- what it writes
+
+abbrev pub act_decided : Option Decision → Front → Medium → Option Act
+act_decided None front m = None
+act_decided (Some d) front m = act_by d front m
+
+-- what it writes to a disk
+abbrev pub acts : Happening → Option Act
+acts x = act_decided (decision_of x) (front_in x.event) (medium_in x.event)
 
 abbrev pub session_decided : Session → Option Decision → Session
 session_decided session None = session

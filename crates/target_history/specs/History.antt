@@ -1,6 +1,6 @@
 -- What a history of events makes of a target. Each definition looks back over the list of what happened,
 -- the newest first; none keeps anything.
-use Rattle.std.specs.Prelude.{ℕ, ◌+◌, ◌%◌, ◌^◌, Bool, true, false, not, ◌==◌, ◌||◌, ◌&&◌, List, [], ◌∷◌, ◌++◌, map, Option, Some, None, is_some, unwrap_or, if◌then◌else◌}
+use Rattle.std.specs.Prelude.{ℕ, ◌+◌, ◌%◌, ◌^◌, Bool, true, false, not, ◌==◌, ◌||◌, ◌&&◌, List, [], ◌∷◌, ◌++◌, length, map, slice_index_or, Option, Some, None, is_some, unwrap_or, if◌then◌else◌}
 use Rattle.std.specs.List.{range_with_len}
 use Rattle.std.specs.Option.{option_map}
 use Rattle.admin_queue.specs.Pages.{Pages}
@@ -11,6 +11,8 @@ use Rattle.discovery_view.specs.Records.{records_of}
 use Rattle.discovery_view.specs.View.{changes_records}
 use Rattle.config_rules.specs.Configuration.{Configuration, disks_alone}
 use Rattle.fabrics_connect.specs.declared.row.Row.{Row}
+use Rattle.block_store.specs.Write.{Write, contents_after}
+use Rattle.io_queue.specs.Execution.{Act}
 use Rattle.pdu_cut.specs.Front.{Front, incomplete, whole, faulty}
 use Rattle.pdu_cut.specs.Pdu.{Pdu}
 use Rattle.property_regs.specs.declared.kind.ControllerKind.TheVariants.{Discovery}
@@ -28,14 +30,18 @@ use Rattle.target_decision.specs.World.{World}
 use Rattle.target_history.specs.declared.ending.Ending.{Ending}
 use Rattle.target_history.specs.declared.ending.Ending.TheVariants as ending
 use Rattle.target_history.specs.Event.{Event, edited, front_in, gives_up, opened, opens, port_in, steps, stepped, given_up, ticked}
-use Rattle.target_history.specs.Happening.{Happening, Start, begins, change_of, clock_after, config_after, ending_of, ends, ends_live, initializes, own_change, responses, sends}
+use Rattle.target_history.specs.Happening.{Happening, Start, acts, begins, change_of, clock_after, config_after, ending_of, ends, ends_live, initializes, own_change, responses, sends}
+
+-- the units of each disk that a target is made with
+abbrev pub Opening : Type 0
+Opening = List (List (List ℕ))
 
 -- ---- the configuration and the clock
 
 -- the disks alone, with each edit accepted in turn
-abbrev pub config_of : List ℕ → List Happening → Configuration
-config_of units [] = disks_alone units
-config_of units (x ∷ before) = config_after x.event (config_of units before)
+abbrev pub config_of : Opening → List Happening → Configuration
+config_of disks [] = disks_alone (map length disks)
+config_of disks (x ∷ before) = config_after x.event (config_of disks before)
 
 -- the greatest value that it was set to, in ms
 abbrev pub clock_of : List Happening → ℕ
@@ -48,27 +54,27 @@ clock_of (x ∷ before) = clock_after x.event (clock_of before)
 abbrev pub generation_after : Event → Configuration → List ℕ → ℕ → ℕ
 generation_after (edited edit) c host n = changes_records c (config_after (edited edit) c) host + n
 generation_after (opened port k) c host n = n
-generation_after (stepped k front) c host n = n
+generation_after (stepped k front m) c host n = n
 generation_after (given_up k) c host n = n
 generation_after (ticked now) c host n = n
 
 -- the number of edits that changed the records of a host
-abbrev pub generation_of : List ℕ → List Happening → List ℕ → ℕ
-generation_of units [] host = 0
-generation_of units (x ∷ before) host = generation_after x.event (config_of units before) host (generation_of units before host)
+abbrev pub generation_of : Opening → List Happening → List ℕ → ℕ
+generation_of disks [] host = 0
+generation_of disks (x ∷ before) host = generation_after x.event (config_of disks before) host (generation_of disks before host)
 
-abbrev pub page_of : List ℕ → List Happening → List ℕ → List ℕ
-page_of units happened host = discovery_page (generation_of units happened host % 2 ^ 64) (records_of (config_of units happened) host)
+abbrev pub page_of : Opening → List Happening → List ℕ → List ℕ
+page_of disks happened host = discovery_page (generation_of disks happened host % 2 ^ 64) (records_of (config_of disks happened) host)
 
 -- ---- the list of active namespaces (Base 2.0, section 5.17.2.2)
 
 -- the identifiers of a subsystem's namespaces above one, rising
-abbrev pub active_of : List ℕ → List Happening → List ℕ → ℕ → List ℕ
-active_of units happened subsystem above = list_page (nsids_above above (active_nsids (config_of units happened).namespaces subsystem))
+abbrev pub active_of : Opening → List Happening → List ℕ → ℕ → List ℕ
+active_of disks happened subsystem above = list_page (nsids_above above (active_nsids (config_of disks happened).namespaces subsystem))
 
 -- what log pages and lists show; a further one is a field more
-abbrev pub pages_of : List ℕ → List Happening → Pages
-pages_of units happened = record { discovery = page_of units happened; active = active_of units happened }
+abbrev pub pages_of : Opening → List Happening → Pages
+pages_of disks happened = record { discovery = page_of disks happened; active = active_of disks happened }
 
 -- ---- connections (TCP Transport 1.0, section 3)
 
@@ -259,26 +265,47 @@ abbrev pub sent : List Happening → ℕ → List ℕ
 sent [] k = []
 sent (x ∷ before) k = if opens x.event k || gives_up x.event k then [] else sent before k ++ sends x k
 
+-- ---- the disks
+
+abbrev pub with_act : Option Act → List Act → List Act
+with_act None earlier = earlier
+with_act (Some act) earlier = act ∷ earlier
+
+-- what was written, by Writes and Write Zeroes that passed every check, the newest first
+abbrev pub acts_of : List Happening → List Act
+acts_of [] = []
+acts_of (x ∷ before) = with_act (acts x) (acts_of before)
+
+-- .. to this disk
+abbrev pub writes_to : ℕ → List Act → List Write
+writes_to disk [] = []
+writes_to disk (act ∷ earlier) = if disk == act.disk then act.write ∷ writes_to disk earlier else writes_to disk earlier
+
+-- the units of a disk: those that it opened with, written over in the order of the events
+abbrev pub blocks_of : Opening → List Happening → ℕ → List (List ℕ)
+blocks_of disks happened disk = contents_after (writes_to disk (acts_of happened)) (slice_index_or disks disk [])
+
 -- ---- the world, and what happened
 
-abbrev pub world_of : List ℕ → List Happening → World
-world_of units happened = record {
-  pages = pages_of units happened;
-  config = config_of units happened;
+abbrev pub world_of : Opening → List Happening → World
+world_of disks happened = record {
+  pages = pages_of disks happened;
+  config = config_of disks happened;
   row = row_of happened;
   controller = controller_of happened;
 }
 
 -- an event after all that happened
-abbrev pub meets_after : List ℕ → List Happening → Event → Happening
-meets_after units before event = record {
+abbrev pub meets_after : Opening → List Happening → Event → Happening
+meets_after disks before event = record {
   event = event;
-  world = world_of units before;
+  world = world_of disks before;
   conversation = conversation_of before;
   clock = clock_of before;
+  blocks = blocks_of disks before;
 }
 
 -- each event with what it met
-abbrev pub happened : List ℕ → List Event → List Happening
-happened units [] = []
-happened units (event ∷ before) = meets_after units (happened units before) event ∷ happened units before
+abbrev pub happened : Opening → List Event → List Happening
+happened disks [] = []
+happened disks (event ∷ before) = meets_after disks (happened disks before) event ∷ happened disks before

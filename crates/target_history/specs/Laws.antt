@@ -11,6 +11,9 @@ use Rattle.fabrics_connect.specs.Command.{Parameters, parameters_of}
 use Rattle.fabrics_connect.specs.Connect.{is_served}
 use Rattle.fabrics_connect.specs.Controllers.{free_cntlid}
 use Rattle.fabrics_connect.specs.Row.{has_queue as has_qid}
+use Rattle.io_queue.specs.declared.operation.Operation.{Operation}
+use Rattle.io_queue.specs.Laws.{SeenAlike}
+use Rattle.io_queue.specs.Operation.{disk_of}
 use Rattle.nvt_fields.specs.declared.pdu_type.PduType.{PduType}
 use Rattle.nvt_fields.specs.declared.pdu_type.PduType.TheVariants.{CapsuleCmd}
 use Rattle.pdu_codec.specs.Sqe.{fctype_of, opcode_of}
@@ -18,6 +21,7 @@ use Rattle.pdu_cut.specs.Front.{Front, incomplete, whole, faulty}
 use Rattle.property_regs.specs.declared.regs.Change.TheVariants as effect
 use Rattle.target_decision.specs.declared.controller.Controller.{Controller}
 use Rattle.target_decision.specs.declared.decision.Change.TheVariants as change
+use Rattle.target_decision.specs.declared.decision.Decision.{Decision}
 use Rattle.target_decision.specs.declared.decision.Decision.TheVariants as decision
 use Rattle.target_decision.specs.declared.decision.Reply.{Reply}
 use Rattle.target_decision.specs.declared.decision.Setting.{Setting}
@@ -29,18 +33,19 @@ use Rattle.target_decision.specs.declared.session.Session.TheVariants.{Opened, I
 use Rattle.target_decision.specs.Begin.{bytes_at, entry_at}
 use Rattle.target_decision.specs.Capsule.{connect_type, fabrics_opcode, is_ready_at}
 use Rattle.target_decision.specs.Controller.{registers_at}
+use Rattle.target_decision.specs.Decision.{operation_of}
 use Rattle.target_decision.specs.World.{World, admin_controller}
 use Rattle.target_history.specs.Ending.{ends_timer}
 use Rattle.target_history.specs.Event.{Event, edited, front_in, gives_up, opened, opens, steps, stepped, given_up, ticked}
 use Rattle.target_history.specs.Happening.{Happening, change_of, decided, ending_of, ends, ends_live, responses}
-use Rattle.target_history.specs.History.{Admission, active_of, admission_of, clock_of, config_of, controller_of, conversation_of, happened, has_ended, is_known, is_live, mark_of, meets_after, page_of, port_of, responses_since, row_of, sent}
+use Rattle.target_history.specs.History.{Admission, active_of, Opening, admission_of, clock_of, config_of, controller_of, conversation_of, happened, has_ended, is_known, is_live, mark_of, meets_after, page_of, port_of, responses_since, row_of, sent}
 
 -- ---- what connections are sent
 
 pub record EndedAreSentNothing : Type 0 where
-  pub silent : (units : List ℕ) (events : List Event) (event : Event) (k : ℕ) → has_ended (happened units events) k ≡ true
+  pub silent : (disks : Opening) (events : List Event) (event : Event) (k : ℕ) → has_ended (happened disks events) k ≡ true
       → opens event k ≡ false → gives_up event k ≡ false
-      → sent (happened units (event ∷ events)) k ≡ sent (happened units events) k
+      → sent (happened disks (event ∷ events)) k ≡ sent (happened disks events) k
 
 -- an edit that deletes the port of a connection ends it
 pub record DeletedPortsEnd : Type 0 where
@@ -74,15 +79,15 @@ pub record ResponsesAnswerCapsules : Type 0 where
 abbrev pub is_edit : Event → Bool
 is_edit (edited edit) = true
 is_edit (opened port k) = false
-is_edit (stepped k front) = false
+is_edit (stepped k front m) = false
 is_edit (given_up k) = false
 is_edit (ticked now) = false
 
 pub record PagesChangeByEdits : Type 0 where
-  pub stays : (units : List ℕ) (x : Happening) (before : List Happening) (host : List ℕ) → is_edit x.event ≡ false
-      → page_of units (x ∷ before) host ≡ page_of units before host
-  pub lists : (units : List ℕ) (x : Happening) (before : List Happening) (subsystem : List ℕ) (above : ℕ) → is_edit x.event ≡ false
-      → active_of units (x ∷ before) subsystem above ≡ active_of units before subsystem above
+  pub stays : (disks : Opening) (x : Happening) (before : List Happening) (host : List ℕ) → is_edit x.event ≡ false
+      → page_of disks (x ∷ before) host ≡ page_of disks before host
+  pub lists : (disks : Opening) (x : Happening) (before : List Happening) (subsystem : List ℕ) (above : ℕ) → is_edit x.event ≡ false
+      → active_of disks (x ∷ before) subsystem above ≡ active_of disks before subsystem above
 
 -- the size of the queue that a Connect made, and 0 where there is none
 abbrev pub sqsize_of : Option Admission → ℕ
@@ -134,10 +139,33 @@ pub record AdminAlike (v w : World) (cntlid : ℕ) : Type 0 where
   pub controller : admin_controller v cntlid ≡ admin_controller w cntlid
   pub told : AreToldAlike (admin_controller v cntlid) v w
 
--- .. and an I/O queue whether its controller is ready
+-- what an I/O command sees of its controller
+pub record IoSeen : Type 0 where
+  pub ready : Bool
+  pub subsystem : Option (List ℕ)
+  pub port : ℕ
+
+abbrev pub io_seen : Option Row → Option IoSeen
+io_seen None = None
+io_seen (Some row) = Some (record { ready = row.ready; subsystem = row.subsystem; port = row.port })
+
+-- .. of the namespaces of its subsystem, and of the ANA states of its port
+abbrev pub SubsystemAlike : Option (List ℕ) → ℕ → World → World → Type 0
+SubsystemAlike None port v w = Unit {0}
+SubsystemAlike (Some nqn) port v w = SeenAlike port nqn v.config w.config
+
+abbrev pub AreSeenAlike : Option IoSeen → World → World → Type 0
+AreSeenAlike None v w = Unit {0}
+AreSeenAlike (Some s) v w = SubsystemAlike s.subsystem s.port v w
+
+-- .. and an I/O queue whether its controller is ready, and its namespaces and their states
+pub record IoAlike (v w : World) (cntlid : ℕ) : Type 0 where
+  pub controller : io_seen (v.row cntlid) ≡ io_seen (w.row cntlid)
+  pub seen : AreSeenAlike (io_seen (v.row cntlid)) v w
+
 abbrev pub RoleAlike : World → World → Role → Type 0
 RoleAlike v w (Admin cntlid) = AdminAlike v w cntlid
-RoleAlike v w (Io cntlid qid) = is_ready_at (v.row cntlid) ≡ is_ready_at (w.row cntlid)
+RoleAlike v w (Io cntlid qid) = IoAlike v w cntlid
 
 -- .. and a connection that is no queue what its Connect asks about, and nothing else
 abbrev pub SessionAlike : World → World → ℕ → Front → Session → Type 0
@@ -150,12 +178,22 @@ abbrev pub WorldAlike : World → World → Front → Option Conversation → Ty
 WorldAlike v w front None = Unit {0}
 WorldAlike v w front (Some c) = SessionAlike v w c.port front c.session
 
+-- the disk of an operation, where there is one, has the same blocks
+abbrev pub DiskAlike : Option Operation → (ℕ → List (List ℕ)) → (ℕ → List (List ℕ)) → Type 0
+DiskAlike None b c = Unit {0}
+DiskAlike (Some op) b c = b (disk_of op) ≡ c (disk_of op)
+
+abbrev pub operation_decided : Option Decision → Option Operation
+operation_decided None = None
+operation_decided (Some d) = operation_of d
+
 -- the same event twice, which met connection k as the same, and where it is its step in worlds that showed it
--- the same
+-- the same, with the same blocks on the disk of its operation
 pub record SameFor (k : ℕ) (x y : Happening) : Type 0 where
   pub event : y.event ≡ x.event
   pub conversation : x.conversation k ≡ y.conversation k
   pub world : steps x.event k ≡ true → WorldAlike x.world y.world (front_in x.event) (x.conversation k)
+  pub disk : DiskAlike (operation_decided (decided x k)) x.blocks y.blocks
 
 abbrev pub HappenedAlike : List Happening → List Happening → ℕ → Type 0
 HappenedAlike [] [] k = Unit {0}
@@ -163,8 +201,8 @@ HappenedAlike [] (y ∷ ys) k = ⊥
 HappenedAlike (x ∷ xs) [] k = ⊥
 HappenedAlike (x ∷ xs) (y ∷ ys) k = SameFor k x y × HappenedAlike xs ys k
 
--- a connection to which the same happened, and whose worlds showed it the same of its own controller, is sent
--- the same, whatever happens to other connections and controllers
+-- a connection to which the same happened, and whose worlds showed it the same of its own controller and its disks,
+-- is sent the same, whatever happens to other connections, controllers and disks
 pub record SentByOwnAlone : Type 0 where
   pub same : (g h : List Happening) (k : ℕ) → HappenedAlike (own g k) (own h k) k → sent g k ≡ sent h k
 
@@ -215,21 +253,21 @@ is_queue_of c (Connected role queue) = is_role_of c role
 is_queue_of c Ended = false
 
 -- The controller of this row is permitted after an edit, which does not delete its port.
-pub record StaysPermitted (units : List ℕ) (events : List Event) (edit : Edit) (c : ℕ) (row : Row) : Type 0 where
-  pub lives : row_of (happened units events) c ≡ Some row
+pub record StaysPermitted (disks : Opening) (events : List Event) (edit : Edit) (c : ℕ) (row : Row) : Type 0 where
+  pub lives : row_of (happened disks events) c ≡ Some row
   pub port : deletes edit row.port ≡ false
-  pub permitted : is_permitted (config_of units (happened units (edited edit ∷ events))) row ≡ true
+  pub permitted : is_permitted (config_of disks (happened disks (edited edit ∷ events))) row ≡ true
 
 -- .. then it outlives the edit, all as it was, and so do those of its connections whose port is not deleted
 pub record PermittedOutliveEdits : Type 0 where
-  pub row : (units : List ℕ) (events : List Event) (edit : Edit) (c : ℕ) (row : Row) → StaysPermitted units events edit c row
-      → row_of (happened units (edited edit ∷ events)) c ≡ Some row
-  pub controller : (units : List ℕ) (events : List Event) (edit : Edit) (c : ℕ) (row : Row) → StaysPermitted units events edit c row
-      → controller_of (happened units (edited edit ∷ events)) c ≡ controller_of (happened units events) c
-  pub connections : (units : List ℕ) (events : List Event) (edit : Edit) (c : ℕ) (row : Row) (k : ℕ) (v : Conversation)
-      → StaysPermitted units events edit c row → conversation_of (happened units events) k ≡ Some v
+  pub row : (disks : Opening) (events : List Event) (edit : Edit) (c : ℕ) (row : Row) → StaysPermitted disks events edit c row
+      → row_of (happened disks (edited edit ∷ events)) c ≡ Some row
+  pub controller : (disks : Opening) (events : List Event) (edit : Edit) (c : ℕ) (row : Row) → StaysPermitted disks events edit c row
+      → controller_of (happened disks (edited edit ∷ events)) c ≡ controller_of (happened disks events) c
+  pub connections : (disks : Opening) (events : List Event) (edit : Edit) (c : ℕ) (row : Row) (k : ℕ) (v : Conversation)
+      → StaysPermitted disks events edit c row → conversation_of (happened disks events) k ≡ Some v
       → is_queue_of c v.session ≡ true → deletes edit v.port ≡ false
-      → conversation_of (happened units (edited edit ∷ events)) k ≡ Some v
+      → conversation_of (happened disks (edited edit ∷ events)) k ≡ Some v
 
 abbrev pub is_deletion : Edit → Bool
 is_deletion (PortDel id) = true
@@ -238,17 +276,17 @@ is_deletion _ = false
 -- an edit that deletes the port of a controller ends it, and so does another after which its host may not use
 -- its subsystem through its port
 pub record EditsEndControllers : Type 0 where
-  pub deleted : (units : List ℕ) (events : List Event) (edit : Edit) (c : ℕ) (row : Row) → row_of (happened units events) c ≡ Some row
-      → deletes edit row.port ≡ true → row_of (happened units (edited edit ∷ events)) c ≡ None
-  pub barred : (units : List ℕ) (events : List Event) (edit : Edit) (c : ℕ) (row : Row) → row_of (happened units events) c ≡ Some row
-      → is_deletion edit ≡ false → is_permitted (config_of units (happened units (edited edit ∷ events))) row ≡ false
-      → row_of (happened units (edited edit ∷ events)) c ≡ None
+  pub deleted : (disks : Opening) (events : List Event) (edit : Edit) (c : ℕ) (row : Row) → row_of (happened disks events) c ≡ Some row
+      → deletes edit row.port ≡ true → row_of (happened disks (edited edit ∷ events)) c ≡ None
+  pub barred : (disks : Opening) (events : List Event) (edit : Edit) (c : ℕ) (row : Row) → row_of (happened disks events) c ≡ Some row
+      → is_deletion edit ≡ false → is_permitted (config_of disks (happened disks (edited edit ∷ events))) row ≡ false
+      → row_of (happened disks (edited edit ∷ events)) c ≡ None
 
 abbrev pub is_tick : Event → Bool
 is_tick (ticked now) = true
 is_tick (edited edit) = false
 is_tick (opened port k) = false
-is_tick (stepped k front) = false
+is_tick (stepped k front m) = false
 is_tick (given_up k) = false
 
 abbrev pub has_ticks : List Event → Bool
@@ -258,10 +296,10 @@ has_ticks (event ∷ events) = is_tick event || has_ticks events
 -- where the clock is never set it shows 0, as it did at each Connect and each Keep Alive, and no event ends a
 -- controller by its Keep Alive Timer
 pub record NothingExpiresWithoutTicks : Type 0 where
-  pub clock : (units : List ℕ) (events : List Event) → has_ticks events ≡ false → clock_of (happened units events) ≡ 0
-  pub mark : (units : List ℕ) (events : List Event) (c : ℕ) → has_ticks events ≡ false → mark_of (happened units events) c ≡ 0
-  pub timers : (units : List ℕ) (events : List Event) (event : Event) (controller : Option Controller) → has_ticks (event ∷ events) ≡ false
-      → ends_timer (ending_of (meets_after units (happened units events) event)) controller ≡ false
+  pub clock : (disks : Opening) (events : List Event) → has_ticks events ≡ false → clock_of (happened disks events) ≡ 0
+  pub mark : (disks : Opening) (events : List Event) (c : ℕ) → has_ticks events ≡ false → mark_of (happened disks events) c ≡ 0
+  pub timers : (disks : Opening) (events : List Event) (event : Event) (controller : Option Controller) → has_ticks (event ∷ events) ≡ false
+      → ends_timer (ending_of (meets_after disks (happened disks events) event)) controller ≡ false
 
 -- ---- queues, over all that happened
 
@@ -282,31 +320,31 @@ role_of happened k = role_at (conversation_of happened k)
 -- no two connections are one queue: not the admin queue of one controller, nor its I/O queues of one
 -- identifier
 pub record QueuesAreOfOneConnection : Type 0 where
-  pub one : (units : List ℕ) (events : List Event) (j k : ℕ) (role : Role)
-      → role_of (happened units events) j ≡ Some role → role_of (happened units events) k ≡ Some role → j ≡ k
+  pub one : (disks : Opening) (events : List Event) (j k : ℕ) (role : Role)
+      → role_of (happened disks events) j ≡ Some role → role_of (happened disks events) k ≡ Some role → j ≡ k
 
 -- each connection was opened under a number that was not known
-abbrev pub OpenVacant : List ℕ → List Event → Type 0
-OpenVacant units [] = Unit {0}
-OpenVacant units (event ∷ events) =
-    ((k : ℕ) → opens event k ≡ true → is_known (happened units events) k ≡ false) × OpenVacant units events
+abbrev pub OpenVacant : Opening → List Event → Type 0
+OpenVacant disks [] = Unit {0}
+OpenVacant disks (event ∷ events) =
+    ((k : ℕ) → opens event k ≡ true → is_known (happened disks events) k ≡ false) × OpenVacant disks events
 
 -- a controller lives exactly as long as a connection is its admin queue
 pub record ControllersLiveByTheirAdmins : Type 0 where
-  pub lives : (units : List ℕ) (events : List Event) (k c : ℕ) → role_of (happened units events) k ≡ Some (Admin c)
-      → is_live (happened units events) c ≡ true
-  pub served : (units : List ℕ) (events : List Event) (c : ℕ) → OpenVacant units events → is_live (happened units events) c ≡ true
-      → (k : ℕ) × (role_of (happened units events) k ≡ Some (Admin c))
+  pub lives : (disks : Opening) (events : List Event) (k c : ℕ) → role_of (happened disks events) k ≡ Some (Admin c)
+      → is_live (happened disks events) c ≡ true
+  pub served : (disks : Opening) (events : List Event) (c : ℕ) → OpenVacant disks events → is_live (happened disks events) c ≡ true
+      → (k : ℕ) × (role_of (happened disks events) k ≡ Some (Admin c))
 
 -- a controller that lives is on the port of each of its connections
 pub record QueuesAreOnTheirPort : Type 0 where
-  pub port : (units : List ℕ) (events : List Event) (k c : ℕ) (v : Conversation) → conversation_of (happened units events) k ≡ Some v
-      → is_queue_of c v.session ≡ true → IsSomeAnd (row_of (happened units events) c) (λ row. row.port ≡ v.port)
+  pub port : (disks : Opening) (events : List Event) (k c : ℕ) (v : Conversation) → conversation_of (happened disks events) k ≡ Some v
+      → is_queue_of c v.session ≡ true → IsSomeAnd (row_of (happened disks events) c) (λ row. row.port ≡ v.port)
 
 -- a controller has an I/O queue of an identifier exactly as long as it lives and a connection is that queue
 pub record QueueIdsAreOfConnections : Type 0 where
-  pub has : (units : List ℕ) (events : List Event) (k c q : ℕ) → role_of (happened units events) k ≡ Some (Io c q)
-      → IsSomeAnd (row_of (happened units events) c) (λ row. has_qid q row ≡ true)
-  pub served : (units : List ℕ) (events : List Event) (c q : ℕ) → OpenVacant units events
-      → IsSomeAnd (row_of (happened units events) c) (λ row. has_qid q row ≡ true)
-      → (k : ℕ) × (role_of (happened units events) k ≡ Some (Io c q))
+  pub has : (disks : Opening) (events : List Event) (k c q : ℕ) → role_of (happened disks events) k ≡ Some (Io c q)
+      → IsSomeAnd (row_of (happened disks events) c) (λ row. has_qid q row ≡ true)
+  pub served : (disks : Opening) (events : List Event) (c q : ℕ) → OpenVacant disks events
+      → IsSomeAnd (row_of (happened disks events) c) (λ row. has_qid q row ≡ true)
+      → (k : ℕ) × (role_of (happened disks events) k ≡ Some (Io c q))

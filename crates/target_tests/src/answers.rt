@@ -1,6 +1,7 @@
 //! What edits are answered with ample memory.
 use super::driver::{Script, holds};
 use super::pdus::{A, B, H1};
+use block_store::MemoryDisk;
 use nvt_config::{Access, AnaState, EditFault, Family, Item, Value};
 use nvt_fields::DISCOVERY_NQN;
 use std::alloc::Global;
@@ -133,7 +134,7 @@ const ROWS: &[(Line<'static>, Result<(), EditFault>)] = &[
 // Whether the configuration and the target answer the edit of a line so.
 fn is_answered(
     alloc: Global,
-    target: &mut Target,
+    target: &mut Target<MemoryDisk>,
     line: Line<'_>,
     answer: Result<(), EditFault>,
 ) -> bool {
@@ -143,7 +144,7 @@ fn is_answered(
     }
 }
 
-pub fn are_answered(alloc: Global, target: &mut Target) -> bool {
+pub fn are_answered(alloc: Global, target: &mut Target<MemoryDisk>) -> bool {
     for (line, answer) in ROWS {
         if !is_answered(alloc, target, *line, *answer) {
             return false;

@@ -1,12 +1,13 @@
 //! Connections, beside one another and after the end of their port.
 use super::driver::{Driver, Script, holds};
 use super::pdus::{H1, ic_req};
+use block_store::MemoryDisk;
 use std::alloc::AllocError;
 use target_core::{NoConn, StepFault, Stepped, Target};
 use test_edits::Line;
 
 // Opens 64 connections; whether they get the numbers from 0 to 63.
-fn are_all_opened(target: &mut Target) -> bool {
+fn are_all_opened(target: &mut Target<MemoryDisk>) -> bool {
     for k in 0..64usize {
         if target.open(1) != Ok(k) {
             return false;
@@ -15,7 +16,7 @@ fn are_all_opened(target: &mut Target) -> bool {
     true
 }
 
-pub fn knows_none_past_all(target: &mut Target) -> bool {
+pub fn knows_none_past_all(target: &mut Target<MemoryDisk>) -> bool {
     if !are_all_opened(target) {
         return false;
     }
@@ -89,7 +90,7 @@ fn an_ended_connection_stays_ended(rt: HostRuntime) {
 }
 
 // A second ICReq ends connection 1, while the rest of the first one of connection 0 waits.
-fn ends_one(target: &mut Target, request: &[u8], back: &[u8]) -> bool {
+fn ends_one(target: &mut Target<MemoryDisk>, request: &[u8], back: &[u8]) -> bool {
     let is_idle = target.step(0) == Ok(Stepped::Idle);
     let received = [target.receive(0, back), target.receive(1, request)];
     is_idle

@@ -1,10 +1,11 @@
 //! A target that a test drives.
 use super::pdus::{connect, ic_req, log_read, property};
 use super::{answers, connections, pages, waiting};
+use block_store::MemoryDisk;
 use nvt_config::NewFault;
 use std::alloc::{AllocError, Global};
 use target_core::{Stepped, Target};
-use test_edits::{Line, edit};
+use test_edits::{Line, edit, memory_disks};
 
 /// What a test does with its driver.
 #[derive(Clone, Copy)]
@@ -31,17 +32,25 @@ pub fn holds(alloc: Global, script: Script) -> bool {
 /// The bytes before those of a log read's data: an ICResp, two responses, and a header.
 const BEFORE_DATA: usize = 128 + 2 * 24 + 24;
 
+/// A target over disks in memory of so many units.
+pub fn target_over(alloc: Global, units: &[u64]) -> Result<Target<MemoryDisk>, NewFault> {
+    match memory_disks(alloc, units) {
+        Ok(disks) => Target::new(alloc, disks),
+        Err(AllocError) => Err(NewFault::Memory),
+    }
+}
+
 /// A target of one disk, and whether a call was refused that must not be.
 #[derive(Drop)]
 pub struct Driver {
     pub alloc: Global,
-    pub target: Target,
+    pub target: Target<MemoryDisk>,
     failed: bool,
 }
 
 impl Driver {
     fn new(alloc: Global) -> Result<Driver, NewFault> {
-        let target = Target::new(alloc, &[2048])?;
+        let target = target_over(alloc, &[2048])?;
         Ok(Driver {
             alloc,
             target,

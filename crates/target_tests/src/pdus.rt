@@ -1,5 +1,6 @@
 //! PDUs that a host sends.
 use std::alloc::{AllocError, Global};
+pub use test_edits::{capsule, ic_req};
 
 /// Names of subsystems.
 pub const A: &[u8] = b"nqn.2026-01.test:a";
@@ -10,25 +11,6 @@ pub const B: &[u8] = b"nqn.2026-01.test:b";
 pub const H1: &[u8] = b"nqn.2026-01.test:h1";
 
 pub const H2: &[u8] = b"nqn.2026-01.test:h2";
-
-/// An ICReq with both digests asked for.
-pub fn ic_req(alloc: Global) -> Result<Vec<u8>, AllocError> {
-    let mut pdu = [0u8; 128];
-    pdu[2] = 128;
-    pdu[4] = 128;
-    pdu[11] = 3;
-    Vec::from_slice(alloc, &pdu)
-}
-
-/// A capsule with this entry and data.
-pub fn capsule(alloc: Global, entry: &[u8; 64], data: &[u8]) -> Result<Vec<u8>, AllocError> {
-    let plen = (72 + data.len().min(20_000) as u32).to_le_bytes();
-    let pdo = if data.is_empty() { 0 } else { 72 };
-    let mut pdu = Vec::from_slice(alloc, &[4, 0, 72, pdo, plen[0], plen[1], plen[2], plen[3]])?;
-    pdu.extend_from_slice(entry)?;
-    pdu.extend_from_slice(data)?;
-    Ok(pdu)
-}
 
 /// The data of a Connect to the discovery subsystem.
 pub fn connect_data(host: &[u8]) -> [u8; 1024] {

@@ -181,7 +181,7 @@ const NAMESPACE: Blocks = Blocks {
 
 fn namespace_line(random: &mut Pcg32, nqn: &'static [u8]) -> Line<'static> {
     match random.next_word() % 5 {
-        0 => Line::NamespaceSize(nqn, 1, u64::from(random.next_word() % 4096)),
+        0 => Line::NamespaceSize(nqn, 1, u64::from(random.next_word() % 128)),
         1 => Line::NamespaceGroup(nqn, 1, 2),
         2 => Line::NamespaceDel(nqn, 1),
         _ => Line::NamespaceAdd(nqn, NAMESPACE),

@@ -1,3 +1,5 @@
+use crate::driver::target_over;
+use block_store::MemoryDisk;
 use nvt_config::{Edit, NewFault};
 use std::alloc::{AllocError, Global};
 use target_core::{OpenFault, Stepped, Target};
@@ -5,7 +7,7 @@ use test_edits::{Line, edit};
 
 pub const CONNECTIONS: u32 = 4;
 
-const UNITS: &[u64] = &[2048];
+const UNITS: &[u64] = &[64];
 
 // What a test knows of a connection by itself.
 #[derive(Clone, Copy)]
@@ -28,8 +30,8 @@ const UNKNOWN: Known = Known {
 #[derive(Drop)]
 pub struct Script {
     pub alloc: Global,
-    pub target: Target,
-    whole: Target,
+    pub target: Target<MemoryDisk>,
+    whole: Target<MemoryDisk>,
     known: [Known; 4],
     fault: Option<&'static str>,
 }
@@ -37,8 +39,8 @@ pub struct Script {
 impl Script {
     /// A target of one disk.
     pub fn new(alloc: Global) -> Result<Script, NewFault> {
-        let target = Target::new(alloc, UNITS)?;
-        let whole = Target::new(alloc, UNITS)?;
+        let target = target_over(alloc, UNITS)?;
+        let whole = target_over(alloc, UNITS)?;
         Ok(Script {
             alloc,
             target,
@@ -155,14 +157,14 @@ impl Script {
 }
 
 // Feeds the bytes in two pieces, each as far as there is room for it; whether one PDU is taken.
-fn is_one_taken(target: &mut Target, number: usize, bytes: &[u8], cut: usize) -> bool {
+fn is_one_taken(target: &mut Target<MemoryDisk>, number: usize, bytes: &[u8], cut: usize) -> bool {
     let (front, back) = bytes.split_at(cut.min(bytes.len()));
     let taken = [fed(target, number, front), fed(target, number, back)];
     taken == [Some(0), Some(1)] || taken == [Some(1), Some(0)]
 }
 
 // How many PDUs are taken with this piece; none where an answer is wrong.
-fn fed(target: &mut Target, number: usize, piece: &[u8]) -> Option<u32> {
+fn fed(target: &mut Target<MemoryDisk>, number: usize, piece: &[u8]) -> Option<u32> {
     let received = target.room(number).min(piece.len());
     if target.receive(number, piece) != Ok(received) {
         return None;
@@ -171,7 +173,7 @@ fn fed(target: &mut Target, number: usize, piece: &[u8]) -> Option<u32> {
 }
 
 // Steps until the target is idle, at most four times; how many PDUs were taken.
-fn steps(target: &mut Target, number: usize) -> Option<u32> {
+fn steps(target: &mut Target<MemoryDisk>, number: usize) -> Option<u32> {
     for taken in 0..4u32 {
         let waiting = target.output(number).len();
         let stepped = target.step(number);

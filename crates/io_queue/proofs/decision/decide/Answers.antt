@@ -1,8 +1,6 @@
-use Rattle.std.proofs.Common.{◌≡◌, Some, IfOk, find, sym, ap, ◌∙◌}
+use Rattle.std.proofs.Common.{sym}
 use Rattle.config_lists.specs.declared.namespace.Namespace.{Namespace}
-use Rattle.config_lists.specs.Namespace.{is_named}
-use Rattle.io_queue.specs.Decision.{IsWithin}
-use Rattle.io_queue.proofs.Within.{IsOnDisk, command_within, found_on_disk, on_disk_is_small}
+use Rattle.io_queue.proofs.Within.{command_within, found_on_disk, on_disk_is_small}
 use Rattle.io_queue.proofs.decision.decide.Goals as goal
 
 pub on_namespace-requires : goal.on_namespace-requires

@@ -1,6 +1,7 @@
 use Rattle.pdu_cut.specs.Cut.{front_shown}
 use Rattle.target_decision.specs.World.{world_in}
 use Rattle.target_decision.proofs.Begins.{decided_founds}
+use Rattle.target_decision.proofs.Within.{decided_within}
 use Rattle.target_decision.proofs.decision.decide.Goals as goal
 
 pub returns-clause-begins : goal.returns-clause-begins
@@ -10,3 +11,7 @@ returns-clause-begins c =
 pub returns-clause-named : goal.returns-clause-named
 returns-clause-named c =
     rw c.decide_front.ensures (decided_founds (world_in c.args.world.now) c.args.v.now (front_shown c.args.front.now)).1
+
+pub returns-clause-within : goal.returns-clause-within
+returns-clause-within c =
+    rw c.decide_front.ensures (decided_within (world_in c.args.world.now) c.args.v.now (front_shown c.args.front.now) c.namespaces.ensures.valid)

@@ -1,12 +1,11 @@
 use Rattle.std.proofs.Common.{refl, ap, sym, ◌∙◌}
 use Rattle.std.specs.Option.{option_copied}
-use Rattle.target_core.specs.contracts.target.Target.{the_view}
 use Rattle.target_core.proofs.Moving.{end_moves}
 use Rattle.target_core.proofs.target.Target.give_up.Goals as goal
 
 pub returns : goal.returns
-returns c =
+returns g c =
     let known = sym c.get.ensures ∙ ap option_copied c.in-Some.is in
     rw (← c.self.view_is, known)
-    (end_moves (the_view c.self.inside) _ c.args.k _ _ known (rw c.conversation.ensures at c.of_loss-ending.ensures) refl refl refl
-    c.remove.ensures.emptied (rw c.settle.ensures.connections at c.remove-2.ensures.emptied) c.settle.ensures.rows c.settle.ensures.own)
+    (end_moves _ _ c.args.k _ _ known (rw c.conversation.ensures at c.of_loss-ending.ensures) refl refl refl
+    c.remove.ensures.emptied (rw c.settle.ensures.connections at c.remove-2.ensures.emptied) c.settle.ensures.rows c.settle.ensures.own refl)

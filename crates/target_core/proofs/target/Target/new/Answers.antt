@@ -2,4 +2,4 @@ use Rattle.target_core.proofs.Agreements.{new_agrees}
 use Rattle.target_core.proofs.target.Target.new.Goals as goal
 
 pub returns-in-Ok-clause-agrees : goal.returns-in-Ok-clause-agrees
-returns-in-Ok-clause-agrees c = new_agrees _ _ (rw c.in_ok-config.ensures.ok at c.in-Ok.ensures)
+returns-in-Ok-clause-agrees g c = new_agrees _ _ c.in-Ok.ensures

@@ -2,4 +2,7 @@ use Rattle.target_core.proofs.Places.{new_is_target}
 use Rattle.target_core.proofs.target.Target.over.Goals as goal
 
 pub invariant_of-result : goal.invariant_of-result
-invariant_of-result c = new_is_target _ _ c.in_ok-new-2.ensures c.in_ok-new-3.ensures
+invariant_of-result g c = record {
+  tables = new_is_target _ _ c.in_ok-new-2.ensures c.in_ok-new-3.ensures;
+  units = c.requires;
+}

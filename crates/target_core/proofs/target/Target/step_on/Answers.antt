@@ -1,35 +1,43 @@
 use Rattle.std.proofs.Common.{refl, ap, sym, ◌∙◌}
 use Rattle.std.specs.Option.{option_copied}
-use Rattle.target_core.specs.contracts.target.Target.{the_view}
 use Rattle.controller_tables.proofs.Changing.{can_change}
-use Rattle.target_core.proofs.Stepping.{acted_known, row_known, step_done, step_is_target}
+use Rattle.target_core.proofs.Stepping.{acted_known, acts_known, row_known, step_done, step_is_target}
+use Rattle.target_decision.specs.World.{World}
 use Rattle.target_core.proofs.target.Target.step_on.Goals as goal
 
 pub invariant_of-self : goal.invariant_of-self
-invariant_of-self c =
+invariant_of-self g c =
     let stream = sym c.get.ensures ∙ ap option_copied c.in-Some.is in
     let known = sym c.get-2.ensures ∙ ap option_copied c.in-Some-get.is in
-    rw (acted_known _ _ _ _ _ _ stream c.consume.ensures, c.settle.ensures.connections, acted_known _ _ _ _ _ _ known c.in-Ok.ensures.acted)
-    (step_is_target _ _ _ _ _ _ _ _ c.self.invariant stream known)
+    let acts = acts_known _ _ _ _ _ _ _ _ _ _ known c.in-Ok.ensures.acts in
+    record {
+      tables = rw (acted_known _ _ _ _ _ _ stream c.consume.ensures, c.settle.ensures.connections, acts.placed)
+          (step_is_target _ _ _ _ _ _ _ _ c.self.invariant.tables stream known);
+      units = c.self.invariant.units ∙ sym acts.acts.sizes;
+    }
 
 pub returns-in-Ok : goal.returns-in-Ok
-returns-in-Ok c =
+returns-in-Ok g c =
     let stream = sym c.get.ensures ∙ ap option_copied c.in-Some.is in
     let known = sym c.get-2.ensures ∙ ap option_copied c.in-Some-get.is in
     let lasts = sym c.is_ended.ensures ∙ c.if-is_ended.false in
     let complete = sym c.is_incomplete.ensures ∙ c.if-is_incomplete.false in
     rw (← c.self.view_is, stream, known)
-    (step_done (the_view c.self.inside) _ _ _ _ _ _ _ _ _ _ stream known lasts c.peek-front.ensures.front complete
+    (step_done _ _ _ _ _ _ _ _ _ _ _ _ stream known lasts c.peek-front.ensures.front complete
     (rw (c.world-world.ensures, c.pages-pages.ensures, c.conversation.ensures) at c.decide-decision.ensures.decision)
     (rw c.conversation.ensures at c.of_decision.ensures) c.change_of.ensures (row_known _ _ _ _ _ known c.in-Ok.ensures.row)
     refl refl refl
-    (rw (acted_known _ _ _ _ _ _ known (rw (c.world-world.ensures, c.pages-pages.ensures) at c.in-Ok.ensures.acted)) at c.settle.ensures.connections)
+    (acts_known _ _ _ _ _ _ _ _ _ _ known (rw (c.world-world.ensures, c.pages-pages.ensures) at c.in-Ok.ensures.acts)) c.settle.ensures.connections
     (rw c.consumed_of-len.ensures at (acted_known _ _ _ _ _ _ stream c.consume.ensures))
     (λ n. rw (c.settle.ensures.rows n, c.settle.ensures.own n) at (c.change.ensures.rows n))
     (λ n. rw (c.settle.ensures.own n) at (c.change.ensures.own n)) c.stepped.ensures)
 
 pub change-requires : goal.change-requires
-change-requires c =
+change-requires g c =
     let known = sym c.get-2.ensures ∙ ap option_copied c.in-Some-get.is in
     can_change _ _ _ _ _ _ _ _ _ c.change_of.ensures (row_known _ _ _ _ _ known c.in-Ok.ensures.row)
     (rw c.world-world.ensures at c.decide-decision.ensures.begins) c.settle.ensures.rows
+
+pub act-requires-clause-within : goal.act-requires-clause-within
+act-requires-clause-within g c =
+    rw (← c.self.invariant.units) (rw (ap (λ (w : World). w.config.units) c.world-world.ensures) at c.decide-decision.ensures.within)

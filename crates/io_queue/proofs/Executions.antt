@@ -1,0 +1,212 @@
+-- Each operation, performed: what its call did to the disk is what the operation is to do.
+use Rattle.std.proofs.Common.{◌≡◌, ◌≤◌, ◌<◌, ℕ, ◌+◌, ◌*◌, ◌/◌, ◌==◌, Bool, true, false, List, [], ◌++◌, length, replicate, slice_index_or, slice_set, bytes_eq, Option, Some, None, option_map, append-nil, refl, sym, ap, ◌∙◌, arith}
+use Rattle.std.proofs.Math.ListN.{get_or-map}
+use Rattle.std.proofs.Math.Seq.{map-set_same, take-nil}
+use Rattle.std.proofs.lemmas.List.{get_or-set_other, get_or_default, get_or-set_same, length-map, length-replicate}
+use Rattle.std.proofs.lemmas.Bool.{eq-eqb, eqb-true, false≢true}
+use Rattle.block_store.proofs.Cuts.{count_is, length-first_chunks}
+use Rattle.block_store.specs.Range.{overwritten, units_of}
+use Rattle.block_store.specs.Stored.{Stored}
+use Rattle.block_store.specs.Faults.{raised}
+use Rattle.block_store.specs.Unit.{zero_unit}
+use Rattle.block_store.specs.Write.{Write}
+use Rattle.config_lists.proofs.Names.{bytes_eq-same, same_name}
+use Rattle.nvt_fields.specs.declared.status.Status.{Status}
+use Rattle.io_queue.specs.declared.operation.Extent.{Extent}
+use Rattle.io_queue.specs.declared.operation.Operation.{Operation}
+use Rattle.io_queue.specs.declared.operation.Operation.TheVariants as operation
+use Rattle.io_queue.specs.Act.{Compares, Flushes, IsOfRead, IsOfWrite, Medium, Writes, extent_bytes, faults_by, good, read_fault, read_status, write_fault_after, write_status, written_by}
+use Rattle.io_queue.specs.Execution.{Performs, PerformsOn, Syncs, SyncsIn, Tells, compared, contents_at, disk_at, faults_at, new_of, no_disk, size_of, sizes, write_of, write_on, written}
+use Rattle.io_queue.specs.Operation.{HasExtent, IsOnDisk, IsWithin, brought, disk_of}
+use Rattle.io_queue.specs.Reply.{AppendsRead, data_pdu, read_by}
+
+pub read_performed : (e : Extent) (bytes : List ℕ) (cid : ℕ) (old new : Stored) (output appended : List ℕ) (status : Status)
+    → AppendsRead cid e old new output appended status → PerformsOn (operation.Read e) bytes cid old new output appended status
+read_performed e bytes cid old new output appended status h = by h.medium h.of_read h.answer h.sends h.faults where
+  by : (m : Medium) → IsOfRead m → status ≡ read_status m → appended ≡ output ++ data_pdu cid (read_by m (extent_bytes e old))
+      → new.faults ≡ faults_by m old.faults → PerformsOn (operation.Read e) bytes cid old new output appended status
+  by good of answer sends faults = record { medium = good; meets = tt; answer = answer; sends = sends; contents = h.contents; faults = faults }
+  by read_fault of answer sends faults = record { medium = read_fault; meets = tt; answer = answer; sends = sends; contents = h.contents; faults = faults }
+  by (write_fault_after n) of answer sends faults = absurd of
+
+pub compare_performed : (e : Extent) (at : ℕ) (bytes : List ℕ) (cid : ℕ) (old new : Stored) (output : List ℕ) (status : Status)
+    → Compares e (brought e at bytes) old new status → PerformsOn (operation.Compare e at) bytes cid old new output output status
+compare_performed e at bytes cid old new output status h = by h.medium refl h.of_read h.faults where
+  is_same : (test : Bool) → bytes_eq (brought e at bytes) (extent_bytes e old) ≡ test → h.medium ≡ good → status ≡ compared test
+  is_same true same is = h.same is (same_name (brought e at bytes) (extent_bytes e old) same)
+  is_same false other is = h.other is (λ same. differ (bytes_eq-same (brought e at bytes) (extent_bytes e old) same)) where
+    differ : bytes_eq (brought e at bytes) (extent_bytes e old) ≡ true → ⊥
+    differ same = cc
+
+  by : (m : Medium) → h.medium ≡ m → IsOfRead m → new.faults ≡ faults_by m old.faults
+      → PerformsOn (operation.Compare e at) bytes cid old new output output status
+  by good is of faults = record {
+    medium = good;
+    meets = tt;
+    answer = is_same (bytes_eq (brought e at bytes) (extent_bytes e old)) refl is;
+    sends = simp append-nil;
+    contents = h.contents;
+    faults = faults;
+  }
+  by read_fault is of faults = record { medium = read_fault; meets = tt; answer = h.failed is; sends = simp append-nil; contents = h.contents; faults = faults }
+  by (write_fault_after n) is of faults = absurd of
+
+-- as many units as bytes make
+pub units_len : (bytes : List ℕ) (units : ℕ) → length bytes ≡ 512 * units → length (units_of bytes) ≡ units
+units_len bytes units is =
+    let whole : length bytes ≡ units * 512 = omega (arith, is) in
+    length-first_chunks (length bytes / 512) bytes ∙ count_is bytes units whole
+
+pub write_performed : (e : Extent) (at : ℕ) (fua : Bool) (bytes : List ℕ) (cid : ℕ) (old new : Stored) (output : List ℕ) (status : Status)
+    → length (brought e at bytes) ≡ 512 * e.units → Writes e.first (units_of (brought e at bytes)) old new status
+    → PerformsOn (operation.Write e at fua) bytes cid old new output output status
+write_performed e at fua bytes cid old new output status len h = by h.medium h.of_write h.answer h.contents h.faults where
+  units : List (List ℕ)
+  units = units_of (brought e at bytes)
+
+  by : (m : Medium) → IsOfWrite (length units) m → status ≡ write_status m → new.contents ≡ written_by m e.first units old.contents
+      → new.faults ≡ faults_by m old.faults → PerformsOn (operation.Write e at fua) bytes cid old new output output status
+  by good of answer contents faults = record { medium = good; meets = tt; answer = answer; sends = simp append-nil; contents = contents; faults = faults }
+  by read_fault of answer contents faults = absurd of
+  by (write_fault_after n) of answer contents faults = record {
+    medium = write_fault_after n;
+    meets = rw (units_len (brought e at bytes) e.units len) at of;
+    answer = answer;
+    sends = simp append-nil;
+    contents = contents;
+    faults = faults;
+  }
+
+pub zeroes_performed : (e : Extent) (fua : Bool) (bytes : List ℕ) (cid : ℕ) (old new : Stored) (output : List ℕ) (status : Status)
+    → Writes e.first (replicate e.units zero_unit) old new status → PerformsOn (operation.WriteZeroes e fua) bytes cid old new output output status
+zeroes_performed e fua bytes cid old new output status h = by h.medium h.of_write h.answer h.contents h.faults where
+  units : List (List ℕ)
+  units = replicate e.units zero_unit
+
+  by : (m : Medium) → IsOfWrite (length units) m → status ≡ write_status m → new.contents ≡ written_by m e.first units old.contents
+      → new.faults ≡ faults_by m old.faults → PerformsOn (operation.WriteZeroes e fua) bytes cid old new output output status
+  by good of answer contents faults = record { medium = good; meets = tt; answer = answer; sends = simp append-nil; contents = contents; faults = faults }
+  by read_fault of answer contents faults = absurd of
+  by (write_fault_after n) of answer contents faults = record {
+    medium = write_fault_after n;
+    meets = rw (length-replicate e.units zero_unit) at of;
+    answer = answer;
+    sends = simp append-nil;
+    contents = contents;
+    faults = faults;
+  }
+
+pub flush_performed : (disk : ℕ) (bytes : List ℕ) (cid : ℕ) (old new : Stored) (output : List ℕ) (status : Status) → Flushes old new status
+    → PerformsOn (operation.Flush disk) bytes cid old new output output status
+flush_performed disk bytes cid old new output status h = by h.medium h.of_write h.answer h.contents h.faults where
+  by : (m : Medium) → IsOfWrite 0 m → status ≡ write_status m → new.contents ≡ written_by m 0 [] old.contents
+      → new.faults ≡ faults_by m old.faults → PerformsOn (operation.Flush disk) bytes cid old new output output status
+  by good of answer contents faults = record { medium = good; meets = tt; answer = answer; sends = simp append-nil; contents = contents; faults = faults }
+  by read_fault of answer contents faults = absurd of
+  by (write_fault_after n) of answer contents faults = record {
+    medium = write_fault_after n;
+    meets = of;
+    answer = answer;
+    sends = simp append-nil;
+    contents = contents ∙ ap (overwritten old.contents 0) (take-nil n);
+    faults = faults;
+  }
+
+-- ---- one of several disks
+
+-- what a disk has that stands there now, and what the others have
+same_elsewhere : {A : Type 0} (f : Stored → A) (disks : List Stored) (i d : ℕ) (s : Stored) → (d == i) ≡ false
+    → f (disk_at (slice_set disks i s) d) ≡ f (disk_at disks d)
+same_elsewhere f disks i d s other = ap f (get_or-set_other disks i d s no_disk (λ same. differ same other)) where
+  differ : d ≡ i → (d == i) ≡ false → ⊥
+  differ same other = false≢true (sym other ∙ eq-eqb d i same)
+
+here : (disks : List Stored) (i : ℕ) (s : Stored) → i < length disks → disk_at (slice_set disks i s) i ≡ s
+here disks i s within = get_or-set_same disks i s no_disk within
+
+below : (disks : List Stored) (d : ℕ) → d < length (sizes disks) → d < length disks
+below disks d h = rw (length-map disks size_of) at h
+
+extent : (disks : List Stored) (e : Extent) → HasExtent (sizes disks) e → e.first + e.units ≤ length (contents_at disks e.disk)
+extent disks e h = rw (get_or-map size_of disks e.disk no_disk) at h.within
+
+-- what an operation asks of its disk
+pub disk_there : (disks : List Stored) (brings : ℕ) (op : Operation) → IsWithin (sizes disks) brings op → disk_of op < length disks
+disk_there disks brings (operation.Flush disk) h = below disks disk h
+disk_there disks brings (operation.Read e) h = below disks e.disk h.0.disk
+disk_there disks brings (operation.Write e at fua) h = below disks e.disk h.0.disk
+disk_there disks brings (operation.Compare e at) h = below disks e.disk h.0.disk
+disk_there disks brings (operation.WriteZeroes e fua) h = below disks e.disk h.disk
+
+on_disk : (disks : List Stored) (brings : ℕ) (op : Operation) → IsWithin (sizes disks) brings op
+    → IsOnDisk (length (contents_at disks (disk_of op))) brings op
+on_disk disks brings (operation.Flush disk) h = tt
+on_disk disks brings (operation.Read e) h = (extent disks e h.0, h.1)
+on_disk disks brings (operation.Write e at fua) h = (extent disks e h.0, h.1)
+on_disk disks brings (operation.Compare e at) h = (extent disks e h.0, h.1)
+on_disk disks brings (operation.WriteZeroes e fua) h = extent disks e h
+
+-- .. whatever stands for a disk that is not there
+pub within_on : (disks : List Stored) (brings : ℕ) (op : Operation) (none : Stored) → IsWithin (sizes disks) brings op
+    → IsOnDisk (length (slice_index_or disks (disk_of op) none).contents) brings op
+within_on disks brings op none h = rw (get_or_default disks (disk_of op) none no_disk (disk_there disks brings op h)) (on_disk disks brings op h)
+
+-- what an act makes of each disk
+acted_at : (m : Medium) (o : Option Write) (disks : List Stored) (i : ℕ) (new : Stored) → i < length disks
+    → new.contents ≡ written (option_map (new_of m) o) (contents_at disks i) → (d : ℕ) (test : Bool) → (d == i) ≡ test
+    → contents_at (slice_set disks i new) d ≡ written (write_on d (option_map (λ w. record { disk = i; write = new_of m w }) o)) (contents_at disks d)
+acted_at m None disks i new within h d true is =
+    rw (eqb-true d i is) (ap (λ (s : Stored). s.contents) (here disks i new within) ∙ h)
+acted_at m None disks i new within h d false is = same_elsewhere (λ (s : Stored). s.contents) disks i d new is
+acted_at m (Some w) disks i new within h d true is = rw is (rw (eqb-true d i is) (ap (λ (s : Stored). s.contents) (here disks i new within) ∙ h))
+acted_at m (Some w) disks i new within h d false is = rw is (same_elsewhere (λ (s : Stored). s.contents) disks i d new is)
+
+fault_changes : (faults : ℕ) → raised faults ≡ faults → ⊥
+fault_changes faults same = omega (arith, same)
+
+told : (m : Medium) (disks : List Stored) (i : ℕ) (new : Stored) → i < length disks → new.faults ≡ faults_by m (faults_at disks i)
+    → Tells m disks (slice_set disks i new)
+told m disks i new within h = by m h where
+  i_now : (n : ℕ) → new.faults ≡ n → faults_at (slice_set disks i new) i ≡ n
+  i_now n is = ap (λ (s : Stored). s.faults) (here disks i new within) ∙ is
+
+  same_at : (d : ℕ) (test : Bool) → (d == i) ≡ test → new.faults ≡ faults_at disks i → faults_at (slice_set disks i new) d ≡ faults_at disks d
+  same_at d true is same = rw (eqb-true d i is) (i_now (faults_at disks i) same)
+  same_at d false is same = same_elsewhere (λ (s : Stored). s.faults) disks i d new is
+
+  rises : new.faults ≡ raised (faults_at disks i) → ¬ ((d : ℕ) → faults_at (slice_set disks i new) d ≡ faults_at disks d)
+  rises risen same = fault_changes (faults_at disks i) (sym (i_now (raised (faults_at disks i)) risen) ∙ same i)
+
+  by : (m : Medium) → new.faults ≡ faults_by m (faults_at disks i) → Tells m disks (slice_set disks i new)
+  by good h = record { good = λ is d. same_at d (d == i) refl h; failed = λ is. absurd (false≢true (sym is)) }
+  by read_fault h = record { good = λ is. absurd (false≢true is); failed = λ is. rises h }
+  by (write_fault_after n) h = record { good = λ is. absurd (false≢true is); failed = λ is. rises h }
+
+-- an operation that is performed on one disk is performed on them all
+performed_on : (op : Operation) (bytes : List ℕ) (cid : ℕ) (disks : List Stored) (new : Stored) (output appended : List ℕ) (status : Status)
+    → disk_of op < length disks → length new.contents ≡ length (contents_at disks (disk_of op))
+    → PerformsOn op bytes cid (disk_at disks (disk_of op)) new output appended status
+    → Performs op bytes cid disks (slice_set disks (disk_of op) new) output appended status
+performed_on op bytes cid disks new output appended status within same h = record {
+  medium = h.medium;
+  meets = h.meets;
+  tells = told h.medium disks (disk_of op) new within h.faults;
+  answer = h.answer;
+  sends = h.sends;
+  contents = λ d. acted_at h.medium (write_of op bytes) disks (disk_of op) new within h.contents d (d == disk_of op) refl;
+  sizes = map-set_same size_of disks (disk_of op) new no_disk same;
+}
+
+-- .. whatever stands for a disk that is not there
+pub performed_at : (op : Operation) (bytes : List ℕ) (cid : ℕ) (disks : List Stored) (none new : Stored) (output appended : List ℕ) (status : Status)
+    → IsWithin (sizes disks) (length bytes) op → length new.contents ≡ length (slice_index_or disks (disk_of op) none).contents
+    → PerformsOn op bytes cid (slice_index_or disks (disk_of op) none) new output appended status
+    → Performs op bytes cid disks (slice_set disks (disk_of op) new) output appended status
+performed_at op bytes cid disks none new output appended status within same h =
+    let there = disk_there disks (length bytes) op within in
+    let other : slice_index_or disks (disk_of op) none ≡ disk_at disks (disk_of op) = get_or_default disks (disk_of op) none no_disk there in
+    performed_on op bytes cid disks new output appended status there (rw other at same) (rw other at h)
+
+pub synced_at : (op : Operation) (brings : ℕ) (disks : List Stored) (new : Stored) (status : Status) → IsWithin (sizes disks) brings op
+    → Syncs op new status → SyncsIn op (slice_set disks (disk_of op) new) status
+synced_at op brings disks new status within h = rw (here disks (disk_of op) new (disk_there disks brings op within)) h

@@ -1,0 +1,150 @@
+-- What an operation does to its disk, what it is answered and what it sends, by what the disk did.
+use Rattle.std.specs.Prelude.{◌≡◌, ℕ, ◌==◌, Bool, true, false, List, [], ◌++◌, length, take, replicate, bytes_eq, slice_index_or, map, Option, Some, None, option_map, if◌then◌else◌}
+use Rattle.block_store.specs.Range.{bytes_of, overwritten, units_at, units_of}
+use Rattle.block_store.specs.Stored.{Stored}
+use Rattle.block_store.specs.Unit.{zero_unit}
+use Rattle.block_store.specs.Write.{Write}
+use Rattle.nvt_fields.specs.declared.status.Status.{Status}
+use Rattle.nvt_fields.specs.Status.{compare_failure, success, unrecovered_read_error, write_fault}
+use Rattle.io_queue.specs.declared.operation.Operation.{Operation}
+use Rattle.io_queue.specs.declared.operation.Operation.TheVariants as operation
+use Rattle.io_queue.specs.Act.{IsOfRead, IsOfWrite, IsSynced, Medium, count_new, faults_by, is_good}
+use Rattle.io_queue.specs.Operation.{brought, disk_of}
+use Rattle.io_queue.specs.Reply.{data_pdu}
+
+-- ---- what it is answered
+
+-- whether an extent has the data that it is compared with
+abbrev pub compared : Bool → Status
+compared same = if same then success else compare_failure
+
+-- .. where the disk did all that was asked of it
+abbrev pub good_status : Operation → List ℕ → List (List ℕ) → Status
+good_status (operation.Compare e at) bytes contents = compared (bytes_eq (brought e at bytes) (bytes_of (units_at contents e.first e.units)))
+good_status (operation.Flush disk) bytes contents = success
+good_status (operation.Read e) bytes contents = success
+good_status (operation.Write e at fua) bytes contents = success
+good_status (operation.WriteZeroes e fua) bytes contents = success
+
+-- .. and where it failed
+abbrev pub fault_status : Operation → Status
+fault_status (operation.Flush disk) = write_fault
+fault_status (operation.Read e) = unrecovered_read_error
+fault_status (operation.Write e at fua) = write_fault
+fault_status (operation.Compare e at) = unrecovered_read_error
+fault_status (operation.WriteZeroes e fua) = write_fault
+
+-- by the data in its capsule and the contents of its disk before it
+abbrev pub status_by : Operation → List ℕ → List (List ℕ) → Medium → Status
+status_by op bytes contents m = if is_good m then good_status op bytes contents else fault_status op
+
+-- ---- what it returns
+
+-- a Read that succeeds returns the extent's bytes, and nothing else returns any
+abbrev pub returned : Operation → List (List ℕ) → Medium → Option (List ℕ)
+returned (operation.Read e) contents m = if is_good m then Some (bytes_of (units_at contents e.first e.units)) else None
+returned (operation.Flush disk) contents m = None
+returned (operation.Write e at fua) contents m = None
+returned (operation.Compare e at) contents m = None
+returned (operation.WriteZeroes e fua) contents m = None
+
+-- ---- what it writes
+
+-- what it is to write: the data in its capsule, or zeros
+abbrev pub write_of : Operation → List ℕ → Option Write
+write_of (operation.Write e at fua) bytes = Some (record { first = e.first; units = units_of (brought e at bytes) })
+write_of (operation.WriteZeroes e fua) bytes = Some (record { first = e.first; units = replicate e.units zero_unit })
+write_of (operation.Flush disk) bytes = None
+write_of (operation.Read e) bytes = None
+write_of (operation.Compare e at) bytes = None
+
+-- those of its units that are new
+abbrev pub new_of : Medium → Write → Write
+new_of m w = record { first = w.first; units = take (count_new m (length w.units)) w.units }
+
+-- a write of a disk
+pub record Act : Type 0 where
+  pub disk : ℕ
+  pub write : Write
+
+-- what it wrote
+abbrev pub act_of : Operation → List ℕ → Medium → Option Act
+act_of op bytes m = option_map (λ w. record { disk = disk_of op; write = new_of m w }) (write_of op bytes)
+
+-- what a write makes of the contents
+abbrev pub written : Option Write → List (List ℕ) → List (List ℕ)
+written None contents = contents
+written (Some w) contents = overwritten contents w.first w.units
+
+-- the write that an act is of this disk
+abbrev pub write_on : ℕ → Option Act → Option Write
+write_on disk None = None
+write_on disk (Some a) = if disk == a.disk then Some a.write else None
+
+-- ---- an operation on its disk
+
+-- the disk may do this: a Read or a Compare meets no write fault, and the others no read fault; a write that fails has
+-- at most as many new units as it was to have
+abbrev pub MayMeet : Operation → Medium → Type 0
+MayMeet (operation.Flush disk) m = IsOfWrite 0 m
+MayMeet (operation.Read e) m = IsOfRead m
+MayMeet (operation.Write e at fua) m = IsOfWrite e.units m
+MayMeet (operation.Compare e at) m = IsOfRead m
+MayMeet (operation.WriteZeroes e fua) m = IsOfWrite e.units m
+
+-- an operation is performed on its disk, and what it returns stands behind the output
+pub record PerformsOn (op : Operation) (bytes : List ℕ) (cid : ℕ) (old new : Stored) (output appended : List ℕ) (status : Status) : Type 0 where
+  pub medium : Medium
+  pub meets : MayMeet op medium
+  pub answer : status ≡ status_by op bytes old.contents medium
+  pub sends : appended ≡ output ++ data_pdu cid (returned op old.contents medium)
+  pub contents : new.contents ≡ written (option_map (new_of medium) (write_of op bytes)) old.contents
+  pub faults : new.faults ≡ faults_by medium old.faults
+
+-- where it is to last and is answered with success, what the disk holds has been synced
+abbrev pub Syncs : Operation → Stored → Status → Type 0
+Syncs (operation.Flush disk) new status = IsSynced new status
+Syncs (operation.Write e at fua) new status = fua ≡ true → IsSynced new status
+Syncs (operation.WriteZeroes e fua) new status = fua ≡ true → IsSynced new status
+Syncs (operation.Read e) new status = Unit {0}
+Syncs (operation.Compare e at) new status = Unit {0}
+
+-- ---- an operation on one of several disks
+
+abbrev pub no_disk : Stored
+no_disk = record { contents = []; synced = []; faults = 0 }
+
+abbrev pub disk_at : List Stored → ℕ → Stored
+disk_at disks d = slice_index_or disks d no_disk
+
+-- the units of a disk; none where it is not there
+abbrev pub contents_at : List Stored → ℕ → List (List ℕ)
+contents_at disks d = (disk_at disks d).contents
+
+-- how often a disk has failed
+abbrev pub faults_at : List Stored → ℕ → ℕ
+faults_at disks d = (disk_at disks d).faults
+
+abbrev pub size_of : Stored → ℕ
+size_of s = length s.contents
+
+-- the number of units of each disk
+abbrev pub sizes : List Stored → List ℕ
+sizes disks = map size_of disks
+
+-- what the disks did is good exactly where none counts a failure more
+pub record Tells (m : Medium) (old new : List Stored) : Type 0 where
+  pub good : is_good m ≡ true → (d : ℕ) → faults_at new d ≡ faults_at old d
+  pub failed : is_good m ≡ false → ¬ ((d : ℕ) → faults_at new d ≡ faults_at old d)
+
+pub record Performs (op : Operation) (bytes : List ℕ) (cid : ℕ) (old new : List Stored) (output appended : List ℕ) (status : Status) : Type 0 where
+  pub medium : Medium
+  pub meets : MayMeet op medium
+  pub tells : Tells medium old new
+  pub answer : status ≡ status_by op bytes (contents_at old (disk_of op)) medium
+  pub sends : appended ≡ output ++ data_pdu cid (returned op (contents_at old (disk_of op)) medium)
+  pub contents : (d : ℕ) → contents_at new d ≡ written (write_on d (act_of op bytes medium)) (contents_at old d)
+  pub sizes : sizes new ≡ sizes old
+
+abbrev pub SyncsIn : Operation → List Stored → Status → Type 0
+SyncsIn op new status = Syncs op (disk_at new (disk_of op)) status

@@ -1,0 +1,61 @@
+-- Laws of the I/O commands, in the words of the subject.
+use Rattle.std.specs.Prelude.{◌≡◌, ◌≤◌, ◌⊎◌, ℕ, ◌+◌, ◌*◌, Bool, List, Option, Some, find, length, replicate}
+use Rattle.config_lists.specs.GroupState.{state_for}
+use Rattle.config_lists.specs.Namespace.{is_named}
+use Rattle.config_rules.specs.Configuration.{Configuration}
+use Rattle.io_queue.specs.declared.operation.Extent.{Extent}
+use Rattle.io_queue.specs.declared.operation.Operation.{Operation}
+use Rattle.io_queue.specs.declared.operation.Operation.TheVariants as operation
+use Rattle.io_queue.specs.Act.{Medium, good}
+use Rattle.io_queue.specs.Decision.{decide}
+use Rattle.io_queue.specs.Execution.{act_of, returned, write_on, written}
+use Rattle.io_queue.specs.Operation.{IsOnDisk, brought, disk_of}
+
+-- ---- what is decided
+
+-- Two configurations show a subsystem the same on a port: which namespaces it has, and the state of each ANA group.
+pub record SeenAlike (port : ℕ) (subsystem : List ℕ) (c d : Configuration) : Type 0 where
+  pub namespaces : (nsid : ℕ) → find (is_named subsystem nsid) c.namespaces ≡ find (is_named subsystem nsid) d.namespaces
+  pub states : (group : ℕ) → state_for port subsystem group c.states ≡ state_for port subsystem group d.states
+
+-- .. then each command on a controller of it is decided the same, whatever else they have
+abbrev pub DecidedByOwnAlone : Type 0
+DecidedByOwnAlone = (c d : Configuration) (port : ℕ) (subsystem entry : List ℕ) (capsule_len : ℕ) → SeenAlike port subsystem c d
+    → decide c port subsystem entry capsule_len ≡ decide d port subsystem entry capsule_len
+
+-- ---- what is read
+
+-- what a Read of an extent returns, where these are the units of its disk, which does not fail
+abbrev pub read_from : Extent → List (List ℕ) → Option (List ℕ)
+read_from e contents = returned (operation.Read e) contents good
+
+-- the units of this disk after an operation, by the data in its capsule and what its disk did
+abbrev pub left_by : Operation → List ℕ → Medium → ℕ → List (List ℕ) → List (List ℕ)
+left_by op bytes m disk contents = written (write_on disk (act_of op bytes m)) contents
+
+-- one ends before the other begins
+abbrev pub AreApart : Extent → Extent → Type 0
+AreApart e f = (e.first + e.units ≤ f.first) ⊎ (f.first + f.units ≤ e.first)
+
+-- an operation writes at most units that are not of the extent
+abbrev pub IsBeside : Extent → Operation → Type 0
+IsBeside e (operation.Write f at fua) = AreApart e f
+IsBeside e (operation.WriteZeroes f fua) = AreApart e f
+IsBeside e (operation.Flush disk) = Unit {0}
+IsBeside e (operation.Read f) = Unit {0}
+IsBeside e (operation.Compare f at) = Unit {0}
+
+-- A Read returns what the latest Write or Write Zeroes of its extent left there; an operation on another disk, or
+-- beside the extent, changes nothing of it, whether or not its disk fails.
+pub record ReadsWhatWasWritten : Type 0 where
+  pub given : (e : Extent) (at : ℕ) (fua : Bool) (bytes : List ℕ) (contents : List (List ℕ))
+      → IsOnDisk (length contents) (length bytes) (operation.Write e at fua)
+      → read_from e (left_by (operation.Write e at fua) bytes good e.disk contents) ≡ Some (brought e at bytes)
+  pub zeros : (e : Extent) (fua : Bool) (bytes : List ℕ) (contents : List (List ℕ))
+      → IsOnDisk (length contents) (length bytes) (operation.WriteZeroes e fua)
+      → read_from e (left_by (operation.WriteZeroes e fua) bytes good e.disk contents) ≡ Some (replicate (512 * e.units) 0)
+  pub elsewhere : (e : Extent) (op : Operation) (bytes : List ℕ) (m : Medium) (contents : List (List ℕ))
+      → ¬ (e.disk ≡ disk_of op) → read_from e (left_by op bytes m e.disk contents) ≡ read_from e contents
+  pub beside : (e : Extent) (op : Operation) (bytes : List ℕ) (m : Medium) (contents : List (List ℕ))
+      → IsOnDisk (length contents) (length bytes) op → IsBeside e op
+      → read_from e (left_by op bytes m e.disk contents) ≡ read_from e contents

@@ -1,0 +1,16 @@
+use Rattle.std.proofs.Common.{refl, ap, sym, ◌∙◌}
+use Rattle.number_table.specs.Table.{with_value}
+use Rattle.target_core.proofs.Moving.{open_moves}
+use Rattle.target_core.proofs.Places.{stream_free}
+use Rattle.target_core.proofs.target.Target.open_on.Goals as goal
+
+pub returns-in-Ok-clause-opened : goal.returns-in-Ok-clause-opened
+returns-in-Ok-clause-opened g c =
+    let free = sym c.least_free.ensures ∙ c.in-Some.is in
+    let k = c.in-Some.k in
+    rw (← c.self.view_is) (
+      free,
+      open_moves _ _ c.args.port k free (stream_free _ _ _ c.self.invariant.tables free).1 refl refl refl
+          (c.put.ensures ∙ ap (with_value c.self.inside.streams k) c.in-Ok.ensures)
+          (c.put-in-Ok.ensures ∙ ap (with_value c.self.inside.connections k) c.new-in-Ok.ensures) refl refl refl,
+    )

@@ -1,0 +1,64 @@
+//! The disks that a target is made with.
+ghost use Rattle.std.specs.Prelude.{◌≡◌, ◌^◌, IfOk, length, map, nat_le};
+ghost use Rattle.std.specs.List.{list_all};
+ghost use Rattle.block_store.specs.Stored.{Stored};
+ghost use Rattle.config_rules.specs.Configuration.{are_disks};
+
+use block_store::{Disk, Store};
+use std::alloc::{AllocError, Global};
+
+/// The most disks.
+const DISKS_MAX: usize = 256;
+
+/// The most units of a disk, of 512 bytes each.
+const DISK_UNITS_MAX: u64 = 1 << 40;
+
+/// Whether a target may have these disks.
+pub(crate) fn are_disks<D: Disk>(disks: &[D]) -> bool
+    ensures { result ≡ are_disks (map length (map D.contents disks.now)) }
+{
+    disks.len() <= DISKS_MAX && are_disk_sizes(disks)
+}
+
+fn are_disk_sizes<D: Disk>(disks: &[D]) -> bool
+    ensures { let units = map length (map D.contents disks.now) in
+        result ≡ list_all (λ n. nat_le n (2 ^ 40)) units }
+{
+    match disks.split_first() {
+        Some((disk, others)) => disk.blocks() <= DISK_UNITS_MAX && are_disk_sizes(others),
+        None => true,
+    }
+}
+
+/// How many units each disk has.
+#[tactic(auto, using(crate::proofs::Units::map_twice))]
+pub(crate) fn units_of<D: Disk>(alloc: Global, disks: &[D]) -> Result<Vec<u64>, AllocError>
+    ensures { IfOk result (λ units.
+        units.items ≡ map length (map D.contents disks.now)) }
+{
+    disks.iter().map(|disk| disk.blocks()).collect(alloc)
+}
+
+/// A store over each disk.
+pub(crate) fn stores_over<D: Disk + Drop>(
+    alloc: Global,
+    disks: Vec<D>,
+) -> Result<Vec<Store<D>>, AllocError>
+    ensures { IfOk result (λ stores.
+        map (λ (s : Stored). s.contents) stores.items ≡ map D.contents disks.items) }
+{
+    stores_of(alloc, disks)
+}
+
+fn stores_of<D: Disk + Drop>(alloc: Global, disks: Vec<D>) -> Result<Vec<Store<D>>, AllocError>
+    ensures { IfOk result (λ stores. stores.items ≡ map (λ disk. record {
+      contents = D.contents disk;
+      synced = D.synced disk;
+      faults = D.faults disk;
+    }) disks.items) }
+{
+    disks
+        .into_iter()
+        .map(|disk| Store::new(disk))
+        .collect(alloc)
+}

@@ -1,0 +1,28 @@
+-- A reply whose operation is performed does what its decision says.
+use Rattle.std.proofs.Common.{◌≡◌, ℕ, List, ◌++◌, Option, append_assoc, refl, sym, ap, ◌∙◌}
+use Rattle.block_store.specs.Stored.{Stored}
+use Rattle.io_queue.specs.declared.operation.Operation.{Operation}
+use Rattle.io_queue.specs.Execution.{Performs, contents_at, returned, status_by}
+use Rattle.io_queue.specs.Operation.{disk_of}
+use Rattle.io_queue.specs.Reply.{data_pdu}
+use Rattle.nvt_fields.specs.declared.status.Status.{Status}
+use Rattle.pdu_cut.specs.Front.{Front}
+use Rattle.target_decision.specs.declared.decision.Answer.TheVariants as answer
+use Rattle.target_decision.specs.declared.decision.Decision.TheVariants as decision
+use Rattle.target_decision.specs.declared.decision.Reply.{Reply}
+use Rattle.target_decision.specs.Act.{Does}
+use Rattle.target_decision.specs.Decision.{bytes_at, response_of}
+
+pub operation_done : (r : Reply) (op : Operation) (front : Front) (payload : Option (List ℕ)) (old new : List Stored) (output mid appended : List ℕ)
+    (status : Status) → r.answer ≡ answer.Performed op → Performs op (bytes_at front) r.cid old new output mid status
+    → appended ≡ mid ++ response_of r status 0 → Does (decision.Reply r) front payload old new output appended
+operation_done r op front payload old new output mid appended status is h sends = record {
+  medium = h.medium;
+  tells = h.tells;
+  sends = rw is (sends ∙ ap (λ s. s ++ response_of r status 0) h.sends ∙ append_assoc output shown (response_of r status 0)
+      ∙ ap (λ s. output ++ (shown ++ response_of r s 0)) h.answer);
+  contents = rw is h.contents;
+  sizes = h.sizes;
+} where
+  shown : List ℕ
+  shown = data_pdu r.cid (returned op (contents_at old (disk_of op)) h.medium)

@@ -1,0 +1,13 @@
+//! A target over disks of a test's own, and a host on it with two controllers, each with one I/O queue: the
+//! capsules that it sends, and what it is answered. Tests and a benchmark share it; no other stands on it.
+#![tactic(auto)]
+
+mod command;
+mod driver;
+mod plain;
+
+pub use command::{
+    COMPARE_FAILURE, Command, LBA_OUT_OF_RANGE, Opcode, READ_ERROR, SUCCESS, WRITE_FAULT, block_len,
+};
+pub use driver::{Driver, SMALL};
+pub use plain::put;
