@@ -1,8 +1,10 @@
 //! A Write and a Read of two blocks that a disk fails at the second.
-use super::plain::{failing_disk, fill};
+use super::failing::failing_disk;
 use block_store::{FailingDisk, MemoryDisk};
 use std::alloc::Global;
-use test_queues::{Command, Driver, Opcode, READ_ERROR, SMALL, WRITE_FAULT};
+use test_queues::{
+    Command, Driver, Opcode, READ_ERROR, SMALL, Script, WRITE_FAULT, fill, holds_over,
+};
 
 type FailingDriver = Driver<FailingDisk<MemoryDisk>>;
 
@@ -39,21 +41,20 @@ enum Fails {
     Read,
 }
 
-fn runs(driver: &mut FailingDriver, fails: Fails) -> bool {
-    driver.begin(&[SMALL])
-        && match fails {
-            Fails::Write => fails_to_write(driver),
-            Fails::Read => fails_to_read(driver),
-        }
+impl Script<FailingDisk<MemoryDisk>> for Fails {
+    fn holds(&self, driver: &mut FailingDriver) -> bool {
+        driver.begin(&[SMALL])
+            && match self {
+                Fails::Write => fails_to_write(driver),
+                Fails::Read => fails_to_read(driver),
+            }
+    }
 }
 
 // The second call of the disk fails.
 fn holds(alloc: Global, fails: Fails) -> bool {
     match failing_disk(alloc, 1) {
-        Ok(disks) => match Driver::new(alloc, disks) {
-            Some(mut driver) => runs(&mut driver, fails),
-            None => false,
-        },
+        Ok(disks) => holds_over(alloc, disks, &fails),
         Err(_) => false,
     }
 }

@@ -4,9 +4,9 @@
 #![tactic(auto)]
 
 #[cfg(test)]
-mod faults;
+mod failing;
 #[cfg(test)]
-mod plain;
+mod faults;
 #[cfg(test)]
 mod random;
 #[cfg(test)]

@@ -1,11 +1,12 @@
 //! Random commands on two namespaces, through two controllers, beside a plain list of each disk's bytes.
-use super::plain::part;
 use block_store::MemoryDisk;
 use rand_core::utils::NextWord;
 use rand_pcg::Pcg32;
 use std::alloc::Global;
 use test_edits::{Blocks, memory_disks};
-use test_queues::{COMPARE_FAILURE, Command, Driver, Opcode, SMALL, block_len, put};
+use test_queues::{
+    COMPARE_FAILURE, Command, Driver, Opcode, SMALL, Script, block_len, holds_over, part, put,
+};
 
 const STEPS: u32 = 1_500;
 
@@ -163,25 +164,26 @@ fn is_whole(driver: &mut Driver<MemoryDisk>, plain: &Plain) -> bool {
         && driver.reads(1, &Command::of(Opcode::Read, 2, 0, 4), &plain.large)
 }
 
-fn runs(driver: &mut Driver<MemoryDisk>) -> bool {
-    let mut random = Pcg32::new(SEED, 0);
-    let mut plain = Plain {
-        small: [0; LEN],
-        large: [0; LEN],
-    };
-    let mut agrees = driver.begin(&[SMALL, LARGE]);
-    for _ in 0..STEPS {
-        agrees &= step(&mut random, driver, &mut plain);
+struct Steps;
+
+impl Script<MemoryDisk> for Steps {
+    fn holds(&self, driver: &mut Driver<MemoryDisk>) -> bool {
+        let mut random = Pcg32::new(SEED, 0);
+        let mut plain = Plain {
+            small: [0; LEN],
+            large: [0; LEN],
+        };
+        let mut agrees = driver.begin(&[SMALL, LARGE]);
+        for _ in 0..STEPS {
+            agrees &= step(&mut random, driver, &mut plain);
+        }
+        agrees && is_whole(driver, &plain)
     }
-    agrees && is_whole(driver, &plain)
 }
 
 fn holds(alloc: Global) -> bool {
     match memory_disks(alloc, &[32, 32]) {
-        Ok(disks) => match Driver::new(alloc, disks) {
-            Some(mut driver) => runs(&mut driver),
-            None => false,
-        },
+        Ok(disks) => holds_over(alloc, disks, &Steps),
         Err(_) => false,
     }
 }

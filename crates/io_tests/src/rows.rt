@@ -2,7 +2,7 @@
 use block_store::MemoryDisk;
 use std::alloc::Global;
 use test_edits::{Blocks, memory_disks};
-use test_queues::{Command, Driver, LBA_OUT_OF_RANGE, Opcode, SMALL};
+use test_queues::{Command, Driver, LBA_OUT_OF_RANGE, Opcode, SMALL, Script, holds_over};
 
 const LAST: Blocks = Blocks {
     blocks: 2048,
@@ -34,18 +34,19 @@ fn sent() -> [u8; 560] {
     sent
 }
 
-fn is_sent(driver: &mut Driver<MemoryDisk>) -> bool {
-    driver.begin(&[LAST])
-        && driver.sends(0, &read_of(2047), &sent())
-        && driver.answers(0, &read_of(2048), &[], &[], LBA_OUT_OF_RANGE)
+struct LastBlock;
+
+impl Script<MemoryDisk> for LastBlock {
+    fn holds(&self, driver: &mut Driver<MemoryDisk>) -> bool {
+        driver.begin(&[LAST])
+            && driver.sends(0, &read_of(2047), &sent())
+            && driver.answers(0, &read_of(2048), &[], &[], LBA_OUT_OF_RANGE)
+    }
 }
 
 fn holds(alloc: Global) -> bool {
     match memory_disks(alloc, &[2048]) {
-        Ok(disks) => match Driver::new(alloc, disks) {
-            Some(mut driver) => is_sent(&mut driver),
-            None => false,
-        },
+        Ok(disks) => holds_over(alloc, disks, &LastBlock),
         Err(_) => false,
     }
 }

@@ -3,7 +3,7 @@ use block_store::{Disk, DiskFault, MemoryDisk};
 use std::alloc::{AllocError, Global};
 use std::cell::Cell;
 use std::rc::Rc;
-use test_queues::{Command, Driver, Opcode, SMALL};
+use test_queues::{Command, Driver, Opcode, SMALL, Script, holds_over};
 
 // How often a disk was read, written and synced, and how many writes came after the latest sync.
 #[derive(Clone, Copy, PartialEq, Eq)]
@@ -157,13 +157,22 @@ fn is_done(driver: &mut Driver<CountingDisk>, row: &Row) -> bool {
     }
 }
 
-fn is_counted(driver: &mut Driver<CountingDisk>, calls: &Cell<Calls>) -> bool {
-    let mut are_counted = driver.begin(&[SMALL]) && calls.get() == NONE;
-    for row in &ROWS {
-        calls.set(NONE);
-        are_counted &= is_done(driver, row) && calls.get() == row.calls;
+// The calls that the disk counts.
+#[derive(Drop)]
+struct Counted {
+    calls: Rc<Cell<Calls>>,
+}
+
+impl Script<CountingDisk> for Counted {
+    fn holds(&self, driver: &mut Driver<CountingDisk>) -> bool {
+        let calls = &self.calls;
+        let mut are_counted = driver.begin(&[SMALL]) && calls.get() == NONE;
+        for row in &ROWS {
+            calls.set(NONE);
+            are_counted &= is_done(driver, row) && calls.get() == row.calls;
+        }
+        are_counted
     }
-    are_counted
 }
 
 fn counting_disk(alloc: Global, calls: Rc<Cell<Calls>>) -> Result<Vec<CountingDisk>, AllocError> {
@@ -178,10 +187,7 @@ fn counting_disk(alloc: Global, calls: Rc<Cell<Calls>>) -> Result<Vec<CountingDi
 fn holds(alloc: Global) -> Result<bool, AllocError> {
     let calls = Rc::new(alloc, Cell::new(NONE))?;
     let disks = counting_disk(alloc, Rc::clone(&calls)?)?;
-    match Driver::new(alloc, disks) {
-        Some(mut driver) => Ok(is_counted(&mut driver, &calls)),
-        None => Ok(false),
-    }
+    Ok(holds_over(alloc, disks, &Counted { calls }))
 }
 
 #[test]

@@ -1,9 +1,10 @@
 //! Each call of a disk failing in turn, under each command of several blocks.
-use super::plain::{failing_disk, fill, part};
+use super::failing::failing_disk;
 use block_store::{FailingDisk, MemoryDisk};
 use std::alloc::Global;
 use test_queues::{
-    COMPARE_FAILURE, Command, Driver, Opcode, READ_ERROR, SMALL, SUCCESS, WRITE_FAULT, put,
+    COMPARE_FAILURE, Command, Driver, Opcode, READ_ERROR, SMALL, SUCCESS, Script, WRITE_FAULT,
+    fill, holds_over, part, put,
 };
 
 type FailingDriver = Driver<FailingDisk<MemoryDisk>>;
@@ -186,25 +187,30 @@ fn is_done(driver: &mut FailingDriver, row: &Row) -> bool {
     is_answered(driver, row, read, row.status)
 }
 
-// Runs the command of a row, at whose call of this number the disk fails; the last number is past all.
-fn runs(driver: &mut FailingDriver, row: &Row, number: u64) -> bool {
-    let all = Command::of(Opcode::Write, 1, 0, 6);
-    driver.begin(&[SMALL])
-        && driver.writes(0, &all, &before())
-        && if number < row.calls {
-            fails_once(driver, row)
-        } else {
-            is_done(driver, row)
-        }
+// The command of a row, at whose call of this number the disk fails; the last number is past all.
+#[derive(Clone, Copy)]
+struct Turn<'a> {
+    row: &'a Row,
+    number: u64,
+}
+
+impl Script<FailingDisk<MemoryDisk>> for Turn<'_> {
+    fn holds(&self, driver: &mut FailingDriver) -> bool {
+        let all = Command::of(Opcode::Write, 1, 0, 6);
+        driver.begin(&[SMALL])
+            && driver.writes(0, &all, &before())
+            && if self.number < self.row.calls {
+                fails_once(driver, self.row)
+            } else {
+                is_done(driver, self.row)
+            }
+    }
 }
 
 // As many calls pass at first as there are blocks, which are written.
 fn holds(alloc: Global, row: &Row, number: u64) -> bool {
     match failing_disk(alloc, number.saturating_add(BLOCKS as u64)) {
-        Ok(disks) => match Driver::new(alloc, disks) {
-            Some(mut driver) => runs(&mut driver, row, number),
-            None => false,
-        },
+        Ok(disks) => holds_over(alloc, disks, &Turn { row, number }),
         Err(_) => false,
     }
 }

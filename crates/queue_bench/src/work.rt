@@ -3,7 +3,7 @@ use block_store::MemoryDisk;
 use std::alloc::{AllocError, Global};
 use std::fmt;
 use test_edits::{Blocks, memory_disks};
-use test_queues::{Command, Driver, Opcode};
+use test_queues::{Command, Driver, Opcode, Script, holds_over};
 
 const BLOCK_LEN: usize = 4096;
 
@@ -77,31 +77,37 @@ impl fmt::Display for Work {
     }
 }
 
+// A command that is sent again and again.
+#[derive(Drop)]
+struct Times {
+    capsule: Vec<u8>,
+    answer_len: usize,
+    times: u32,
+}
+
+impl Script<MemoryDisk> for Times {
+    fn holds(&self, driver: &mut Driver<MemoryDisk>) -> bool {
+        let mut each = driver.begin(&[BLOCKS]);
+        for _ in 0..self.times {
+            each &= driver.exchanges(0, &self.capsule, self.answer_len);
+        }
+        each
+    }
+}
+
 /// Connects a host to a target over a disk in memory, and does a command so many times; whether each
 /// time as many bytes were sent as are to be.
 pub fn runs(alloc: Global, work: Work, times: u32) -> bool {
-    match (connected(alloc), work.capsule(alloc)) {
-        (Some(mut driver), Ok(capsule)) => {
-            exchanges(&mut driver, &capsule, work.answer_len(), times)
-        }
+    match (memory_disks(alloc, &[128]), work.capsule(alloc)) {
+        (Ok(disks), Ok(capsule)) => holds_over(
+            alloc,
+            disks,
+            &Times {
+                capsule,
+                answer_len: work.answer_len(),
+                times,
+            },
+        ),
         _ => false,
-    }
-}
-
-fn exchanges(driver: &mut Driver<MemoryDisk>, capsule: &[u8], len: usize, times: u32) -> bool {
-    let mut each = true;
-    for _ in 0..times {
-        each &= driver.exchanges(0, capsule, len);
-    }
-    each
-}
-
-fn connected(alloc: Global) -> Option<Driver<MemoryDisk>> {
-    let disks = memory_disks(alloc, &[128]).ok()?;
-    let mut driver = Driver::new(alloc, disks)?;
-    if driver.begin(&[BLOCKS]) {
-        Some(driver)
-    } else {
-        None
     }
 }

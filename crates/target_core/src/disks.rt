@@ -31,12 +31,15 @@ fn are_disk_sizes<D: Disk>(disks: &[D]) -> bool
 }
 
 /// How many units each disk has.
-#[tactic(auto, using(crate::proofs::Units::map_twice))]
 pub(crate) fn units_of<D: Disk>(alloc: Global, disks: &[D]) -> Result<Vec<u64>, AllocError>
     ensures { IfOk result (λ units.
         units.items ≡ map length (map D.contents disks.now)) }
 {
-    disks.iter().map(|disk| disk.blocks()).collect(alloc)
+    let mut units = Vec::with_capacity(alloc, disks.len())?;
+    for disk in disks {
+        units.push(disk.blocks())?;
+    }
+    Ok(units)
 }
 
 /// A store over each disk.
@@ -57,8 +60,9 @@ fn stores_of<D: Disk + Drop>(alloc: Global, disks: Vec<D>) -> Result<Vec<Store<D
       faults = D.faults disk;
     }) disks.items) }
 {
-    disks
-        .into_iter()
-        .map(|disk| Store::new(disk))
-        .collect(alloc)
+    let mut stores = Vec::with_capacity(alloc, disks.len())?;
+    for disk in disks {
+        stores.push(Store::new(disk))?;
+    }
+    Ok(stores)
 }

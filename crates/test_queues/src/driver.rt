@@ -37,7 +37,7 @@ pub struct Driver<D: Disk> {
 
 impl<D: Disk + Drop> Driver<D> {
     /// A target over these disks.
-    pub fn new(alloc: Global, disks: Vec<D>) -> Option<Driver<D>> {
+    pub(crate) fn new(alloc: Global, disks: Vec<D>) -> Option<Driver<D>> {
         match Target::new(alloc, disks) {
             Ok(target) => Some(Driver {
                 alloc,

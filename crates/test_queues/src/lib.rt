@@ -5,9 +5,11 @@
 mod command;
 mod driver;
 mod plain;
+mod script;
 
 pub use command::{
     COMPARE_FAILURE, Command, LBA_OUT_OF_RANGE, Opcode, READ_ERROR, SUCCESS, WRITE_FAULT, block_len,
 };
 pub use driver::{Driver, SMALL};
-pub use plain::put;
+pub use plain::{fill, part, put};
+pub use script::{Script, holds_over};
