@@ -139,8 +139,8 @@ fn write_connect_result<W: fmt::Write>(
 
 fn write_data<W: fmt::Write>(f: &mut Formatter<W>, name: &str, head: DataHead) -> fmt::Result {
     let (cid, offset, len) = (head.cccid, head.datao, head.datal);
-    write!(f, "{name} CID {cid} offset {offset} length {len}")?;
-    f.write_str(data_flags(head))
+    let flags = data_flags(head);
+    write!(f, "{name} CID {cid} offset {offset} length {len}{flags}")
 }
 
 fn data_flags(head: DataHead) -> &'static str {

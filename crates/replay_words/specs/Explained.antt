@@ -2,7 +2,7 @@
 use Rattle.std.specs.Prelude.{◌≡◌, ℕ, ◌-◌, ◌==◌, not, ◌⊎◌, List, [], ◌∷◌, ◌++◌, length, take, Option, Ok}
 use Rattle.std.specs.List.{AllPass}
 use Rattle.pdu_words.specs.declared.explanation.Explanation.{Explanation}
-use Rattle.pdu_words.specs.Conversations.{Known}
+use Rattle.host_commands.specs.Conversations.{Known}
 use Rattle.replay_words.specs.Notes.{NotesLine}
 
 -- the line with more of it, up to 281 bytes: a number, ` pdu ` and 256 digits

@@ -4,7 +4,8 @@ ghost use Rattle.replay_words.specs.Notes.{HearsLine, NotesLine, bytes_of, head_
 
 use crate::lines::{PrintedLine, ScriptLine, read_printed, read_script};
 use hex::FromHexError;
-use pdu_words::{Conversations, Explanation};
+use host_commands::Conversations;
+use pdu_words::Explanation;
 use std::alloc::{AllocError, Global};
 use std::marker::Model;
 
@@ -20,7 +21,7 @@ pub struct Notes {
 
 impl Model for Notes {
     ghost use Rattle.std.specs.Prelude.{List, Option};
-    ghost use Rattle.pdu_words.specs.Conversation.{Heard};
+    ghost use Rattle.host_commands.specs.Conversation.{Heard};
 
     ghost Value = { List (Option Heard) };
 

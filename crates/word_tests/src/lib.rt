@@ -1,5 +1,5 @@
-//! Tests of the words for PDUs, through the public calls of `replay_words` and `pdu_words`, and of the
-//! readers and writers of `pdu_codec` that a host needs.
+//! Tests of the words for PDUs (`pdu_words`, `host_commands`), through the public calls of
+//! `replay_words`, and of the readers and writers of `pdu_codec` that a host needs.
 #![tactic(auto)]
 
 #[cfg(test)]

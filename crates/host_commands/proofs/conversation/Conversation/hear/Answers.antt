@@ -1,5 +1,5 @@
-use Rattle.pdu_words.proofs.Hearings.{hears_incomplete}
-use Rattle.pdu_words.proofs.conversation.Conversation.hear.Goals as goal
+use Rattle.host_commands.proofs.Hearings.{hears_incomplete}
+use Rattle.host_commands.proofs.conversation.Conversation.hear.Goals as goal
 
 pub invariant_of-self-else-hear : goal.invariant_of-self-else-hear
 invariant_of-self-else-hear c =

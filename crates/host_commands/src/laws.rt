@@ -1,6 +1,6 @@
 //! Laws of what is known of connections, in the words of the subject. Each of these functions does
 //! nothing: its contract is the law, whatever was heard.
-ghost use Rattle.pdu_words.specs.Laws.{ConnectionsAreApart, ClosedIsForgotten, SentIsKnown};
+ghost use Rattle.host_commands.specs.Laws.{ConnectionsAreApart, ClosedIsForgotten, SentIsKnown};
 
 /// What is heard or said on one connection, and its end, leave what is known of the others.
 #[tactic(auto, using(crate::proofs::Consequences::connections_are_apart))]

@@ -1,7 +1,7 @@
 use Rattle.std.proofs.Common.{◌≡◌, length}
 use Rattle.pdu_cut.specs.declared.side.Side.TheVariants as side
-use Rattle.pdu_words.proofs.Hearings.{SoFar}
-use Rattle.pdu_words.proofs.hearing.take_pdus.Given as goal
+use Rattle.host_commands.proofs.Hearings.{SoFar}
+use Rattle.host_commands.proofs.hearing.take_pdus.Given as goal
 
 abbrev pub invariant-loop-pdu : goal.invariant-loop-pdu
 invariant-loop-pdu l = record {

@@ -2,7 +2,7 @@
 use Rattle.std.specs.Prelude.{◌≡◌, ℕ, List, Option, Some, None, nat_lt, if◌then◌else◌}
 use Rattle.number_table.specs.Table.{place, with_value}
 use Rattle.pdu_words.specs.declared.explanation.Explanation.{Explanation}
-use Rattle.pdu_words.specs.Conversation.{Heard, Listens, nothing_heard, saying, words_said}
+use Rattle.host_commands.specs.Conversation.{Heard, Listens, nothing_heard, saying, words_said}
 use Rattle.pdu_words.specs.Explanation.{explanation_of}
 
 -- what is known of each connection, by its number: 64 places, of which those that are not open are empty

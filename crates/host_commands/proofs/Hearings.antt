@@ -7,8 +7,8 @@ use Rattle.pdu_cut.specs.Front.{Front, incomplete, whole, faulty, front}
 use Rattle.pdu_cut.specs.Stream.{BeginsWith, HasNoWhole}
 use Rattle.pdu_cut.proofs.Fronts.{front_faulty-append}
 use Rattle.pdu_cut.proofs.Streams.{begins_with_none, begins_with-append, begins_with_more, begins_with_taken}
-use Rattle.pdu_words.specs.Outstanding.{Outstanding}
-use Rattle.pdu_words.specs.Hearing.{Hears, TakesPdus, after_pdu, after_pdus, is_faulty}
+use Rattle.host_commands.specs.Outstanding.{Outstanding}
+use Rattle.host_commands.specs.Hearing.{Hears, TakesPdus, after_pdu, after_pdus, is_faulty}
 
 after_pdus-append : (xs ys : List Pdu) (o : Outstanding) → after_pdus (xs ++ ys) o ≡ after_pdus ys (after_pdus xs o)
 after_pdus-append [] ys o = refl

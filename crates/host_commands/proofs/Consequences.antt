@@ -1,17 +1,16 @@
 -- The laws of what is known of connections.
-use Rattle.std.proofs.Common.{◌≡◌, ◌≢◌, ℕ, ◌+◌, ◌-◌, ◌<◌, ◌==◌, zero, suc, Bool, true, cond, nat_lt, List, [], ◌∷◌, ◌++◌, length, drop, set, Option, Some, None, option_map, refl, sym, ap, ◌∙◌, arith, length-append}
+use Rattle.std.proofs.Common.{◌≡◌, ◌≢◌, ℕ, ◌-◌, ◌==◌, suc, Bool, true, cond, nat_lt, List, [], ◌∷◌, ◌++◌, length, drop, set, Option, Some, None, option_map, refl, ap, ◌∙◌, arith, length-append}
 use Rattle.std.specs.Prelude.{slice_get, reverse}
 use Rattle.std.specs.List.{position}
 use Rattle.std.proofs.lemmas.Bool.{lt-ltb}
 use Rattle.std.proofs.lemmas.Bool.Decides.{nat_tests}
 use Rattle.std.proofs.lemmas.List.{get_or-set_other, get_or-set_same, reverse-append}
-use Rattle.number_table.specs.Table.{place, with_value, without}
-use Rattle.pdu_words.specs.declared.outstanding.Sent.{Sent}
-use Rattle.pdu_words.specs.declared.subject.Which.TheVariants.{Newest}
-use Rattle.pdu_words.specs.Conversation.{Heard, saying}
-use Rattle.pdu_words.specs.Conversations.{Known, HeardBy, HeardOn, after_saying, said_on}
-use Rattle.pdu_words.specs.Laws.{Apart, ConnectionsAreApart, ClosedIsForgotten, SentIsKnown}
-use Rattle.pdu_words.specs.Outstanding.{command_of_subject, command_at, remembered, last_place_of, has_cid}
+use Rattle.number_table.specs.Table.{place}
+use Rattle.host_commands.specs.declared.outstanding.Sent.{Sent}
+use Rattle.host_commands.specs.Conversation.{Heard, saying}
+use Rattle.host_commands.specs.Conversations.{Known, HeardBy, after_saying, said_on}
+use Rattle.host_commands.specs.Laws.{ConnectionsAreApart, ClosedIsForgotten, SentIsKnown}
+use Rattle.host_commands.specs.Outstanding.{command_at, last_place_of, has_cid}
 
 others_stay : (number other : ℕ) (known : Known) (o : Option Heard) → other ≢ number
     → place (set known number o) other ≡ place known other

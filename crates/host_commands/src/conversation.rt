@@ -1,11 +1,11 @@
 //! What was heard on one connection, and is not answered yet.
 ghost use Rattle.std.specs.Prelude.{◌≡◌, IfOk};
-ghost use Rattle.pdu_words.specs.Conversation.{Listens, nothing_heard, saying, words_said};
+ghost use Rattle.host_commands.specs.Conversation.{Listens, nothing_heard, saying, words_said};
 
-use crate::explanation::{Explanation, explain};
 use crate::hearing::hear;
 use crate::outstanding::OutstandingCommands;
 use pdu_cut::{RxBuf, Side};
+use pdu_words::{Explanation, explain};
 use std::alloc::{AllocError, Global};
 use std::marker::Model;
 
@@ -23,7 +23,7 @@ impl Model for Conversation {
     ghost use Rattle.std.specs.Prelude.{◌≡◌, false};
     ghost use Rattle.pdu_cut.specs.declared.side.Side.TheVariants.{Target};
     ghost use Rattle.pdu_cut.specs.Front.{front, incomplete};
-    ghost use Rattle.pdu_words.specs.Conversation.{Heard};
+    ghost use Rattle.host_commands.specs.Conversation.{Heard};
 
     ghost Value = { Heard };
 

@@ -7,7 +7,7 @@ use Rattle.pdu_cut.specs.Front.{Front, faulty, front}
 use Rattle.pdu_cut.specs.Pdu.{Pdu, header_part}
 use Rattle.pdu_cut.specs.Stream.{IsCut}
 use Rattle.pdu_codec.specs.Sqe.{entry_in}
-use Rattle.pdu_words.specs.Outstanding.{Outstanding, sent_after}
+use Rattle.host_commands.specs.Outstanding.{Outstanding, sent_after}
 
 -- a capsule brings a command, and no other PDU does
 abbrev pub after_kind : PduType → Pdu → Outstanding → Outstanding

@@ -1,8 +1,8 @@
 use Rattle.std.proofs.Common.{◌≡◌, ◌∙◌, ap, sym}
 use Rattle.pdu_cut.specs.declared.side.Side.TheVariants.{Target}
 use Rattle.pdu_cut.specs.Front.{whole, front}
-use Rattle.pdu_words.proofs.Hearings.{so_far_taken}
-use Rattle.pdu_words.proofs.hearing.take_pdus.Goals as goal
+use Rattle.host_commands.proofs.Hearings.{so_far_taken}
+use Rattle.host_commands.proofs.hearing.take_pdus.Goals as goal
 
 pub loop-pdu-preserved : goal.loop-pdu-preserved
 loop-pdu-preserved c =

@@ -9,7 +9,7 @@ use Rattle.pdu_words.specs.declared.command.Command.TheVariants as command
 use Rattle.pdu_words.specs.declared.subject.Subject.{Subject}
 use Rattle.pdu_words.specs.declared.subject.Which.{Which}
 use Rattle.pdu_words.specs.declared.subject.Which.TheVariants.{Oldest, Newest}
-use Rattle.pdu_words.specs.declared.outstanding.Sent.{Sent}
+use Rattle.host_commands.specs.declared.outstanding.Sent.{Sent}
 use Rattle.pdu_words.specs.Command.{command_of}
 
 -- the queue that the last Connect asked for, and the commands, the oldest first

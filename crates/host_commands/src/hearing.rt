@@ -3,8 +3,8 @@ ghost use Rattle.std.specs.Prelude.{◌≡◌, ◌++◌, List, ℕ, length, Some
 ghost use Rattle.pdu_cut.specs.declared.side.Side.TheVariants as side;
 ghost use Rattle.pdu_cut.specs.Front.{front, incomplete};
 ghost use Rattle.pdu_cut.specs.Pdu.{IsWhole};
-ghost use Rattle.pdu_words.specs.Hearing.{Hears, TakesPdus, after_pdu};
-ghost use Rattle.pdu_words.specs.Outstanding.{sent_after};
+ghost use Rattle.host_commands.specs.Hearing.{Hears, TakesPdus, after_pdu};
+ghost use Rattle.host_commands.specs.Outstanding.{sent_after};
 
 use crate::outstanding::OutstandingCommands;
 use nvt_fields::PduType;

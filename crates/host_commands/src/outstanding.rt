@@ -1,13 +1,12 @@
 //! The commands that a host has sent on a connection and that are not answered yet.
 ghost use Rattle.std.specs.Prelude.{◌≡◌, ◌<◌, IfOk, IfSome, length, reverse};
 ghost use Rattle.std.specs.List.{position};
-ghost use Rattle.pdu_words.specs.Outstanding.{none_outstanding, sent_after, remembered, place_of};
-ghost use Rattle.pdu_words.specs.Outstanding.{command_of_subject, without_subject, queue_after};
-ghost use Rattle.pdu_words.specs.Outstanding.{first_place_of, last_place_of, has_cid};
+ghost use Rattle.host_commands.specs.Outstanding.{none_outstanding, sent_after, remembered, place_of};
+ghost use Rattle.host_commands.specs.Outstanding.{command_of_subject, without_subject, queue_after};
+ghost use Rattle.host_commands.specs.Outstanding.{first_place_of, last_place_of, has_cid};
 
-use crate::command::{Command, Queue};
-use crate::subject::{Subject, Which};
 use pdu_codec::Sqe;
+use pdu_words::{Command, Queue, Subject, Which};
 use std::alloc::{AllocError, Global};
 use std::marker::Model;
 
@@ -30,7 +29,7 @@ pub struct OutstandingCommands {
 
 impl Model for OutstandingCommands {
     ghost use Rattle.std.specs.Prelude.{◌≤◌, vec_len, vec_capacity};
-    ghost use Rattle.pdu_words.specs.Outstanding.{Outstanding};
+    ghost use Rattle.host_commands.specs.Outstanding.{Outstanding};
 
     ghost Value = { Outstanding };
 

@@ -1,11 +1,11 @@
 //! The connections that are open, by their numbers.
 ghost use Rattle.std.specs.Prelude.{◌≡◌, IfOk, None, OnErr, OnOk, replicate};
 ghost use Rattle.number_table.specs.Table.{place, without};
-ghost use Rattle.pdu_words.specs.Conversations.{after_saying, opened_at, said_on, HeardOn};
+ghost use Rattle.host_commands.specs.Conversations.{after_saying, opened_at, said_on, HeardOn};
 
 use crate::conversation::Conversation;
-use crate::explanation::{Explanation, explain};
 use number_table::NumberTable;
+use pdu_words::{Explanation, explain};
 use std::alloc::{AllocError, Global};
 use std::marker::Model;
 
@@ -20,7 +20,7 @@ pub struct Conversations {
 
 impl Model for Conversations {
     ghost use Rattle.std.specs.Prelude.{◌≡◌, List, Option, length};
-    ghost use Rattle.pdu_words.specs.Conversation.{Heard};
+    ghost use Rattle.host_commands.specs.Conversation.{Heard};
 
     ghost Value = { List (Option Heard) };
 

@@ -1,11 +1,11 @@
 -- Laws of what is known of connections.
-use Rattle.std.specs.Prelude.{◌≡◌, ◌≢◌, ℕ, ◌<◌, List, length, Option, Some, None}
+use Rattle.std.specs.Prelude.{◌≡◌, ◌≢◌, ℕ, ◌<◌, List, length, Some, None}
 use Rattle.number_table.specs.Table.{place, without}
-use Rattle.pdu_words.specs.declared.outstanding.Sent.{Sent}
+use Rattle.host_commands.specs.declared.outstanding.Sent.{Sent}
 use Rattle.pdu_words.specs.declared.subject.Which.TheVariants.{Newest}
-use Rattle.pdu_words.specs.Conversations.{Known, HeardOn, after_saying, said_on}
+use Rattle.host_commands.specs.Conversations.{Known, HeardOn, after_saying, said_on}
 use Rattle.pdu_words.specs.Explanation.{explanation_of}
-use Rattle.pdu_words.specs.Outstanding.{command_of_subject, remembered}
+use Rattle.host_commands.specs.Outstanding.{command_of_subject, remembered}
 
 -- another connection is as it was
 pub record Apart (number other : ℕ) (old new : Known) (bytes pdu : List ℕ) : Type 0 where

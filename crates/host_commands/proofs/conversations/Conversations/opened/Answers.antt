@@ -2,9 +2,9 @@ use Rattle.std.proofs.Common.{◌≡◌, ℕ, ◌<◌, ◌∙◌, ap, Option, So
 use Rattle.std.proofs.lemmas.Bool.{lt-ltb}
 use Rattle.std.proofs.lemmas.List.{set-set}
 use Rattle.number_table.specs.Table.{with_value, without}
-use Rattle.pdu_words.specs.Conversation.{Heard, nothing_heard}
-use Rattle.pdu_words.specs.Conversations.{Known, opened_at}
-use Rattle.pdu_words.proofs.conversations.Conversations.opened.Goals as goal
+use Rattle.host_commands.specs.Conversation.{Heard, nothing_heard}
+use Rattle.host_commands.specs.Conversations.{Known, opened_at}
+use Rattle.host_commands.proofs.conversations.Conversations.opened.Goals as goal
 
 opened_anew : (old mid new : Known) (number : ℕ) (heard : Heard) → number < 64 → mid ≡ without old number
     → heard ≡ nothing_heard → new ≡ with_value mid number heard → new ≡ opened_at number old

@@ -1,10 +1,10 @@
 use Rattle.std.proofs.Common.{◌≡◌, ℕ, ◌-◌, ◌<◌, ◌++◌, min, List, [], length, drop, take, true, false, ap, ◌∙◌, arith, length-drop}
 use Rattle.std.proofs.lemmas.Grind.{common_steps}
 use Rattle.pdu_cut.specs.Side.{capacity_of}
-use Rattle.pdu_words.specs.Hearing.{TakesPdus}
-use Rattle.pdu_words.proofs.Bounds.{incomplete_bound}
-use Rattle.pdu_words.proofs.Hearings.{so_far_piece, takes_incomplete, hears_all, hears_to_fault}
-use Rattle.pdu_words.proofs.hearing.hear.Goals as goal
+use Rattle.host_commands.specs.Hearing.{TakesPdus}
+use Rattle.host_commands.proofs.Bounds.{incomplete_bound}
+use Rattle.host_commands.proofs.Hearings.{so_far_piece, takes_incomplete, hears_all, hears_to_fault}
+use Rattle.host_commands.proofs.hearing.hear.Goals as goal
 
 smaller : (rest : List ℕ) (n held : ℕ) → n ≡ min (32768 - held) (length rest) → held < 32768 → 0 < length rest
     → length (drop n rest) < length rest

@@ -1,8 +1,8 @@
 use Rattle.std.proofs.Common.{◌≡◌, ◌++◌, length}
 use Rattle.pdu_cut.specs.declared.side.Side.TheVariants as sides
 use Rattle.pdu_cut.specs.Front.{front, incomplete}
-use Rattle.pdu_words.proofs.Hearings.{SoFar}
-use Rattle.pdu_words.proofs.hearing.hear.Given as goal
+use Rattle.host_commands.proofs.Hearings.{SoFar}
+use Rattle.host_commands.proofs.hearing.hear.Given as goal
 
 abbrev pub invariant-loop-rest : goal.invariant-loop-rest
 invariant-loop-rest l = record {

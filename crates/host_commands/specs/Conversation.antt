@@ -4,8 +4,8 @@ use Rattle.pdu_words.specs.declared.command.Command.{Command}
 use Rattle.pdu_words.specs.declared.explanation.Explanation.{Explanation}
 use Rattle.pdu_words.specs.declared.subject.Subject.{Subject}
 use Rattle.pdu_words.specs.Explanation.{explanation_of}
-use Rattle.pdu_words.specs.Hearing.{Hears}
-use Rattle.pdu_words.specs.Outstanding.{Outstanding, none_outstanding, command_of_subject, without_subject}
+use Rattle.host_commands.specs.Hearing.{Hears}
+use Rattle.host_commands.specs.Outstanding.{Outstanding, none_outstanding, command_of_subject, without_subject}
 use Rattle.pdu_words.specs.Subject.{subject_of, completes}
 
 -- what the host sent that is less than a PDU; whether a fault came; and the commands

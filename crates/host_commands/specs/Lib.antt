@@ -1,0 +1,5 @@
+pub mod Conversation
+pub mod Conversations
+pub mod Hearing
+pub mod Laws
+pub mod Outstanding
