@@ -1,6 +1,6 @@
 -- Each call keeps the agreement: from the exact clauses of a call to what its answer says.
 use Rattle.std.proofs.Common.{◌≡◌, ℕ, Bool, true, false, ◌&&◌, List, ◌++◌, length, take, drop, min, Option, Some, None, Result, Ok, Err, OnOk, OnErr, IfOk, MatchOption, refl, sym, ap, ◌∙◌, append_assoc, take-append-drop}
-use Rattle.std.specs.Prelude.{if◌then◌else◌, ◌==◌, is_none}
+use Rattle.std.specs.Prelude.{if◌then◌else◌, ◌==◌}
 use Rattle.std.specs.Option.{option_map}
 use Rattle.std.proofs.lemmas.Bool.{eqb-true}
 use Rattle.number_table.specs.Table.{place}
@@ -26,7 +26,7 @@ use Rattle.target_decision.specs.declared.session.Session.TheVariants as session
 use Rattle.target_decision.specs.Session.{is_ended}
 use Rattle.target_history.specs.Event.{edited, given_up, opened, stepped}
 use Rattle.target_history.specs.Happening.{Happening}
-use Rattle.target_history.specs.History.{Admission, Opening, admission_of, conversation_of, happened, has_ended, is_initialized, is_known, last_front, pdus_of, port_of, responses_since, sent, session_of, session_with}
+use Rattle.target_history.specs.History.{Admission, admission_of, conversation_of, happened, has_ended, is_initialized, is_known, last_front, pdus_of, port_of, responses_since, sent, session_of, session_with}
 use Rattle.target_core.proofs.Agreements.{moves_agree, same_agrees}
 
 -- ---- events

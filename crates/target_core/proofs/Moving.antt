@@ -1,40 +1,31 @@
 -- What the calls make of a target, place by place.
-use Rattle.std.proofs.Common.{◌≡◌, ℕ, ◌<◌, Bool, true, false, List, [], ◌∷◌, length, map, drop, ◌++◌, max, Option, Some, None, Ok, refl, sym, ap, ◌∙◌, append-nil}
+use Rattle.std.proofs.Common.{◌≡◌, ℕ, ◌<◌, Bool, true, false, List, [], length, map, ◌++◌, max, Option, Some, None, Ok, refl, sym, ap, ◌∙◌, append-nil}
 use Rattle.std.specs.Prelude.{if◌then◌else◌, ◌==◌, is_none, position}
 use Rattle.std.specs.Option.{option_map}
-use Rattle.std.proofs.Math.Dec.{T, eqb_refl}
-use Rattle.std.proofs.lemmas.Bool.{eqb-true}
 use Rattle.number_table.specs.Table.{place, with_value, without}
-use Rattle.number_table.proofs.Tables.{least_free-Some, place_within, place-map, place-with_value, place-without}
+use Rattle.number_table.proofs.Tables.{least_free-Some, place-map, place-with_value, place-without}
 use Rattle.config_edits.specs.declared.edit.Edit.{Edit}
 use Rattle.config_rules.specs.Accept.{accept}
 use Rattle.config_rules.specs.Configuration.{Configuration}
 use Rattle.controller_tables.specs.Controllers.{TablesState, gone_by}
 use Rattle.controller_tables.proofs.Staying.{nothing_gone, nothing_goes, nothing_leaves}
-use Rattle.fabrics_connect.specs.declared.row.Row.{Row}
 use Rattle.block_store.specs.Stored.{Stored}
 use Rattle.io_queue.specs.Act.{Medium}
 use Rattle.io_queue.specs.Execution.{contents_at}
-use Rattle.pdu_cut.specs.declared.side.Side.TheVariants.{Target}
-use Rattle.pdu_cut.specs.Front.{Front, front}
-use Rattle.target_core.specs.Connection.{ConnectionState, acted, fresh_on, settled}
+use Rattle.pdu_cut.specs.Front.{Front}
+use Rattle.target_core.specs.Connection.{ConnectionState, fresh_on, settled}
 use Rattle.target_core.specs.Moves.{Moves, connection_moved}
-use Rattle.target_core.specs.Target.{TargetState, is_incomplete, meets, world_at}
+use Rattle.target_core.specs.Target.{TargetState, meets}
 use Rattle.target_core.specs.Views.{ShowNext}
-use Rattle.target_decision.specs.declared.controller.Controller.{Controller}
-use Rattle.target_decision.specs.declared.decision.Change.{Change}
 use Rattle.target_decision.specs.declared.decision.Decision.{Decision}
 use Rattle.target_decision.specs.declared.session.Conversation.{Conversation}
 use Rattle.target_decision.specs.declared.session.Session.TheVariants.{Ended}
-use Rattle.target_decision.specs.Begin.{row_by, row_decided}
-use Rattle.target_decision.specs.Decision.{decide, is_end, consumed_of}
-use Rattle.target_decision.specs.Session.{is_ended}
 use Rattle.target_decision.specs.World.{World}
 use Rattle.target_history.specs.declared.ending.Ending.{Ending}
 use Rattle.target_history.specs.declared.ending.Ending.TheVariants as ending
-use Rattle.target_history.specs.Ending.{ending_decided, ending_edited, ending_lost, ends_by, ends_controller}
-use Rattle.target_history.specs.Event.{Event, edited, front_in, medium_in, opened, stepped, given_up, ticked}
-use Rattle.target_history.specs.Happening.{Happening, change_decided, config_after, controller_changed, decided, decision_of, ending_of, ends_live, is_end_decided, row_changed, row_kept, sends_on, session_decided, terminates}
+use Rattle.target_history.specs.Ending.{ending_edited, ending_lost, ends_by}
+use Rattle.target_history.specs.Event.{Event, edited, front_in, medium_in, opened, given_up, ticked}
+use Rattle.target_history.specs.Happening.{Happening, config_after, decided, ending_of, ends_live, row_kept, sends_on, session_decided}
 use Rattle.target_core.proofs.Settling.{same_at}
 
 abbrev pub tables_of : TargetState → TablesState

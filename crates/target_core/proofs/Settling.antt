@@ -1,5 +1,5 @@
 -- What the walks that end connections leave.
-use Rattle.std.proofs.Common.{◌≡◌, ℕ, Bool, true, false, ◌||◌, List, [], ◌∷◌, map, Option, Some, None, refl, sym, ap, ◌∙◌}
+use Rattle.std.proofs.Common.{◌≡◌, ℕ, Bool, true, false, ◌||◌, List, [], ◌∷◌, map, Option, Some, None, refl, ap}
 use Rattle.std.specs.Prelude.{if◌then◌else◌}
 use Rattle.std.specs.Option.{option_map}
 use Rattle.target_core.specs.Connection.{ConnectionState, settled}
@@ -13,7 +13,7 @@ use Rattle.target_decision.specs.declared.session.Session.TheVariants.{Opened, I
 use Rattle.target_decision.specs.Session.{replied, session_after}
 use Rattle.target_history.specs.declared.ending.Ending.{Ending}
 use Rattle.target_history.specs.declared.ending.Ending.TheVariants as ending
-use Rattle.target_history.specs.Ending.{ending_changed, ending_decided, ends_by, ends_session, is_on_port}
+use Rattle.target_history.specs.Ending.{ending_changed, ending_decided, ends_by, ends_session}
 
 -- ---- where nothing ends
 

@@ -1,5 +1,5 @@
 -- The views go on as the history does.
-use Rattle.std.proofs.Common.{◌≡◌, ℕ, List, [], ◌∷◌, length, map, Result, Ok, refl, sym, ap, ◌∙◌}
+use Rattle.std.proofs.Common.{◌≡◌, ℕ, List, [], ◌∷◌, length, map, Result, Ok, refl, sym, ◌∙◌}
 use Rattle.std.proofs.Math.Path.{fun_ext}
 use Rattle.admin_queue.specs.Pages.{Pages}
 use Rattle.change_lists.specs.ActiveView.{active_page}

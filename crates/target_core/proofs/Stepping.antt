@@ -19,11 +19,9 @@ use Rattle.target_core.specs.declared.fault.Stepped.{Stepped}
 use Rattle.target_core.specs.Connection.{ConnectionState, acted, settled}
 use Rattle.target_core.specs.Moves.{ActedAt, ActsAt, ActsOn, Moves, StepsBy, StepsOn, connection_moved, stepped_by}
 use Rattle.target_core.specs.Target.{IsTarget, TargetState, is_idle, is_incomplete, meets, world_at}
-use Rattle.target_decision.specs.declared.controller.Controller.{Controller}
 use Rattle.target_decision.specs.declared.decision.Change.{Change}
 use Rattle.target_decision.specs.declared.decision.Decision.{Decision}
 use Rattle.target_decision.specs.declared.decision.Decision.TheVariants as decision
-use Rattle.target_decision.specs.declared.session.Conversation.{Conversation}
 use Rattle.target_decision.specs.declared.session.Session.{Session}
 use Rattle.target_decision.specs.declared.session.Session.TheVariants.{Ended}
 use Rattle.target_decision.specs.Begin.{row_by, row_decided}
@@ -31,10 +29,9 @@ use Rattle.target_decision.specs.Decision.{act_by, consumed_of, decide, is_end, 
 use Rattle.target_decision.specs.Session.{is_ended, session_after}
 use Rattle.target_decision.specs.World.{World}
 use Rattle.target_history.specs.declared.ending.Ending.{Ending}
-use Rattle.target_history.specs.declared.ending.Ending.TheVariants as ending
 use Rattle.target_history.specs.Ending.{ending_decided, ends_by}
 use Rattle.target_history.specs.Event.{stepped}
-use Rattle.target_history.specs.Happening.{Happening, act_decided, change_decided, change_of, controller_changed, decided, decision_of, ending_of, ends_live, is_end_decided, port_met, row_changed, row_kept, terminates}
+use Rattle.target_history.specs.Happening.{act_decided, change_decided, change_of, controller_changed, decided, decision_of, ending_of, ends_live, is_end_decided, port_met, row_changed, row_kept, terminates}
 use Rattle.target_core.proofs.Moving.{moved_is, silent_at, stream_stays, tables_of, turned}
 use Rattle.target_core.proofs.Places.{connection_is_target, map_is_target, stream_is_target}
 use Rattle.target_core.proofs.Settling.{QuietWhere, decision_settles}

@@ -1,7 +1,7 @@
 -- A target, as its calls see it.
 use Rattle.std.specs.Prelude.{◌≡◌, ℕ, ◌-◌, ◌==◌, Bool, true, false, ◌||◌, List, [], Option, Some, None, is_none, find, position, replicate, Result, Ok, IsErr, ◌++◌, map, min, length, take, drop, if◌then◌else◌}
 use Rattle.std.specs.Option.{option_map}
-use Rattle.number_table.specs.Table.{place, with_value, without}
+use Rattle.number_table.specs.Table.{place, with_value}
 use Rattle.config_rules.specs.Configuration.{Configuration, disks_alone}
 use Rattle.config_lists.specs.declared.port.Port.{Port}
 use Rattle.controller_tables.specs.Controllers.{controller_places}

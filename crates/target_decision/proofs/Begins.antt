@@ -1,5 +1,5 @@
 -- A controller is begun under an identifier that is free, by a capsule that names its subsystem and its host well.
-use Rattle.std.proofs.Common.{◌≡◌, ℕ, Bool, true, false, List, Option, Some, None, Result, Ok, Err, refl, sym, ap, ◌∙◌}
+use Rattle.std.proofs.Common.{◌≡◌, ℕ, Bool, true, false, List, Option, Some, None, Result, Ok, Err, refl}
 use Rattle.std.specs.Prelude.{if◌then◌else◌, not, ◌==◌, nat_lt, length}
 use Rattle.admin_queue.specs.declared.outcome.Effect.{Effect}
 use Rattle.admin_queue.specs.declared.outcome.Effect.TheVariants as effect
@@ -41,7 +41,7 @@ use Rattle.target_decision.specs.declared.session.Role.TheVariants.{Admin, Io}
 use Rattle.target_decision.specs.declared.session.Session.{Session}
 use Rattle.target_decision.specs.declared.session.Session.TheVariants.{Opened, Initialized, Connected, Ended}
 use Rattle.target_decision.specs.Begin.{BeginsFree, NamesWell}
-use Rattle.target_decision.specs.Capsule.{admin_answered, admin_at, admin_by, change_by, command, command_in, fabrics_command, first_command, given_by, io_answered, io_at, io_by, io_of, is_ready_at, on_admin_queue, on_io_queue, queue_command, reply_of, set_by}
+use Rattle.target_decision.specs.Capsule.{admin_answered, admin_at, admin_by, change_by, command, command_in, fabrics_command, first_command, given_by, io_answered, io_at, io_by, io_of, is_ready_at, queue_command, reply_of, set_by}
 use Rattle.target_decision.specs.Connect.{answered, connect_on}
 use Rattle.target_decision.specs.Decision.{capsule, decide, decide_in, entry_of, first_by, initialize, next_by, terminate}
 use Rattle.target_decision.specs.Outcome.{Outcome}

@@ -1,8 +1,8 @@
 -- A reply whose operation is performed does what its decision says.
-use Rattle.std.proofs.Common.{◌≡◌, ℕ, List, ◌++◌, Option, append_assoc, refl, sym, ap, ◌∙◌}
+use Rattle.std.proofs.Common.{◌≡◌, ℕ, List, ◌++◌, Option, append_assoc, ap, ◌∙◌}
 use Rattle.block_store.specs.Stored.{Stored}
 use Rattle.io_queue.specs.declared.operation.Operation.{Operation}
-use Rattle.io_queue.specs.Execution.{Performs, contents_at, returned, status_by}
+use Rattle.io_queue.specs.Execution.{Performs, contents_at, returned}
 use Rattle.io_queue.specs.Operation.{disk_of}
 use Rattle.io_queue.specs.Reply.{data_pdu}
 use Rattle.nvt_fields.specs.declared.status.Status.{Status}

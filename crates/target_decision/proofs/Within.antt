@@ -1,9 +1,8 @@
 -- What is decided is within the disks of the configuration.
-use Rattle.std.proofs.Common.{◌≡◌, ℕ, Bool, true, false, List, length, Option, Some, None, Result, Ok, Err, IfOk, refl}
+use Rattle.std.proofs.Common.{ℕ, Bool, true, false, List, length, Option, Some, None, Result, Ok, Err, IfOk}
 use Rattle.std.specs.Prelude.{if◌then◌else◌, not, ◌==◌, nat_lt}
 use Rattle.admin_queue.specs.Controller.{AdminController}
 use Rattle.admin_queue.specs.Outcome.{Outcome as AdminOutcome}
-use Rattle.config_rules.specs.Configuration.{Configuration}
 use Rattle.config_rules.specs.Valid.{IsValid}
 use Rattle.fabrics_connect.specs.Connect.{connect}
 use Rattle.fabrics_connect.specs.declared.decision.AdmitAs.TheVariants as admit
@@ -34,7 +33,7 @@ use Rattle.target_decision.specs.declared.session.Role.{Role}
 use Rattle.target_decision.specs.declared.session.Role.TheVariants.{Admin, Io}
 use Rattle.target_decision.specs.declared.session.Session.{Session}
 use Rattle.target_decision.specs.declared.session.Session.TheVariants.{Opened, Initialized, Connected, Ended}
-use Rattle.target_decision.specs.Capsule.{admin_answered, admin_at, admin_by, command, command_in, fabrics_command, first_command, given_by, io_answered, io_at, io_by, io_of, is_ready_at, on_admin_queue, on_io_queue, queue_command, reply_of, set_by}
+use Rattle.target_decision.specs.Capsule.{admin_answered, admin_at, admin_by, command, command_in, fabrics_command, first_command, given_by, io_answered, io_at, io_by, io_of, is_ready_at, queue_command, reply_of, set_by}
 use Rattle.target_decision.specs.Connect.{answered, connect_on}
 use Rattle.target_decision.specs.Decision.{PerformsWithin, WithinIn, capsule, decide, decide_in, entry_of, first_by, initialize, next_by, operation_in, terminate}
 use Rattle.target_decision.specs.Outcome.{Outcome}

@@ -6,14 +6,13 @@ use Rattle.fabrics_connect.specs.Laws.{IsLeastFree}
 use Rattle.fabrics_connect.specs.Row.{row_begun}
 use Rattle.nvt_fields.specs.declared.pdu_type.PduType.TheVariants.{CapsuleCmd}
 use Rattle.pdu_cut.specs.Front.{Front, incomplete, whole, faulty}
-use Rattle.pdu_cut.specs.Pdu.{Pdu, data_part}
+use Rattle.pdu_cut.specs.Pdu.{data_part}
 use Rattle.target_decision.specs.declared.decision.Change.{Change}
 use Rattle.target_decision.specs.declared.decision.Change.TheVariants as change
 use Rattle.target_decision.specs.declared.decision.Decision.{Decision}
 use Rattle.target_decision.specs.declared.decision.Decision.TheVariants as decision
 pub use Rattle.target_decision.specs.Decision.{bytes_at}
 use Rattle.target_decision.specs.Decision.{entry_of}
-use Rattle.target_decision.specs.World.{World}
 
 -- the submission queue entry of the capsule at a front
 abbrev pub entry_at : Front → List ℕ

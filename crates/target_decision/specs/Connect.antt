@@ -6,7 +6,6 @@ use Rattle.fabrics_connect.specs.declared.decision.AdmitAs.TheVariants as admit
 use Rattle.fabrics_connect.specs.declared.decision.Decision.{Decision}
 use Rattle.fabrics_connect.specs.declared.decision.Decision.TheVariants.{Admit, Deny}
 use Rattle.pdu_codec.specs.Sqe.{connect_of}
-use Rattle.target_decision.specs.declared.decision.Change.{Change}
 use Rattle.target_decision.specs.declared.decision.Change.TheVariants as change
 use Rattle.target_decision.specs.Outcome.{Outcome, done}
 use Rattle.target_decision.specs.World.{World}

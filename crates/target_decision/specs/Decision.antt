@@ -1,5 +1,5 @@
 -- What is owed to a PDU, and what a decision sends.
-use Rattle.std.specs.Prelude.{ℕ, ◌*◌, nat_lt, not, ◌==◌, List, [], ◌++◌, length, Option, Some, None, Bool, true, false, if◌then◌else◌}
+use Rattle.std.specs.Prelude.{ℕ, nat_lt, not, ◌==◌, List, [], ◌++◌, length, Option, Some, None, Bool, true, false, if◌then◌else◌}
 use Rattle.admin_queue.specs.declared.payload.Payload.{Payload}
 use Rattle.admin_queue.specs.Controller.{AdminController}
 use Rattle.admin_queue.specs.Payload.{payload_bytes}

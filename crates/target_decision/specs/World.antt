@@ -1,5 +1,5 @@
 -- What a decision may look at beside its own connection.
-use Rattle.std.specs.Prelude.{ℕ, List, Option, Some, None}
+use Rattle.std.specs.Prelude.{ℕ, Option, Some, None}
 use Rattle.admin_queue.specs.Controller.{AdminController}
 use Rattle.admin_queue.specs.Pages.{Pages, pages_in}
 use Rattle.config_rules.specs.Configuration.{Configuration}

@@ -1,12 +1,10 @@
 -- What a connection is sent depends on what happened to it alone, and on what its worlds show it.
-use Rattle.std.proofs.Common.{◌≡◌, ℕ, ◌*◌, Bool, true, false, ◌||◌, ◌&&◌, List, [], ◌∷◌, ◌++◌, Option, Some, None, Ok, Err, refl, sym, ap, ◌∙◌, append-nil}
-use Rattle.std.specs.Prelude.{if◌then◌else◌, not, ◌==◌, nat_lt, length}
+use Rattle.std.proofs.Common.{◌≡◌, ℕ, Bool, true, false, ◌||◌, ◌&&◌, List, [], ◌∷◌, ◌++◌, Option, Some, None, refl, sym, ap, ◌∙◌, append-nil}
+use Rattle.std.specs.Prelude.{if◌then◌else◌, not, ◌==◌, length}
 use Rattle.admin_queue.specs.declared.payload.Payload.{Payload}
 use Rattle.admin_queue.specs.Controller.{AdminController}
 use Rattle.admin_queue.proofs.Asking.{answered_alike}
-use Rattle.fabrics_connect.specs.declared.decision.AdmitAs.TheVariants as admit
 use Rattle.fabrics_connect.specs.declared.decision.Decision as connect_decision
-use Rattle.fabrics_connect.specs.declared.decision.Decision.TheVariants.{Admit, Deny}
 use Rattle.fabrics_connect.specs.declared.row.Row.{Row}
 use Rattle.fabrics_connect.specs.Command.{Parameters, parameters_of}
 use Rattle.fabrics_connect.specs.Connect.{admitted, begun, connect, joined_by, names_verdict, permission_verdict}
@@ -15,10 +13,9 @@ use Rattle.io_queue.proofs.Deciding.{decided_alike}
 use Rattle.nvt_fields.specs.declared.pdu_type.PduType.{PduType}
 use Rattle.nvt_fields.specs.declared.pdu_type.PduType.TheVariants.{IcReq, IcResp, H2cTermReq, C2hTermReq, CapsuleCmd, CapsuleResp, H2cData, C2hData, R2t}
 use Rattle.nvt_fields.specs.Status.{command_sequence_error}
-use Rattle.pdu_codec.specs.Initialize.{ic_req_of}
-use Rattle.pdu_codec.specs.Sqe.{cid_of, fctype_of, opcode_of}
+use Rattle.pdu_codec.specs.Sqe.{fctype_of, opcode_of}
 use Rattle.pdu_cut.specs.Front.{Front, incomplete, whole, faulty}
-use Rattle.pdu_cut.specs.Pdu.{Pdu, data_part, header_part}
+use Rattle.pdu_cut.specs.Pdu.{Pdu, data_part}
 use Rattle.target_decision.specs.declared.decision.Answer.{Answer}
 use Rattle.target_decision.specs.declared.decision.Answer.TheVariants as answer
 use Rattle.target_decision.specs.declared.decision.Decision.{Decision}

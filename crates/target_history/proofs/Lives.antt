@@ -1,11 +1,8 @@
 -- What one more event makes of what the history says of a controller.
-use Rattle.std.proofs.Common.{◌≡◌, ℕ, Bool, true, false, not, ◌&&◌, ◌||◌, List, ◌∷◌, map, Option, Some, None, refl, sym, ap, ◌∙◌}
-use Rattle.std.proofs.Math.Path.{fun_ext}
+use Rattle.std.proofs.Common.{◌≡◌, ℕ, Bool, true, false, not, ◌&&◌, ◌||◌, List, ◌∷◌, Option, Some, None, refl, sym, ap, ◌∙◌}
 use Rattle.std.specs.Prelude.{if◌then◌else◌, ◌==◌, is_some, unwrap_or}
-use Rattle.std.specs.List.{range_with_len}
 use Rattle.std.specs.Option.{option_map}
 use Rattle.fabrics_connect.specs.declared.row.Row.{Row}
-use Rattle.fabrics_connect.specs.QueueIds.{no_queues}
 use Rattle.fabrics_connect.specs.Row.{joined, left, left_all, with_ready}
 use Rattle.fabrics_connect.proofs.Queues.{set-map_true, set-map_false}
 use Rattle.property_regs.specs.declared.regs.Regs.{Regs}
@@ -19,7 +16,7 @@ use Rattle.target_decision.specs.Controller.{new_controller, with_property, with
 use Rattle.target_history.specs.declared.ending.Ending.{Ending}
 use Rattle.target_history.specs.declared.ending.Ending.TheVariants as ending
 use Rattle.target_history.specs.Event.{front_in}
-use Rattle.target_history.specs.Happening.{Happening, Start, begins, begins_by, change_of, controller_after, controller_changed, ending_of, ends_live, port_met, ready_after, row_after, row_changed, row_kept, row_left, started}
+use Rattle.target_history.specs.Happening.{Happening, Start, begins_by, change_of, controller_after, controller_changed, ending_of, ends_live, port_met, ready_after, row_after, row_changed, row_kept, row_left, started}
 use Rattle.target_history.specs.History.{beats_by, controller_of, controller_with, drops_by, has_queue, joins_by, kato_by, kato_of, mark_of, registers_by, registers_of, row_of, row_with, start_of, start_or}
 
 -- ---- the queues of a controller

@@ -23,7 +23,7 @@ use Rattle.target_decision.specs.Session.{opened_on, replied}
 use Rattle.target_decision.specs.World.{World}
 use Rattle.target_history.specs.Ending.{ends_by}
 use Rattle.target_history.specs.Event.{front_in, gives_up, opens, port_in, steps}
-use Rattle.target_history.specs.Happening.{Happening, change_decided, conversation_after, conversation_moved, decided_on, ending_of, ends, ends_live, initializes, is_end_decided, is_initialize, own_change, responses, responses_decided, session_decided}
+use Rattle.target_history.specs.Happening.{Happening, change_decided, conversation_after, conversation_moved, decided_on, ending_of, ends, ends_live, initializes, is_end_decided, is_initialize, responses, responses_decided, session_decided}
 use Rattle.target_history.specs.History.{Admission, admission_by, admission_of, admission_or, admits, conversation_of, has_ended, is_initialized, is_known, port_of, responses_by, responses_since, session_of, session_with}
 use Rattle.target_history.proofs.Heads.{head_goes_round}
 

@@ -1,5 +1,5 @@
 -- What an event ends beside the connection that it is a step of: each cause that lies elsewhere.
-use Rattle.std.specs.Prelude.{ℕ, ◌+◌, ◌-◌, ◌*◌, ◌/◌, nat_lt, Bool, true, false, not, ◌==◌, ◌||◌, ◌&&◌, List, Option, Some, None}
+use Rattle.std.specs.Prelude.{ℕ, ◌+◌, ◌-◌, ◌*◌, ◌/◌, nat_lt, Bool, false, not, ◌==◌, ◌||◌, ◌&&◌, List, Option, Some, None}
 use Rattle.config_edits.specs.declared.edit.Edit.{Edit}
 use Rattle.config_edits.specs.declared.edit.Edit.TheVariants.{PortDel}
 use Rattle.config_rules.specs.Configuration.{Configuration}

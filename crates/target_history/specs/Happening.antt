@@ -9,7 +9,6 @@ use Rattle.fabrics_connect.specs.Row.{joined, left, left_all, row_begun, with_re
 use Rattle.io_queue.specs.Act.{Medium}
 use Rattle.io_queue.specs.Execution.{Act}
 use Rattle.pdu_cut.specs.Front.{Front}
-use Rattle.property_regs.specs.declared.kind.ControllerKind.{ControllerKind}
 use Rattle.property_regs.specs.Regs.{is_ready, regs_after}
 use Rattle.target_decision.specs.declared.controller.Controller.{Controller}
 use Rattle.target_decision.specs.declared.decision.Beginning.{Beginning}
@@ -22,7 +21,7 @@ use Rattle.target_decision.specs.declared.session.Conversation.{Conversation}
 use Rattle.target_decision.specs.declared.session.Session.{Session}
 use Rattle.target_decision.specs.declared.session.Session.TheVariants.{Ended}
 use Rattle.target_decision.specs.Begin.{bytes_at, entry_at, row_by}
-use Rattle.target_decision.specs.Controller.{new_controller, registers_at, with_property, with_timer}
+use Rattle.target_decision.specs.Controller.{new_controller, with_property, with_timer}
 use Rattle.target_decision.specs.Decision.{act_by, decide, is_end, sent_by}
 use Rattle.target_decision.specs.Session.{is_ended, opened_on, session_after}
 use Rattle.target_decision.specs.World.{World}
