@@ -3,8 +3,8 @@ use crate::command::{A, Command, H1, Opcode, SUCCESS, connect, enable, is_reply}
 use block_store::Disk;
 use nvt_config::Access;
 use std::alloc::{AllocError, Global};
-use target_core::{Stepped, Target};
-use test_edits::{Blocks, Line, edit, ic_req};
+use test_edits::{Blocks, Line, ic_req};
+use test_targets::TestTarget;
 
 /// The namespace of 512-byte blocks, all 32 units of disk 0.
 pub const SMALL: Blocks = Blocks {
@@ -30,7 +30,7 @@ const BASE: &[Line<'static>] = &[
 #[derive(Drop)]
 pub struct Driver<D: Disk> {
     alloc: Global,
-    target: Target<D>,
+    target: TestTarget<D>,
     // The head that each queue's latest response gave.
     heads: [u8; 2],
 }
@@ -38,13 +38,13 @@ pub struct Driver<D: Disk> {
 impl<D: Disk + Drop> Driver<D> {
     /// A target over these disks.
     pub(crate) fn new(alloc: Global, disks: Vec<D>) -> Option<Driver<D>> {
-        match Target::new(alloc, disks) {
-            Ok(target) => Some(Driver {
+        match TestTarget::over(alloc, disks) {
+            Some(target) => Some(Driver {
                 alloc,
                 target,
                 heads: [1; 2],
             }),
-            Err(_) => None,
+            None => None,
         }
     }
 
@@ -52,19 +52,12 @@ impl<D: Disk + Drop> Driver<D> {
     pub fn begin(&mut self, namespaces: &[Blocks]) -> bool {
         let mut begins = true;
         for line in BASE {
-            begins &= self.edits(*line);
+            begins &= self.target.edits(*line);
         }
         for blocks in namespaces {
-            begins &= self.edits(Line::NamespaceAdd(A, *blocks));
+            begins &= self.target.edits(Line::NamespaceAdd(A, *blocks));
         }
         begins && self.connects(0, [1, 0]) && self.connects(2, [2, 0])
-    }
-
-    fn edits(&mut self, line: Line<'_>) -> bool {
-        match edit(self.alloc, line) {
-            Ok(edit) => self.target.edit(&edit) == Ok(()),
-            Err(_) => false,
-        }
     }
 
     // Connects both queues of the controller of this number, the admin queue by the connection `k`.
@@ -74,7 +67,7 @@ impl<D: Disk + Drop> Driver<D> {
         self.is_connected(k, 0, [0xFF; 2], controller)
             && self.takes(k, enable(alloc))
             && self.is_connected(io, 1, controller, controller)
-            && self.empties(io)
+            && self.target.empties(io)
     }
 
     fn is_connected(&mut self, k: usize, queue: u8, given: [u8; 2], controller: [u8; 2]) -> bool {
@@ -84,29 +77,18 @@ impl<D: Disk + Drop> Driver<D> {
         response[8..10].copy_from_slice(&controller);
         response[16] = 1;
         response[20] = 1;
-        self.target.open(1) == Ok(k)
+        self.target.opens(k)
             && self.takes(k, ic_req(alloc))
             && self.takes(k, connect(alloc, queue, given))
-            && self.target.output(k).get(128..) == Some(&response)
+            && self.target.sent(k).get(128..) == Some(&response)
     }
 
     // Brings a whole PDU, and takes it.
     fn takes(&mut self, k: usize, pdu: Result<Vec<u8>, AllocError>) -> bool {
         match pdu {
-            Ok(bytes) => self.takes_bytes(k, &bytes),
+            Ok(bytes) => self.target.takes(k, &bytes),
             Err(AllocError) => false,
         }
-    }
-
-    fn takes_bytes(&mut self, k: usize, bytes: &[u8]) -> bool {
-        self.target.receive(k, bytes) == Ok(bytes.len()) && self.target.step(k) == Ok(Stepped::One)
-    }
-
-    // Takes all output.
-    fn empties(&mut self, k: usize) -> bool {
-        let len = self.target.output(k).len();
-        self.target.taken(k, len);
-        self.target.output(k).is_empty()
     }
 
     // The head that the next response of a queue gives: a queue has 32 entries.
@@ -134,8 +116,8 @@ impl<D: Disk + Drop> Driver<D> {
         let k = connection_of(queue);
         let pdu = command.pdu(self.alloc, data);
         self.takes(k, pdu)
-            && is_reply(self.target.output(k), command.cid, head, read, status)
-            && self.empties(k)
+            && is_reply(self.target.sent(k), command.cid, head, read, status)
+            && self.target.empties(k)
     }
 
     /// Whether a command without data is answered with these bytes.
@@ -143,13 +125,13 @@ impl<D: Disk + Drop> Driver<D> {
         let _head = self.next_head(queue);
         let k = connection_of(queue);
         let pdu = command.pdu(self.alloc, &[]);
-        self.takes(k, pdu) && *self.target.output(k) == *wanted && self.empties(k)
+        self.takes(k, pdu) && *self.target.sent(k) == *wanted && self.target.empties(k)
     }
 
     /// Whether a command's capsule is taken, and so many bytes are sent, which are taken away.
     pub fn exchanges(&mut self, queue: usize, capsule: &[u8], len: usize) -> bool {
         let k = connection_of(queue);
-        self.takes_bytes(k, capsule) && self.target.output(k).len() == len && self.empties(k)
+        self.target.takes(k, capsule) && self.target.sent(k).len() == len && self.target.empties(k)
     }
 
     /// Whether a command of no data is done.
@@ -175,9 +157,9 @@ impl<D: Disk + Drop> Driver<D> {
         let k = connection_of(queue);
         let pdu = command.pdu(self.alloc, &[]);
         self.takes(k, pdu)
-            && is_copied(self.target.output(k), out)
-            && is_reply(self.target.output(k), command.cid, head, out, SUCCESS)
-            && self.empties(k)
+            && is_copied(self.target.sent(k), out)
+            && is_reply(self.target.sent(k), command.cid, head, out, SUCCESS)
+            && self.target.empties(k)
     }
 }
 

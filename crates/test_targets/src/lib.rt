@@ -1,0 +1,6 @@
+//! A target of a test's own, and what a test does to it: each call says whether it went as it has to.
+#![tactic(auto)]
+
+mod target;
+
+pub use target::TestTarget;
