@@ -38,7 +38,10 @@ class Crate:
     below: list
 
     def root_file(self):
-        return "src/main.rt" if os.path.isfile(f"{self.folder}/src/main.rt") else "src/lib.rt"
+        return "src/lib.rt" if self.makes_library() else "src/main.rt"
+
+    def makes_library(self):
+        return not os.path.isfile(f"{self.folder}/src/main.rt")
 
     def sources(self):
         found = {}
@@ -117,6 +120,13 @@ class Checker:
                 words += ["--only", path]
             with put_back(self.kept(crate), crate.name, changed, self.scratch):
                 return self.run(crate, words, room)
+
+    def compiler_line(self, crate, sources):
+        """Returns the first line in which the compiler refuses the crate with these sources, or nothing."""
+        _, lines = self.check(crate, sources, (), [""])
+        if any(re.match(r"only=\d+ ", it) for it in lines):
+            return ""
+        return next((it for it in lines if "error" in it), lines[-1])
 
     def run(self, crate, words, room):
         with tempfile.TemporaryFile("w+", errors="replace") as said:

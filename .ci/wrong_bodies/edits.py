@@ -19,13 +19,15 @@ class Change:
 
 @dataclass
 class Edit:
-    """A wrong body. `function` is the one whose body it changes, or None where it changes more than one, or
-    what is no function; `calls` are what that function's body may call, before the edit and after it, and
-    `new_calls` those of them that stand in a new text and not in the old one."""
+    """A wrong body. `promise` is the main promise that it would break, or empty: such an edit is tried always.
+    `function` is the one whose body it changes, or None where it changes more than one, or what is no function;
+    `calls` are what that function's body may call, before the edit and after it, and `new_calls` those of them that
+    stand in a new text and not in the old one."""
 
     crate: str
     name: str
     changes: list
+    promise: str = ""
     function: object = None
     calls: frozenset = field(default_factory=frozenset)
     new_calls: frozenset = field(default_factory=frozenset)
@@ -33,12 +35,19 @@ class Edit:
     def label(self):
         return f"{self.crate}/{self.name}"
 
+    def lines(self):
+        """Returns what the edit says, a line for each part of it."""
+        return [line for it in self.changes for line in (f"file {it.file}", f"old {it.old}", f"new {it.new}")]
 
-def read_changes(text):
-    """Reads the lines `file: PATH`, and then pairs `old: TEXT` and `new: TEXT`."""
-    file, old, changes = "", None, []
+
+def read_into(edit, text):
+    """Reads a line `promise: TEXT`, where there is one, the lines `file: PATH`, and then pairs `old: TEXT` and
+    `new: TEXT`."""
+    file, old, changes = "", None, edit.changes
     for line in text.split("\n"):
-        if line.startswith("file: "):
+        if line.startswith("promise: "):
+            edit.promise = line.removeprefix("promise: ").strip()
+        elif line.startswith("file: "):
             file = line.removeprefix("file: ").strip()
             if os.path.normpath(file) != file or not file.startswith("src/"):
                 raise BadEdit("a 'file:' line names no file below src/")
@@ -50,10 +59,9 @@ def read_changes(text):
             changes.append(Change(file, old, line.removeprefix("new:").removeprefix(" ")))
             old = None
         elif line.strip():
-            raise BadEdit(f"the line '{line[:60]}' is none of 'file:', 'old:' and 'new:'")
+            raise BadEdit(f"the line '{line[:60]}' is none of 'promise:', 'file:', 'old:' and 'new:'")
     if not changes or old:
         raise BadEdit("it has no 'old:' and 'new:' pair, or an 'old:' without its 'new:'")
-    return changes
 
 
 def text_of(sources, file):
@@ -113,7 +121,7 @@ def read_edits(crate, folder, sources):
             if not name.endswith(".edit"):
                 raise BadEdit("an edit is a file whose name ends in .edit")
             with open(f"{folder}/{name}", encoding="utf-8") as it:
-                edit.changes = read_changes(it.read())
+                read_into(edit, it.read())
             find_function(edit, sources)
             edits.append(edit)
         except (BadEdit, OSError, UnicodeDecodeError) as why:

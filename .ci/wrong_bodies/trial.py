@@ -80,6 +80,14 @@ class Trial:
         said = [it for it in lines if re.match(r"\S+:\d+:\d+: error|rattle: no verdict", it)] or lines[-2:]
         return Verdict(edit, False, f"NOT REFUSED at a goal of any function: {said[0][:200]}")
 
+    def unread(self, edits):
+        """Returns those of a round that do not compile, each with the compiler's first line on it."""
+        changes = [it for edit in edits for it in edit.changes]
+        line = self.checker.compiler_line(self.crate, apply(changes, self.sources))
+        if not line:
+            return []
+        return [(edits[0], line)] if len(edits) == 1 else [bad for it in edits for bad in self.unread([it])]
+
     def paths_of(self, function):
         return paths_of(function, self.crate.name, self.sources, self.printed)
 

@@ -1,0 +1,55 @@
+"""What the checker says that it made of a built library: a text for each module of antt, and the sum of it."""
+
+import hashlib
+import json
+import os
+import re
+
+PARTS = ("specs", "proofs")
+KIND = re.compile(rb'\{"(\w+)"')
+
+
+def sum_of(text):
+    return hashlib.sha256(text.encode()).hexdigest()
+
+
+class Made:
+    """The modules of a library of the repository, by their paths: those that the checker makes of the sources, as
+    `specs/contracts/table/get`, and the files of specs/ and proofs/, as `specs/Table.antt`."""
+
+    def __init__(self, crate):
+        self.name, self.folder = crate.name, crate.folder
+        self.sums, self.places, self.files = {}, {}, {}
+        self.rlib = f"{crate.folder}/out/rlib/{crate.name}.rlib"
+        self.read_made()
+        self.read_files()
+
+    def read_made(self):
+        with open(f"{self.rlib}/toolchain/made.json", encoding="utf-8") as it:
+            rows = [json.loads(line) for line in it if line.startswith('["')]
+        for name, start, length, number, _ in rows:
+            if name.startswith(tuple(f"{part}/" for part in PARTS)):
+                self.sums[name], self.places[name] = number, (start, length)
+        with open(f"{self.rlib}/lang/antt/made.json", "rb") as it:
+            self.bytes = it.read()
+
+    def read_files(self):
+        for part in PARTS:
+            for at, _, names in os.walk(f"{self.folder}/{part}"):
+                for name in names:
+                    with open(f"{at}/{name}", encoding="utf-8") as it:
+                        path = os.path.relpath(f"{at}/{name}", self.folder)
+                        self.files[path] = it.read()
+                        self.sums[path] = sum_of(self.files[path])
+
+    def text(self, name):
+        if name in self.files:
+            return self.files[name]
+        start, length = self.places[name]
+        return self.bytes[start : start + length].decode()
+
+    def kind(self, name):
+        """Returns the checker's word for what a module is, or nothing for a file."""
+        start, _ = self.places.get(name, (0, 0))
+        found = KIND.match(self.bytes, start) if name in self.places else None
+        return found[1].decode() if found else ""
