@@ -10,8 +10,9 @@ import re
 from functools import lru_cache
 
 # What the checker makes of a function for its own check alone, and what lists or links modules.
-INNER = {"Code", "Mir", "Lts", "Close", "Layout", "MadeProof", "ImplProof", "Given", "Needs", "Named", "Symbol", "Key"}
-LISTS = {"Parent", "Parts", "PartsOfType", "StandsFor", "LinkOfCrate", "LinkOfFunction", "LinkPassed"}
+INNER = {"Code", "Mir", "Lts", "Close", "Layout", "MadeProof", "Given", "Needs", "Named", "Symbol", "Key"}
+INNER |= {"ImplProof", "ImplGoals", "CycleCode", "CycleInParts", "TieOfCycle", "MemberCode", "MemberProof"}
+LISTS = {"Parent", "Parts", "PartsOfType", "LinkOfCrate", "LinkOfFunction", "LinkPassed"}
 # The last word of the path of a module that others read of a function.
 OF_FUNCTION = ("Statement", "Reads", "Kinds", "Met")
 MADE_BELOW = re.compile(r"The[A-Z]")
@@ -83,8 +84,14 @@ class Reach:
     def own(self, crate, path):
         """Returns all modules of a function, and the files of its proof."""
         made = self.made(crate)
-        below, exact = (f"proofs/{path}/", f"specs/contracts/{path}/"), f"specs/contracts/{path}"
+        below = (f"proofs/{path}/", f"specs/contracts/{path}/", *self.cycles(crate, path))
+        exact = f"specs/contracts/{path}"
         return {(crate, it) for it in made.sums if (it.startswith(below) or it == exact) and made.kind(it) not in LISTS}
+
+    def cycles(self, crate, path):
+        """Returns where the proof stands that a function shares with those that it calls in turn, or with itself."""
+        made, symbol = self.made(crate), f'"{crate}::{path.replace("/", "::")}"'
+        return [f"{it}/" for it in made.places if made.kind(it) == "Cycle" and symbol in made.text(it)]
 
     def all_of(self, crate):
         """Returns all modules and files of a library."""
