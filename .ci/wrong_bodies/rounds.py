@@ -39,3 +39,14 @@ def planned(edits, sources, calls):
             rounds.append(room := [])
         room.append(edit)
     return rounds + [[it] for it in edits if it.function is None]
+
+
+def compiled_together(edits, sources):
+    """Returns as few lists of edits as may be, each of which can be made at once: they are to compile, and no more."""
+    rooms = []
+    for edit in edits:
+        room = next((it for it in rooms if applies([*it, edit], sources)), None)
+        if room is None:
+            rooms.append(room := [])
+        room.append(edit)
+    return rooms

@@ -84,9 +84,10 @@ class Trial:
         """Returns those of a round that do not compile, each with the compiler's first line on it."""
         changes = [it for edit in edits for it in edit.changes]
         line = self.checker.compiler_line(self.crate, apply(changes, self.sources))
-        if not line:
-            return []
-        return [(edits[0], line)] if len(edits) == 1 else [bad for it in edits for bad in self.unread([it])]
+        if not line or len(edits) == 1:
+            return [(it, line) for it in edits if line]
+        half = len(edits) // 2
+        return self.unread(edits[:half]) + self.unread(edits[half:])
 
     def paths_of(self, function):
         return paths_of(function, self.crate.name, self.sources, self.printed)
