@@ -10,7 +10,7 @@ use uuid::Uuid;
 /// One edit. Its numbers are as its line names them, so they may be out of range; one that names an
 /// item and is out of range names none. The refusals stand in the order in which they are answered.
 /// An edit that changes no value is accepted.
-#[derive(Debug, Drop)]
+#[derive(Drop)]
 pub enum Edit {
     /// Adds a subsystem after those that are there. Refused: `BadValue` of `Nqn` for the discovery
     /// subsystem's name, of `Serial` for one that is not 1 to 20 bytes from 21h to 7Eh; `Exists` for
@@ -128,7 +128,7 @@ pub enum Edit {
 }
 
 /// A namespace that is to be added.
-#[derive(Debug, Drop)]
+#[derive(Drop)]
 pub struct NewNamespace {
     /// The name of its subsystem.
     pub subsystem: Nqn,
@@ -145,7 +145,7 @@ pub struct NewNamespace {
 }
 
 /// Where a port listens, or a referral leads.
-#[derive(Debug, Drop)]
+#[derive(Drop)]
 pub struct Endpoint {
     /// The number of the port, or of the referral.
     pub id: u64,

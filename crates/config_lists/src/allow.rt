@@ -8,7 +8,7 @@ use nvt_fields::Nqn;
 use std::alloc::AllocError;
 
 /// A host may use a closed subsystem. No two allows of a configuration have the same subsystem and host.
-#[derive(Debug, Drop)]
+#[derive(Drop)]
 pub struct Allow {
     /// The name of a subsystem that is there.
     pub subsystem: Nqn,

@@ -9,7 +9,7 @@ use nvt_fields::Nqn;
 use std::alloc::AllocError;
 
 /// An asymmetric namespace access state (Base 2.0, section 8.1).
-#[derive(Clone, Copy, Debug, PartialEq, Eq)]
+#[derive(Clone, Copy, PartialEq, Eq)]
 pub enum AnaState {
     Optimized,
     NonOptimized,
@@ -35,7 +35,7 @@ impl AnaState {
 
 /// The state that was set on a port for an ANA group of a subsystem. No two of a configuration are
 /// for the same; where there is none, the state is optimized.
-#[derive(Debug, Drop)]
+#[derive(Drop)]
 pub struct GroupState {
     /// The number of a port that is there.
     pub port: u16,

@@ -9,7 +9,7 @@ use nvt_fields::Nqn;
 use std::alloc::AllocError;
 
 /// A host that was added. One that was deleted stays in its place, not live.
-#[derive(Debug, Drop)]
+#[derive(Drop)]
 pub struct Host {
     /// No two hosts of a configuration have the same.
     pub nqn: Nqn,

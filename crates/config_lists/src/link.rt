@@ -8,7 +8,7 @@ use nvt_fields::Nqn;
 use std::alloc::AllocError;
 
 /// A subsystem is served on a port. No two links of a configuration have the same port and subsystem.
-#[derive(Debug, Drop)]
+#[derive(Drop)]
 pub struct Link {
     /// The number of a port that is there.
     pub port: u16,

@@ -15,7 +15,7 @@ const NSID_MAX: u64 = 1_024;
 const GROUP_MAX: u64 = 32;
 
 /// The size of a logical block.
-#[derive(Clone, Copy, Debug, PartialEq, Eq)]
+#[derive(Clone, Copy, PartialEq, Eq)]
 pub enum BlockSize {
     Bytes512,
     Bytes4096,
@@ -45,7 +45,7 @@ impl BlockSize {
 }
 
 /// Blocks that hosts read and write, on a disk of their own (Base 2.0, section 3.2.1).
-#[derive(Debug, Drop)]
+#[derive(Drop)]
 pub struct Namespace {
     /// The name of a subsystem that is there.
     pub subsystem: Nqn,
@@ -63,7 +63,7 @@ pub struct Namespace {
 }
 
 /// What can be set of a namespace that is there.
-#[derive(Clone, Copy, Debug)]
+#[derive(Clone, Copy)]
 pub enum Setting {
     /// Its size in blocks.
     Blocks(u64),

@@ -10,14 +10,14 @@ use std::alloc::AllocError;
 const ADDRESS_MAX: usize = 256;
 
 /// The family of a port's address.
-#[derive(Clone, Copy, Debug, PartialEq, Eq)]
+#[derive(Clone, Copy, PartialEq, Eq)]
 pub enum Family {
     Ipv4,
     Ipv6,
 }
 
 /// A place where the target listens, as hosts name it.
-#[derive(Debug, Drop)]
+#[derive(Drop)]
 pub struct Port {
     /// From 1 to 65,535; no two ports of a configuration have the same.
     pub id: u16,

@@ -13,7 +13,7 @@ use std::alloc::AllocError;
 const SERIAL_MAX: usize = 20;
 
 /// Who may use a subsystem.
-#[derive(Clone, Copy, Debug, PartialEq, Eq)]
+#[derive(Clone, Copy, PartialEq, Eq)]
 pub enum Access {
     /// Each host.
     Open,
@@ -34,7 +34,7 @@ impl Access {
 }
 
 /// What hosts connect to.
-#[derive(Debug, Drop)]
+#[derive(Drop)]
 pub struct Subsystem {
     /// Not the discovery subsystem's name; no two subsystems of a configuration have the same.
     pub nqn: Nqn,

@@ -1,5 +1,4 @@
 //! The configuration: each kind of edit, and its copies.
-use super::rows::{A, EDITS, HOST, UNITS, edit_of, tell};
 use nvt_config::{
     Allow, Config, Edit, EditFault, GroupState, Host, Link, Namespace, NewFault, Port, Subsystem,
     Text,
@@ -7,7 +6,8 @@ use nvt_config::{
 use std::alloc::{AllocError, Global};
 use std::process::Abort;
 use std::test::Fail;
-use test_edits::{Line, is_same};
+use test_edits::growths::{A, EDITS, HOST, UNITS, edit_of, tell};
+use test_edits::{Line, again, is_same};
 
 // Makes the edit of a line; whether it is accepted, and all is as before where it wants memory.
 fn is_made(
@@ -106,19 +106,28 @@ fn is_state_copied(state: &GroupState) -> Result<bool, AllocError> {
     Ok(copy.subsystem == state.subsystem)
 }
 
-fn items_are_copied(config: &Config) -> Result<bool, AllocError> {
+fn subsystems_are_copied(subsystems: &[Subsystem]) -> Result<bool, AllocError> {
     let mut are_copied = true;
-    for subsystem in config.subsystems() {
+    for subsystem in subsystems {
         are_copied &= is_subsystem_copied(subsystem)?;
         are_copied &= is_text_copied(&subsystem.serial, b"SN-A")?;
     }
-    for port in config.ports() {
+    Ok(are_copied)
+}
+
+fn ports_are_copied(ports: &[Port]) -> Result<bool, AllocError> {
+    let mut are_copied = true;
+    for port in ports {
         are_copied &= is_port_copied(port)?;
     }
-    for referral in config.referrals() {
-        are_copied &= is_port_copied(referral)?;
-    }
     Ok(are_copied)
+}
+
+fn items_are_copied(config: &Config) -> Result<bool, AllocError> {
+    let subsystems = subsystems_are_copied(config.subsystems())?;
+    let ports = ports_are_copied(config.ports())?;
+    let referrals = ports_are_copied(config.referrals())?;
+    Ok(subsystems && ports && referrals)
 }
 
 fn of_subsystems_are_copied(config: &Config) -> Result<bool, AllocError> {

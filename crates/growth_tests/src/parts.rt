@@ -1,5 +1,4 @@
 //! The parts below the configuration.
-use super::rows::{HOST, NAMESPACE, edit_of, tell};
 use bytes::BytesMut;
 use config_text::{LineFaultKind, Lines, read_edit};
 use number_table::NumberTable;
@@ -9,7 +8,8 @@ use pdu_codec::{C2hData, CapsuleResp, Full, IcResp, TermReq};
 use pdu_cut::{Cut, RxBuf, Side};
 use std::alloc::{AllocError, Global};
 use std::test::Fail;
-use test_edits::{Line, is_same_edit};
+use test_edits::growths::{HOST, NAMESPACE, edit_of, tell};
+use test_edits::{Line, again, is_same_edit};
 
 // A test that makes no growth of its own: what stands beside each test's growths is counted with it.
 #[test]

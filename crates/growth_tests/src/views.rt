@@ -1,11 +1,11 @@
 //! The discovery view: it is made, and prepares for each kind of edit.
-use super::rows::{EDITS, HOST, UNITS, edit_of, tell};
 use discovery_view::DiscoveryView;
 use nvt_config::{Config, Edit, EditFault, NewFault};
 use std::alloc::{AllocError, Global};
 use std::process::Abort;
 use std::test::Fail;
-use test_edits::Line;
+use test_edits::growths::{EDITS, HOST, UNITS, edit_of, tell};
+use test_edits::{Line, again};
 
 // A configuration and its view.
 #[derive(Drop)]

@@ -7,7 +7,7 @@ ghost use Rattle.line_words.specs.Command.{command_from, grammar_of, is_noun};
 use crate::operand::Form;
 
 /// What an edit does, apart from its values.
-#[derive(Clone, Copy, Debug)]
+#[derive(Clone, Copy)]
 pub enum Command {
     SubsystemAdd,
     SubsystemSet,

@@ -7,7 +7,7 @@ use std::marker::Model;
 
 /// The lines of some bytes: LF ends each, and the last may lack it. No bytes have no lines. A contract
 /// sees the lines that are left.
-#[derive(Debug, Drop)]
+#[derive(Drop)]
 pub struct Lines<'a> {
     rest: &'a [u8],
 }

@@ -20,7 +20,7 @@ use uuid::Uuid;
 pub const OPERANDS_MAX: usize = 7;
 
 /// What a word has to be.
-#[derive(Clone, Copy, Debug)]
+#[derive(Clone, Copy)]
 pub enum Form {
     Number,
     Name,
@@ -63,7 +63,7 @@ impl Form {
 }
 
 /// A value that a line says. Names and texts are those of the line, or of the edit.
-#[derive(Clone, Copy, Debug)]
+#[derive(Clone, Copy)]
 pub enum Operand<'a> {
     Number(u64),
     Name(&'a [u8]),

@@ -11,6 +11,7 @@ ghost use Rattle.config_rules.specs.Valid.{IsValid};
 ghost use Rattle.nvt_config.specs.Plan.{IsPlanOf, IsReady, made};
 
 mod changes;
+mod copies;
 mod plans;
 
 use crate::fault::NewFault;
@@ -35,7 +36,7 @@ const DISK_UNITS_MAX: u64 = 1 << 40;
 /// added. There are at most 256 disks of at most 2^40 units, 32 subsystems, 16 ports, 256 hosts, those
 /// that are not live counted, 1,024 allows and 16 referrals. No two items of a list have the same
 /// name, and what an item names is there. Each namespace fits on a disk of its own.
-#[derive(Debug, Drop)]
+#[derive(Drop)]
 pub struct Config {
     units: Vec<u64>,
     subsystems: Vec<Subsystem>,
@@ -185,9 +186,7 @@ impl Config {
             ≡ find (λ subsystem. bytes_eq subsystem.nqn nqn.now) self.now.subsystems }
         ensures valid { IsValid self.now }
     {
-        self.subsystems
-            .iter()
-            .find(|subsystem| subsystem.nqn.as_bytes() == nqn)
+        find_subsystem(&self.subsystems, nqn)
     }
 
     /// The port of that number, if there is one.
@@ -328,18 +327,32 @@ impl Config {
     pub fn try_clone(&self) -> Result<Config, AllocError>
         ensures { IfOk result (λ copy. copy ≡ self.now) }
     {
+        // What is known of each configuration is known of this one.
+        let _ = &self.units;
+        let storage = self.clone_storage()?;
+        let ports = self.clone_ports()?;
+        let hosts = self.clone_hosts()?;
         Ok(Config {
-            units: self.units.clone()?,
-            subsystems: self.subsystems.clone()?,
-            namespaces: self.namespaces.clone()?,
-            ports: self.ports.clone()?,
-            links: self.links.clone()?,
-            hosts: self.hosts.clone()?,
-            allows: self.allows.clone()?,
-            states: self.states.clone()?,
-            referrals: self.referrals.clone()?,
+            units: storage.units,
+            subsystems: storage.subsystems,
+            namespaces: storage.namespaces,
+            ports: ports.ports,
+            links: ports.links,
+            hosts: hosts.hosts,
+            allows: hosts.allows,
+            states: ports.states,
+            referrals: ports.referrals,
         })
     }
+}
+
+fn find_subsystem<'a>(subsystems: &'a [Subsystem], nqn: &[u8]) -> Option<&'a Subsystem>
+    ensures { option_copied result ≡ find
+        (λ subsystem. bytes_eq subsystem.nqn nqn.now) subsystems.now }
+{
+    subsystems
+        .iter()
+        .find(|subsystem| subsystem.nqn.as_bytes() == nqn)
 }
 
 fn are_disks(units: &[u64]) -> bool

@@ -1,8 +1,10 @@
 //! Edits for tests, from names and texts that are lent, whether two edits or two configurations are
-//! equal, disks in memory, and the PDUs that each host sends. The crates of tests share it; no other stands on it.
+//! equal, disks in memory, the PDUs that each host sends, and what the tests of refused growths share.
+//! The crates of tests share it; no other stands on it.
 #![tactic(auto)]
 
 mod disks;
+pub mod growths;
 mod kind;
 mod line;
 mod pdus;

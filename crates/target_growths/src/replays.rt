@@ -1,12 +1,12 @@
 //! `replay`, over two ports and a connection that is initialized.
 ghost use Rattle.std.specs.Prelude.{◌≤◌, length};
 
-use super::rows::{UNITS, tell};
 use nvt_replay::{ReplayFault, replay};
 use std::alloc::Global;
 use std::io::{self, ErrorKind, Write};
 use std::process::Abort;
 use std::test::Fail;
+use test_edits::growths::{UNITS, tell};
 
 const EDITS: &[u8] = b"port add 1 ipv4 127.0.0.1 4420\nport add 2 ipv6 ::1 4420\n";
 

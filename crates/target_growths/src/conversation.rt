@@ -1,6 +1,5 @@
 //! The first conversation: from the opening of a connection to its log page, and a fault.
 use super::pdus::{FAULTY, PDUS, TERMINATION, laid, wanted};
-use super::rows::tell;
 use super::targets::{Script, is_edited, is_opened, is_used};
 use block_store::MemoryDisk;
 use nvt_config::NewFault;
@@ -8,7 +7,8 @@ use std::alloc::{AllocError, Global};
 use std::process::Abort;
 use std::test::Fail;
 use target_core::{StepFault, Stepped, Target};
-use test_edits::Line;
+use test_edits::growths::tell;
+use test_edits::{Line, again};
 
 // What is seen of a connection.
 fn seen(target: &Target<MemoryDisk>, k: usize) -> (usize, bool, usize) {

@@ -1,14 +1,14 @@
 //! The target: each kind of edit, with two connections open.
 use super::conversation;
 use super::pdus::ic_req;
-use super::rows::{EDITS, UNITS, edit_of, tell};
 use block_store::MemoryDisk;
 use nvt_config::{Config, Edit, EditFault, NewFault};
 use std::alloc::{AllocError, Global};
 use std::process::Abort;
 use std::test::Fail;
 use target_core::{OpenFault, StepFault, Stepped, Target};
-use test_edits::{Line, is_same, memory_disks};
+use test_edits::growths::{EDITS, UNITS, edit_of, tell};
+use test_edits::{Line, again, is_same, memory_disks};
 
 // What is seen of the connections: of each its room, whether it is ended, and how much output waits.
 fn seen(target: &Target<MemoryDisk>) -> [(usize, bool, usize); 3] {
@@ -160,6 +160,12 @@ pub fn is_used(
         Script::Conversation => conversation::serve_one(rt, alloc, &mut target, refused),
     }
     Ok(true)
+}
+
+// A test that makes no growth of its own: what stands beside each test's growths is counted with it.
+#[test]
+fn nothing_grows(rt: HostRuntime) -> Result<(), Fail> {
+    tell(&rt, 0)
 }
 
 #[test]

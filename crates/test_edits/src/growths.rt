@@ -1,9 +1,23 @@
-//! Edits of each kind, and what a test says at its end.
+//! What the tests of refused growths share: edits of each kind, a call that is made again, and what a
+//! test says at its end.
+use crate::line::{Blocks, Line, edit};
 use nvt_config::{Access, AnaState, Edit, Family};
 use nvt_fields::NqnFault;
 use std::alloc::{AllocError, Global};
 use std::test::Fail;
-use test_edits::{Blocks, Line, edit};
+
+/// A call, and the same again where it wants memory: then it answers that all is right.
+#[macro_export]
+macro_rules! again {
+    ($rt:expr, $refused:expr, $memory:pat, $call:expr) => {{
+        let mut answer = $call;
+        if matches!(answer, Err($memory)) {
+            $refused = $refused.saturating_add(1);
+            answer = $call;
+        }
+        assert!($rt; matches!(answer, Ok(true)));
+    }};
+}
 
 pub const A: &[u8] = b"nqn.2026-01.test:a";
 
