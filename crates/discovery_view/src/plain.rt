@@ -69,12 +69,18 @@ fn records_after(
 /// The configuration that these edits make of one that holds disks of these sizes alone.
 pub fn config_after(alloc: Global, units: &[u64], edits: &[Edit]) -> Result<Config, PlainFault> {
     let mut config = Config::new(alloc, units)?;
+    apply_all(&mut config, edits)?;
+    Ok(config)
+}
+
+// Makes those of the edits that the configuration accepts.
+fn apply_all(config: &mut Config, edits: &[Edit]) -> Result<(), AllocError> {
     for edit in edits {
-        if config.apply(edit) == Err(EditFault::Memory) {
-            return Err(PlainFault::Memory);
+        if let Err(EditFault::Memory) = config.apply(edit) {
+            return Err(AllocError);
         }
     }
-    Ok(config)
+    Ok(())
 }
 
 /// The bytes of the records that a configuration shows to a host: one for each link of a subsystem

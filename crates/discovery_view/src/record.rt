@@ -15,7 +15,7 @@ const TCP: u8 = 3;
 const ADMIN_QUEUE_SIZE: u8 = 32;
 
 /// What a record leads to (SUBTYPE).
-#[derive(Clone, Copy, Debug, PartialEq, Eq)]
+#[derive(Clone, Copy, PartialEq, Eq)]
 pub enum Subtype {
     /// Another discovery controller.
     Referral,

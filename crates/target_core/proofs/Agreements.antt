@@ -32,7 +32,7 @@ use Rattle.target_history.specs.History.{Opening, blocks_of, clock_of, config_of
 use Rattle.target_history.proofs.Blocks.{blocks_step}
 use Rattle.target_history.proofs.Lives.{controller_step, row_step}
 use Rattle.target_history.proofs.Steps.{conversation_step}
-use Rattle.target_core.proofs.Shows.{new_show, pages_agree, views_step}
+use Rattle.target_views.proofs.Shows.{new_show, pages_agree, views_step}
 
 -- ---- what an event meets
 

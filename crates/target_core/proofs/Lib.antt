@@ -4,6 +4,5 @@ pub mod Fronts
 pub mod Moving
 pub mod Places
 pub mod Settling
-pub mod Shows
 pub mod Stepping
 pub mod Units

@@ -16,7 +16,7 @@ use Rattle.pdu_cut.specs.Front.{Front}
 use Rattle.target_core.specs.Connection.{ConnectionState, fresh_on, settled}
 use Rattle.target_core.specs.Moves.{Moves, connection_moved}
 use Rattle.target_core.specs.Target.{TargetState, meets}
-use Rattle.target_core.specs.Views.{ShowNext}
+use Rattle.target_views.specs.Views.{ShowNext}
 use Rattle.target_decision.specs.declared.decision.Decision.{Decision}
 use Rattle.target_decision.specs.declared.session.Conversation.{Conversation}
 use Rattle.target_decision.specs.declared.session.Session.TheVariants.{Ended}

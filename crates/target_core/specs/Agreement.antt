@@ -17,7 +17,7 @@ use Rattle.target_core.specs.declared.fault.Stepped.{Stepped}
 use Rattle.target_core.specs.declared.fault.Stepped.TheVariants.{Idle, One, Ended}
 use Rattle.target_core.specs.Connection.{ConnectionState}
 use Rattle.target_core.specs.Target.{TargetState, conversation_at}
-use Rattle.target_core.specs.Views.{ShowHistory}
+use Rattle.target_views.specs.Views.{ShowHistory}
 use Rattle.target_history.specs.Event.{Event, edited, gives_up, opened, opens, stepped, given_up}
 use Rattle.target_history.specs.Happening.{Happening}
 use Rattle.target_history.specs.History.{Opening, blocks_of, clock_of, config_of, controller_of, conversation_of, happened, has_ended, is_known, last_front, pdus_of, row_of, sent}

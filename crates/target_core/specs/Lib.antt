@@ -3,4 +3,3 @@ pub mod Connection
 pub mod Fault
 pub mod Moves
 pub mod Target
-pub mod Views

@@ -13,7 +13,7 @@ use Rattle.target_core.specs.declared.fault.Stepped.{Stepped}
 use Rattle.target_core.specs.declared.fault.Stepped.TheVariants.{Idle, One, Ended}
 use Rattle.target_core.specs.Connection.{Acts, ConnectionState, fresh_on}
 use Rattle.target_core.specs.Target.{TargetState, is_idle, is_incomplete, meets}
-use Rattle.target_core.specs.Views.{ShowAfter}
+use Rattle.target_views.specs.Views.{ShowAfter}
 use Rattle.target_decision.specs.declared.decision.Decision.{Decision}
 use Rattle.target_decision.specs.Decision.{consumed_of}
 use Rattle.target_decision.specs.World.{World}

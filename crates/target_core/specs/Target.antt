@@ -16,7 +16,7 @@ use Rattle.target_core.specs.declared.fault.NoConn.{NoConn}
 use Rattle.target_core.specs.declared.fault.OpenFault.{OpenFault}
 use Rattle.target_core.specs.declared.fault.OpenFault.TheVariants.{NoSuchPort, Full}
 use Rattle.target_core.specs.Connection.{ConnectionState}
-use Rattle.target_core.specs.Views.{ShowFirst, ViewsShown, pages_shown}
+use Rattle.target_views.specs.Views.{ShowFirst, ViewsShown, pages_shown}
 use Rattle.target_decision.specs.declared.controller.Controller.{Controller}
 use Rattle.target_decision.specs.declared.session.Conversation.{Conversation}
 use Rattle.target_decision.specs.Session.{is_ended}

@@ -24,7 +24,6 @@ mod fault;
 mod settle;
 mod stream;
 mod target;
-mod views;
 
 pub use fault::{NoConn, OpenFault, StepFault, Stepped};
 pub use target::Target;

@@ -1,10 +1,12 @@
 //! The target: a configuration and the connections that hosts made.
-ghost use Rattle.std.specs.Prelude.{◌≡◌, ◌<◌, ◌≤◌, IfOk, IfErr, IsOkUnless, OnErr, OnOk, MatchOption, Some, None, [], drop, length, map, true};
+ghost use Rattle.std.specs.Prelude.{◌≡◌, ◌<◌, ◌≤◌, IfOk, IfErr, IsOkUnless, OnErr, OnOk, MatchOption, Some, None, [], drop, length, map, replicate, true};
 ghost use Rattle.std.specs.Bool.{OnFalse, OnTrue};
 ghost use Rattle.std.specs.Option.{option_copied};
 ghost use Rattle.number_table.specs.Table.{place};
 ghost use Rattle.config_rules.specs.Accept.{accept};
 ghost use Rattle.config_rules.specs.Configuration.{are_disks};
+ghost use Rattle.controller_tables.specs.Controllers.{controller_places};
+ghost use Rattle.fabrics_connect.specs.Controllers.{no_controllers};
 ghost use Rattle.target_core.specs.Agreement.{Agrees, AgreesAfter, EditAgrees, EndAgrees, EndedAgrees, OpenAgrees, ReceiveAgrees, StepAgrees, TakenAgrees, nothing};
 ghost use Rattle.io_queue.specs.Execution.{sizes};
 ghost use Rattle.pdu_cut.specs.Cut.{front_shown};
@@ -14,13 +16,13 @@ ghost use Rattle.target_decision.specs.Decision.{PerformsWithin, head_of, is_end
 ghost use Rattle.target_decision.specs.World.{connections_max, world_in};
 ghost use Rattle.target_core.specs.Target.{free_number, is_ended_at, is_incomplete, open_fault, output_at, room_at, IsNewTarget, IsOver, ReceivesAt, TakenAt};
 ghost use Rattle.target_history.specs.Event.{edited, given_up, opened, ticked};
+ghost use Rattle.target_views.specs.Views.{ShowFirst};
 
 use crate::connection::Connection;
 use crate::disks::{are_disks, stores_over, units_of};
 use crate::fault::{NoConn, OpenFault, StepFault, Stepped};
 use crate::settle::settle;
 use crate::stream::Stream;
-use crate::views::Views;
 use block_store::{Disk, Store};
 use controller_tables::{ControllerTables, change_of};
 use fabrics_connect::Row;
@@ -31,6 +33,7 @@ use std::alloc::{AllocError, Global};
 use std::marker::Model;
 use target_decision::{CONNECTIONS_MAX, Decision, World, consumed_of, decide, new_row};
 use target_history::Ending;
+use target_views::Views;
 
 /// A target. It serves up to 64 connections, each by the least number that was free when it was
 /// opened, and up to 32 controllers.
@@ -48,13 +51,12 @@ pub struct Target<D: Disk> {
 
 impl<D: Disk> Model for Target<D> {
     ghost use Rattle.target_core.specs.Target.{IsSound, TargetState};
-    ghost use Rattle.target_core.specs.Views.{shown_by};
 
     ghost Value = { TargetState };
 
     ghost view = { λ t. record {
       config = t.config;
-      shown = shown_by t.views;
+      shown = t.views.shown;
       clock = t.clock;
       streams = t.streams;
       connections = t.connections;
@@ -217,16 +219,26 @@ impl<D: Disk + Drop> Target<D> {
         requires { config.units ≡ sizes stores.items }
         ensures { IfOk result (IsOver config stores.items) }
     {
-        Ok(Target {
-            alloc,
-            views: Views::new(alloc, &config)?,
-            clock: 0,
-            streams: NumberTable::new(alloc, CONNECTIONS_MAX)?,
-            connections: NumberTable::new(alloc, CONNECTIONS_MAX)?,
-            controllers: ControllerTables::new(alloc)?,
-            stores,
-            config,
-        })
+        match Parts::new(alloc, &config) {
+            Ok(
+                Parts {
+                    streams,
+                    connections,
+                    controllers,
+                    views,
+                },
+            ) => Ok(Target {
+                alloc,
+                config,
+                views,
+                clock: 0,
+                streams,
+                connections,
+                controllers,
+                stores,
+            }),
+            Err(AllocError) => Err(AllocError),
+        }
     }
 
     fn make_edit(&mut self, edit: &Edit) -> Result<(), EditFault>
@@ -237,11 +249,7 @@ impl<D: Disk + Drop> Target<D> {
         ensures refused { IfErr (accept self.old.config edit.now) (λ fault. result ≡ Err fault) }
         ensures err { OnErr result (self.new ≡ self.old) }
     {
-        self.config.check(edit)?;
-        let plans = self.views.prepare(&self.config, edit)?;
-        let change = self.config.prepare(edit)?;
-        self.config.commit(change);
-        self.views.commit(plans);
+        self.views.edit(&mut self.config, edit)?;
         settle(
             &mut self.connections,
             &mut self.controllers,
@@ -387,6 +395,34 @@ impl<D: Disk + Drop> Target<D> {
             &self.config,
             &Ending::Clock(self.clock),
         );
+    }
+}
+
+// What a target makes beside its configuration and its disks.
+struct Parts {
+    streams: NumberTable<Stream>,
+    connections: NumberTable<Connection>,
+    controllers: ControllerTables,
+    views: Views,
+}
+
+impl Parts {
+    // What there is before the first connection. The views, which are the deepest, come last.
+    fn new(alloc: Global, config: &Config) -> Result<Parts, AllocError>
+        ensures streams { IfOk result (λ parts. parts.streams ≡ replicate connections_max None) }
+        ensures connections { IfOk result (λ parts.
+            parts.connections ≡ replicate connections_max None) }
+        ensures rows { IfOk result (λ parts. parts.controllers.rows ≡ no_controllers) }
+        ensures own { IfOk result (λ parts.
+            parts.controllers.own ≡ replicate controller_places None) }
+        ensures views { IfOk result (λ parts. ShowFirst config.now parts.views.shown) }
+    {
+        Ok(Parts {
+            streams: NumberTable::new(alloc, CONNECTIONS_MAX)?,
+            connections: NumberTable::new(alloc, CONNECTIONS_MAX)?,
+            controllers: ControllerTables::new(alloc)?,
+            views: Views::new(alloc, config)?,
+        })
     }
 }
 

@@ -3,6 +3,6 @@ use Rattle.target_core.proofs.target.Target.over.Goals as goal
 
 pub invariant_of-result : goal.invariant_of-result
 invariant_of-result g c = record {
-  tables = new_is_target _ _ c.in_ok-new-2.ensures c.in_ok-new-3.ensures;
+  tables = new_is_target _ _ c.in-Ok.ensures.streams c.in-Ok.ensures.connections;
   units = c.requires;
 }

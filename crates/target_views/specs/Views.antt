@@ -1,14 +1,11 @@
 -- The views that log pages are written from, as the target sees them.
-use Rattle.std.specs.Prelude.{◌≡◌, ◌≤◌, ℕ, ◌%◌, ◌^◌, List, Result, Ok}
+use Rattle.std.specs.Prelude.{◌≡◌, ℕ, ◌%◌, ◌^◌, List}
 use Rattle.admin_queue.specs.Pages.{Pages}
 use Rattle.change_lists.specs.ActiveView.{Shown as ActiveShown, ShowsActive, active_page, nsids_in}
 use Rattle.config_words.specs.Numbered.{active_nsids}
 use Rattle.discovery_view.specs.Records.{records_of}
 use Rattle.discovery_view.specs.View.{Shown, ShowsFirst, ShowsNext, count_in, page_in, records_in}
 use Rattle.config_rules.specs.Configuration.{Configuration}
-use Rattle.config_edits.specs.declared.fault.EditFault.{EditFault}
-use Rattle.target_core.specs.declared.views.Plans.{Plans}
-use Rattle.target_core.specs.declared.views.Views.{Views}
 use Rattle.target_history.specs.Event.{Event, edited, opened, stepped, given_up, ticked}
 use Rattle.target_history.specs.Happening.{Happening}
 use Rattle.target_history.specs.History.{Opening, config_of, generation_of}
@@ -18,8 +15,10 @@ pub record ViewsShown : Type 0 where
   pub discovery : Shown
   pub active : ActiveShown
 
-abbrev pub shown_by : Views → ViewsShown
-shown_by v = record { discovery = v.discovery.shown; active = v.active }
+-- .. and for how many more edits there is room
+pub record ViewsState : Type 0 where
+  pub shown : ViewsShown
+  pub room : ℕ
 
 -- the log pages of each host, and the lists of each subsystem
 abbrev pub pages_shown : ViewsShown → Pages
@@ -34,20 +33,6 @@ pub record ShowFirst (c : Configuration) (v : ViewsShown) : Type 0 where
 pub record ShowNext (c : Configuration) (old new : ViewsShown) : Type 0 where
   pub discovery : ShowsNext c old.discovery new.discovery
   pub active : ShowsActive c new.active
-
--- these are the plans of going over to what an edit makes
-pub record ArePlansOf (made : Result Configuration EditFault) (plans : Plans) : Type 0 where
-  pub discovery : made ≡ Ok plans.discovery
-  pub active : made ≡ Ok plans.active
-
--- all that a plan wants of memory is there
-pub record AreReady (v : Views) : Type 0 where
-  pub discovery : 1 ≤ v.discovery.room
-
--- they have gone over to what was planned
-pub record ShowPlanned (plans : Plans) (old new : ViewsShown) : Type 0 where
-  pub discovery : ShowsNext plans.discovery old.discovery new.discovery
-  pub active : ShowsActive plans.active new.active
 
 -- what they show after an event, with the configuration after it: it changes by edits alone
 abbrev pub ShowAfter : Event → Configuration → ViewsShown → ViewsShown → Type 0

@@ -7,22 +7,15 @@ use Rattle.discovery_view.specs.View.{page_in}
 use Rattle.discovery_view.proofs.Counts.{count_goes_on}
 use Rattle.config_rules.specs.Configuration.{Configuration, disks_alone}
 use Rattle.config_edits.specs.declared.fault.EditFault.{EditFault}
-use Rattle.target_core.specs.declared.views.Plans.{Plans}
-use Rattle.target_core.specs.Views.{ArePlansOf, ShowAfter, ShowFirst, ShowHistory, ShowNext, ShowPlanned, ViewsShown, pages_shown}
+use Rattle.target_views.specs.Views.{ShowAfter, ShowFirst, ShowHistory, ShowNext, ViewsShown, pages_shown}
 use Rattle.target_history.specs.Event.{Event, edited, opened, stepped, given_up, ticked}
 use Rattle.target_history.specs.Happening.{Happening, config_after}
 use Rattle.target_history.specs.History.{Opening, active_of, config_of, generation_of, page_of, pages_of}
 
 -- what was planned is what the edit makes
-pub planned_next : (made : Result Configuration EditFault) (plans : Plans) (c : Configuration) (old new : ViewsShown)
-    → ArePlansOf made plans → made ≡ Ok c → ShowPlanned plans old new → ShowNext c old new
-planned_next made plans c old new are makes planned =
-    let same : plans.discovery ≡ c = by made plans.discovery c are.discovery makes in
-    let also : plans.active ≡ c = by made plans.active c are.active makes in
-    record { discovery = rw same at planned.discovery; active = rw also at planned.active }
-  where
-    by : (made : Result Configuration EditFault) (d c : Configuration) → made ≡ Ok d → made ≡ Ok c → d ≡ c
-    by made d c h k = cc
+pub planned_next : (made : Result Configuration EditFault) (planned c : Configuration) (old new : ViewsShown)
+    → made ≡ Ok planned → made ≡ Ok c → ShowNext planned old new → ShowNext c old new
+planned_next made planned c old new plans makes next = let same : planned ≡ c = cc in rw same at next
 
 both : (a b : List ℕ → List ℕ) (c d : List ℕ → ℕ → List ℕ) → a ≡ b → c ≡ d
     → (let p : Pages = record { discovery = a; active = c } in p) ≡ (let p : Pages = record { discovery = b; active = d } in p)
