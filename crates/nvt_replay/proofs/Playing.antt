@@ -6,7 +6,7 @@ use Rattle.config_edits.specs.declared.edit.Edit.{Edit}
 use Rattle.std.proofs.lemmas.List.{length-replicate}
 use Rattle.block_store.specs.Unit.{zero_unit}
 use Rattle.target_history.specs.History.{Opening}
-use Rattle.config_rules.specs.Configuration.{Configuration, disks_alone}
+use Rattle.config_rules.specs.Configuration.{disks_alone}
 use Rattle.line_words.specs.Lines.{lines_of}
 use Rattle.target_core.specs.Connection.{ConnectionState}
 use Rattle.target_core.specs.Moves.{Moves, connection_after}

@@ -50,8 +50,10 @@ pub fn replay<W: Write>(
     ensures unwritten { IfErr result (λ fault. IsBeforeScript fault →
         W.contents out.new ≡ W.contents out.old) }
 {
-    let mut playback = begin(alloc, edits, units)?;
-    playback.run(stream, out)
+    match begin(alloc, edits, units) {
+        Ok(mut playback) => playback.run(stream, out),
+        Err(fault) => Err(fault),
+    }
 }
 
 // A playback over a target of these disks after the edits.

@@ -13,8 +13,10 @@ pub(crate) fn replay<W: Write>(
     units: &[u64],
     out: &mut W,
 ) -> Result<(), ReplayFault> {
-    let mut playback = Playback::new(alloc, edits, units)?;
-    explain(alloc, &mut playback, stream, out)
+    match Playback::new(alloc, edits, units) {
+        Ok(mut playback) => explain(alloc, &mut playback, stream, out),
+        Err(fault) => Err(fault),
+    }
 }
 
 fn explain<W: Write>(
