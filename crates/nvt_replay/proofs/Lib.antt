@@ -1,10 +1,8 @@
 pub mod Closing
 pub mod Marks
-pub mod PduLemmas
 pub mod Pieces
 pub mod Playing
 pub mod Prints
 pub mod ReplayLemmas
 pub mod Replying
-pub mod Splits
 pub mod Steps

@@ -6,16 +6,16 @@ use Rattle.config_edits.specs.declared.edit.Edit.{Edit}
 use Rattle.std.proofs.lemmas.List.{length-replicate}
 use Rattle.block_store.specs.Unit.{zero_unit}
 use Rattle.target_history.specs.History.{Opening}
-use Rattle.config_rules.specs.Configuration.{Configuration, disks_alone}
+use Rattle.config_rules.specs.Configuration.{disks_alone}
 use Rattle.line_words.specs.Lines.{lines_of}
 use Rattle.target_core.specs.Connection.{ConnectionState}
 use Rattle.target_core.specs.Moves.{Moves, connection_after}
 use Rattle.target_core.specs.Target.{IsNewTarget, TargetState, meets}
 use Rattle.target_history.specs.Event.{edited}
-use Rattle.nvt_replay.specs.declared.stream_line.StreamLine.{StreamLine}
+use Rattle.replay_lines.specs.declared.stream_line.StreamLine.{StreamLine}
 use Rattle.nvt_replay.specs.Played.{HasNone, Plays, PlaysAll, Prints}
 use Rattle.nvt_replay.specs.Replay.{zeroed, IsConfigured, MovesByLine, MovesByLines}
-use Rattle.nvt_replay.specs.StreamLine.{Says}
+use Rattle.replay_lines.specs.StreamLine.{Says}
 use Rattle.nvt_replay.proofs.ReplayLemmas.{next_line}
 
 -- ---- what is printed
@@ -37,7 +37,7 @@ lengths (n ∷ units) = rw (length-replicate n zero_unit) (ap (λ (ns : List ℕ
 pub new_config : (units : List ℕ) (t : TargetState) → IsNewTarget (zeroed units) t → t.config ≡ disks_alone units
 new_config units t new = new.over.config ∙ ap disks_alone (lengths units)
 
-new_has_none : (disks : Opening) (t : TargetState) → IsNewTarget disks t → HasNone t
+pub new_has_none : (disks : Opening) (t : TargetState) → IsNewTarget disks t → HasNone t
 new_has_none disks t new = λ k. rw new.over.connections (place-replicate {T = ConnectionState} 64 k)
 
 edits_have_none : (lines : List (List ℕ)) (old new : TargetState) → MovesByLines lines old new → HasNone old → HasNone new

@@ -11,8 +11,8 @@ use Rattle.target_core.specs.Connection.{ConnectionState}
 use Rattle.target_core.specs.Target.{TargetState, is_ended_at, output_at}
 use Rattle.target_decision.specs.Session.{is_ended}
 use Rattle.nvt_replay.specs.Played.{ArePrinted, TakesOutput, connection_lines, lines_below, printed_out}
-use Rattle.nvt_replay.specs.Printed.{event_line, output_lines}
-use Rattle.nvt_replay.proofs.PduLemmas.{output_lines-nil}
+use Rattle.replay_lines.specs.Printed.{event_line, output_lines}
+use Rattle.replay_lines.proofs.PduLemmas.{output_lines-nil}
 
 -- the lines of a connection, by its output and whether it is ended
 lines_are : (k : ℕ) (o : Option ConnectionState)

@@ -14,11 +14,11 @@ use Rattle.config_text.specs.EditLine.{IsLineOf}
 use Rattle.line_words.specs.Lines.{lines_of}
 use Rattle.nvt_replay.specs.Replay.{RefusesDisks, AcceptsAll, Configures, EndsScript, Explains, IsFirstMalformed, RefusesEdits, RefusesLine, RefusesLines}
 use Rattle.nvt_replay.specs.Replies.{Refuses}
-use Rattle.nvt_replay.specs.StreamLine.{IsStreamLine, Says}
-use Rattle.nvt_replay.specs.declared.stream_line.StreamLine.{StreamLine}
-use Rattle.nvt_replay.specs.declared.stream_line.StreamLine.TheVariants as stream
-use Rattle.nvt_replay.specs.declared.playback.ReplayFault.{ReplayFault}
-use Rattle.nvt_replay.specs.declared.playback.ReplayFault.TheVariants as fault
+use Rattle.replay_lines.specs.StreamLine.{IsStreamLine, Says}
+use Rattle.replay_lines.specs.declared.stream_line.StreamLine.{StreamLine}
+use Rattle.replay_lines.specs.declared.stream_line.StreamLine.TheVariants as stream
+use Rattle.replay_lines.specs.declared.fault.ReplayFault.{ReplayFault}
+use Rattle.replay_lines.specs.declared.fault.ReplayFault.TheVariants as fault
 
 -- where a line is left, it is the next
 pub record IsNext (all : List (List ℕ)) (n : ℕ) (line : List ℕ) (rest : List (List ℕ)) : Type 0 where

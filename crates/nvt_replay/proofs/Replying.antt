@@ -11,8 +11,8 @@ use Rattle.line_words.specs.Fault.{memory_fault}
 use Rattle.line_words.specs.Words.{line_fault}
 use Rattle.target_core.specs.Target.{TargetState}
 use Rattle.nvt_replay.specs.Played.{PlaysEdit, Prints, Settles}
-use Rattle.nvt_replay.specs.declared.reply.Reply.{Reply}
-use Rattle.nvt_replay.specs.Printed.{edit_made_line, reply_line}
+use Rattle.replay_lines.specs.declared.reply.Reply.{Reply}
+use Rattle.replay_lines.specs.Printed.{edit_made_line, reply_line}
 use Rattle.nvt_replay.specs.Replies.{IsRefused, MakesLine, Refuses, not_read, not_read_by}
 
 -- a line that is not read

@@ -11,7 +11,7 @@ use Rattle.pdu_cut.proofs.Fronts.{front_whole}
 use Rattle.pdu_cut.proofs.Headers.{eight_within}
 use Rattle.target_core.specs.declared.fault.Stepped.TheVariants.{One, Ended}
 use Rattle.target_core.specs.Connection.{ConnectionState}
-use Rattle.target_core.specs.Moves.{Moves, StepsAt, StepsOn, connection_moved, stream_moved}
+use Rattle.target_core.specs.Moves.{StepsAt, StepsOn, connection_moved, stream_moved}
 use Rattle.target_core.specs.Target.{TargetState, is_idle, is_incomplete, meets}
 use Rattle.target_decision.specs.declared.decision.Decision.{Decision}
 use Rattle.target_decision.specs.declared.session.Session.{Session}

@@ -6,18 +6,20 @@ use Rattle.io_queue.specs.Act.{Medium}
 use Rattle.io_queue.specs.Execution.{Tells, contents_at}
 use Rattle.number_table.specs.Table.{place}
 use Rattle.target_core.specs.Agreement.{front_of}
+use Rattle.target_core.specs.declared.fault.OpenFault.{OpenFault}
 use Rattle.target_core.specs.Connection.{ConnectionState}
+use Rattle.target_core.specs.Fault.{word_of_open_fault}
 use Rattle.target_core.specs.Moves.{Moves}
 use Rattle.target_core.specs.Target.{TargetState, free_number, is_ended_at, is_idle, open_fault, room_at, with_connection, with_stream}
 use Rattle.target_decision.specs.Session.{is_ended}
 use Rattle.target_decision.specs.World.{connections_max}
 use Rattle.target_history.specs.Event.{given_up, opened, stepped, ticked}
-use Rattle.nvt_replay.specs.declared.stream_line.StreamLine.{StreamLine}
-use Rattle.nvt_replay.specs.declared.stream_line.StreamLine.TheVariants as line
-use Rattle.nvt_replay.specs.declared.reply.Reply.{Reply}
-use Rattle.nvt_replay.specs.Printed.{edit_made_line, event_line, output_lines, refused_line, reply_line}
+use Rattle.replay_lines.specs.declared.reply.Reply.{Reply}
+use Rattle.replay_lines.specs.declared.stream_line.StreamLine.{StreamLine}
+use Rattle.replay_lines.specs.declared.stream_line.StreamLine.TheVariants as line
+use Rattle.replay_lines.specs.Printed.{edit_made_line, event_line, output_lines, reply_line}
 use Rattle.nvt_replay.specs.Replies.{MakesLine, Refuses}
-use Rattle.nvt_replay.specs.StreamLine.{Says}
+use Rattle.replay_lines.specs.StreamLine.{Says}
 
 -- a writer's known bytes grew by some text of which this holds
 abbrev pub Prints : Option (List ℕ) → Option (List ℕ) → (List ℕ → Type 0) → Type 0
@@ -134,6 +136,10 @@ HandsOut (suc n) k bytes old printed new =
 -- a line of a connection that is not open
 abbrev pub PrintsNone : ℕ → TargetState → List ℕ → TargetState → Type 0
 PrintsNone k old printed new = (printed ≡ event_line k (codes "none")) × (new ≡ old)
+
+-- `open refused KIND`
+abbrev pub refused_line : OpenFault → List ℕ
+refused_line fault = codes "open refused " ++ (word_of_open_fault fault ++ codes "\n")
 
 -- `open PORT`: it is opened under the least number that is free, or refused
 abbrev pub PlaysOpen : ℕ → TargetState → List ℕ → TargetState → Type 0

@@ -11,11 +11,11 @@ use Rattle.target_core.specs.Target.{IsNewTarget, TargetState}
 use Rattle.target_history.specs.Event.{edited}
 use Rattle.target_history.specs.History.{Opening}
 use Rattle.nvt_replay.specs.Played.{PlaysAll, Prints}
-use Rattle.nvt_replay.specs.StreamLine.{IsStreamLine}
 use Rattle.nvt_replay.specs.Replies.{Refuses}
-use Rattle.nvt_replay.specs.declared.reply.Reply.{Reply}
-use Rattle.nvt_replay.specs.declared.playback.ReplayFault.{ReplayFault}
-use Rattle.nvt_replay.specs.declared.playback.ReplayFault.TheVariants.{EditLine, StreamLine, Memory, Io, Disks}
+use Rattle.replay_lines.specs.declared.fault.ReplayFault.{ReplayFault}
+use Rattle.replay_lines.specs.declared.fault.ReplayFault.TheVariants.{EditLine, StreamLine, Memory, Io, Disks}
+use Rattle.replay_lines.specs.declared.reply.Reply.{Reply}
+use Rattle.replay_lines.specs.StreamLine.{IsStreamLine}
 
 -- each line is that of an edit, and the configuration accepts them in their order
 abbrev pub Configures : List (List ℕ) → Configuration → Configuration → Type 0
@@ -155,11 +155,3 @@ IsBeforeScript (StreamLine n) = ⊥
 IsBeforeScript Memory = ⊥
 IsBeforeScript Io = ⊥
 IsBeforeScript Disks = Unit {0}
-
--- a fault that a line of the script may end with: memory, or the output
-abbrev pub IsOfRun : ReplayFault → Type 0
-IsOfRun (EditLine n reply) = ⊥
-IsOfRun (StreamLine n) = ⊥
-IsOfRun Memory = Unit {0}
-IsOfRun Io = Unit {0}
-IsOfRun Disks = ⊥

@@ -1,26 +1,20 @@
--- Lines of edits that are made on a target, and the replies to those that are refused.
+-- Lines of edits that are made on a target, and those that are refused.
 use Rattle.std.specs.Prelude.{◌≡◌, ℕ, List, Some, Ok, Err}
 use Rattle.config_edits.specs.declared.edit.Edit.{Edit}
-use Rattle.config_edits.specs.Fault.{reply_of}
 use Rattle.config_rules.specs.Accept.{accept}
 use Rattle.config_rules.specs.Configuration.{Configuration}
 use Rattle.line_words.specs.declared.fault.LineFault.{LineFault}
 use Rattle.line_words.specs.declared.fault.LineFaultKind.{LineFaultKind}
 use Rattle.line_words.specs.declared.fault.LineFaultKind.TheVariants as kind
 use Rattle.config_text.specs.EditLine.{IsLineOf}
-use Rattle.line_words.specs.Fault.{reply_of_line_fault}
 use Rattle.line_words.specs.Words.{line_fault}
 use Rattle.target_core.specs.Moves.{Moves}
 use Rattle.target_core.specs.Target.{TargetState}
 use Rattle.target_history.specs.Event.{edited}
 use Rattle.nvt_replay.specs.declared.reply.NotMade.{NotMade}
 use Rattle.nvt_replay.specs.declared.reply.NotMade.TheVariants.{Refused, Memory}
-use Rattle.nvt_replay.specs.declared.reply.Reply.{Reply}
-use Rattle.nvt_replay.specs.declared.reply.Reply.TheVariants as reply
-
-abbrev pub text_of_reply : Reply → List ℕ
-text_of_reply (reply.Line fault) = reply_of_line_fault fault
-text_of_reply (reply.Edit fault) = reply_of fault
+use Rattle.replay_lines.specs.declared.reply.Reply.{Reply}
+use Rattle.replay_lines.specs.declared.reply.Reply.TheVariants as reply
 
 -- the reply to a line: its fault, or why the configuration refuses its edit
 abbrev pub Refuses : Configuration → List ℕ → Reply → Type 0

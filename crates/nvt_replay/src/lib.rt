@@ -5,11 +5,8 @@
 mod connections;
 mod disks;
 pub mod playback;
-mod print;
 pub mod reply;
-mod stream_line;
 
 pub use config_text::Lines;
-pub use playback::{Playback, ReplayFault, replay};
-pub use print::written;
-pub use reply::Reply;
+pub use playback::{Playback, replay};
+pub use replay_lines::{ReplayFault, Reply, written};

@@ -10,57 +10,25 @@ ghost use Rattle.line_words.specs.Lines.{lines_of};
 ghost use Rattle.number_table.specs.Table.{place};
 ghost use Rattle.target_core.specs.Target.{IsNewTarget, TargetState};
 ghost use Rattle.nvt_replay.specs.Replay.{AcceptsAll, Configures, EndsScript, Explains};
-ghost use Rattle.nvt_replay.specs.Replay.{EndsAtLine, IsBeforeScript, IsConfigured, IsOfRun};
+ghost use Rattle.nvt_replay.specs.Replay.{EndsAtLine, IsBeforeScript, IsConfigured};
 ghost use Rattle.nvt_replay.specs.Replay.{MovesByLine, MovesByLines, PlaysBefore};
 ghost use Rattle.nvt_replay.specs.Replay.{Replays, ReplaysBefore};
 ghost use Rattle.nvt_replay.specs.Replay.{RefusesDisks, RefusesEdits, RefusesLines, TakesLine, zeroed};
-ghost use Rattle.nvt_replay.specs.Played.{ArePrinted, HandsOut, HasNone, Plays, PlaysAll, PlaysLine};
+ghost use Rattle.nvt_replay.specs.Played.{ArePrinted, HandsOut, Plays, PlaysAll, PlaysLine};
 ghost use Rattle.nvt_replay.specs.Played.{PlaysEdit, PlaysEnd, PlaysOpen, PlaysReceive, Prints};
 ghost use Rattle.nvt_replay.specs.Played.{PlaysTick, Settles};
-ghost use Rattle.nvt_replay.specs.Played.{connection_lines};
-ghost use Rattle.nvt_replay.specs.StreamLine.{HasHex, IsHex, IsStreamLine};
+ghost use Rattle.nvt_replay.specs.Played.{connection_lines, refused_line};
+ghost use Rattle.replay_lines.specs.Fault.{IsOfRun};
+ghost use Rattle.replay_lines.specs.StreamLine.{HasHex, IsHex, IsStreamLine};
 
 use crate::connections::{CONNECTIONS, Connections};
 use crate::disks::{are_disks, memory_disks};
-use crate::print::Printer;
-use crate::reply::{NotMade, Reply, make_line};
-use crate::stream_line::{StreamLine, read_stream_line};
-use block_store::MemoryDisk;
+use crate::reply::NotMade;
 use config_text::Lines;
+use replay_lines::{Printer, ReplayFault, StreamLine, read_stream_line};
 use std::alloc::{AllocError, Global};
 use std::io::Write;
 use target_core::{OpenFault, Target};
-use thiserror::Error;
-
-/// Why a replay ends before its end.
-#[derive(Clone, Copy, Debug, PartialEq, Eq, Error)]
-pub enum ReplayFault {
-    /// This line of the edits, counted from 1, is refused.
-    #[error("line {line}: {reply}")]
-    EditLine { line: usize, reply: Reply },
-    /// This line of the script, counted from 1, has none of its forms.
-    #[error("stream line {line}")]
-    StreamLine { line: usize },
-    /// An allocation was refused.
-    #[error("memory")]
-    Memory,
-    /// A file could not be read, or the output not be written.
-    #[error("io")]
-    Io,
-    /// More than 256 disks, or one of more than 2^40 units.
-    #[error("disks")]
-    Disks,
-}
-
-impl From<AllocError> for ReplayFault {
-    ghost use Rattle.nvt_replay.specs.declared.playback.ReplayFault.TheVariants as fault;
-
-    ghost from_gives = { λ _ e. e ≡ fault.Memory };
-
-    fn from(_: AllocError) -> ReplayFault {
-        ReplayFault::Memory
-    }
-}
 
 /// Applies the edits to a target with disks of these sizes, in units of 512 bytes, and runs the
 /// script over it. Prints what the target sends and which connections it opens and ends.
@@ -82,51 +50,31 @@ pub fn replay<W: Write>(
     ensures unwritten { IfErr result (λ fault. IsBeforeScript fault →
         W.contents out.new ≡ W.contents out.old) }
 {
-    let target = configured(alloc, edits, units)?;
-    run(alloc, target, stream, out)
+    match begin(alloc, edits, units) {
+        Ok(mut playback) => playback.run(stream, out),
+        Err(fault) => Err(fault),
+    }
 }
 
-// Runs the script over the target.
-fn run<W: Write>(
-    alloc: Global,
-    target: Target<MemoryDisk>,
-    stream: &[u8],
-    out: &mut W,
-) -> Result<(), ReplayFault>
-    requires { HasNone target }
-    ensures ok { OnOk result (All IsStreamLine (lines_of stream.now)) }
-    ensures played { OnOk result (Prints (W.contents out.old) (W.contents out.new) (λ text.
-        (last : TargetState) × PlaysAll (lines_of stream.now) target text last)) }
-    ensures before { IfErr result (λ fault. PlaysBefore fault (lines_of stream.now) target
-        (W.contents out.old) (W.contents out.new)) }
-    ensures fault { IfErr result (λ fault. EndsScript fault (lines_of stream.now)) }
-{
-    let mut playback = Playback {
-        connections: Connections::over(target),
-        bytes: Vec::new(alloc),
-        printer: Printer::new(alloc),
-    };
-    playback.run(stream, out)
-}
-
-// A target of these disks after the edits.
+// A playback over a target of these disks after the edits.
 #[tactic(auto, using(crate::proofs::ReplayLemmas::refused_disks))]
-fn configured(alloc: Global, edits: &[u8], units: &[u64]) -> Result<Target<MemoryDisk>, ReplayFault>
+fn begin(alloc: Global, edits: &[u8], units: &[u64]) -> Result<Playback, ReplayFault>
     ensures disks { OnOk result (are_disks units.now ≡ true) }
     ensures refused { OnFalse (are_disks units.now) (result ≡ Err ReplayFault.Disks) }
-    ensures ok { IfOk result (λ target.
-        Configures (lines_of edits.now) (disks_alone units.now) target.config) }
-    ensures configured { IfOk result (IsConfigured edits.now units.now) }
+    ensures ok { IfOk result (λ playback.
+        Configures (lines_of edits.now) (disks_alone units.now) playback.connections.config) }
+    ensures configured { IfOk result (λ playback.
+        IsConfigured edits.now units.now playback.connections) }
     ensures fault { IfErr result (λ fault. RefusesEdits fault edits.now units.now) }
 {
-    let mut target = new_target(alloc, units)?;
-    take_edits(alloc, &mut target, edits)?;
-    Ok(target)
+    let mut playback = over_zeros(alloc, units)?;
+    take_edits(alloc, &mut playback.connections, edits)?;
+    Ok(playback)
 }
 
-// A target over a disk of zeros in memory, of each of these sizes.
-fn new_target(alloc: Global, units: &[u64]) -> Result<Target<MemoryDisk>, ReplayFault>
-    ensures ok { IfOk result (IsNewTarget (zeroed units.now)) }
+// A playback over a target with a disk of zeros in memory, of each of these sizes.
+fn over_zeros(alloc: Global, units: &[u64]) -> Result<Playback, ReplayFault>
+    ensures ok { IfOk result (λ playback. IsNewTarget (zeroed units.now) playback.connections) }
     ensures disks { OnOk result (are_disks units.now ≡ true) }
     ensures refused { OnFalse (are_disks units.now) (result ≡ Err ReplayFault.Disks) }
     ensures fault { IfErr result (λ fault. RefusesDisks fault units.now) }
@@ -136,26 +84,26 @@ fn new_target(alloc: Global, units: &[u64]) -> Result<Target<MemoryDisk>, Replay
     }
     let disks = memory_disks(alloc, units)?;
     match Target::new(alloc, disks) {
-        Ok(target) => Ok(target),
+        Ok(target) => Ok(Playback {
+            connections: Connections::over(target),
+            bytes: Vec::new(alloc),
+            printer: Printer::new(alloc),
+        }),
         Err(_) => Err(ReplayFault::Memory),
     }
 }
 
 // Applies the edits, up to the first line that is refused.
-fn take_edits(
-    alloc: Global,
-    target: &mut Target<MemoryDisk>,
-    edits: &[u8],
-) -> Result<(), ReplayFault>
-    ensures ok { OnOk result (Configures (lines_of edits.now) target.old.config target.new.config) }
-    ensures moves { OnOk result (MovesByLines (lines_of edits.now) target.old target.new) }
+fn take_edits(alloc: Global, connections: &mut Connections, edits: &[u8]) -> Result<(), ReplayFault>
+    ensures ok { OnOk result (Configures (lines_of edits.now) connections.old.config connections.new.config) }
+    ensures moves { OnOk result (MovesByLines (lines_of edits.now) connections.old connections.new) }
     ensures fault { IfErr result (λ fault.
-        RefusesLines fault (lines_of edits.now) target.old.config) }
+        RefusesLines fault (lines_of edits.now) connections.old.config) }
 {
     let mut number = 0;
     for line in Lines::of(edits) {
         number += 1;
-        take_edit(alloc, target, number, line)?;
+        take_edit(alloc, connections, number, line)?;
     }
     Ok(())
 }
@@ -163,14 +111,14 @@ fn take_edits(
 // Applies one line of edits.
 fn take_edit(
     alloc: Global,
-    target: &mut Target<MemoryDisk>,
+    connections: &mut Connections,
     number: usize,
     line: &[u8],
 ) -> Result<(), ReplayFault>
-    ensures takes { TakesLine target.old.config line.now number result target.new.config }
-    ensures moves { OnOk result (MovesByLine line.now target.old target.new) }
+    ensures takes { TakesLine connections.old.config line.now number result connections.new.config }
+    ensures moves { OnOk result (MovesByLine line.now connections.old connections.new) }
 {
-    match make_line(alloc, target, line) {
+    match connections.edit(alloc, line) {
         Ok(()) => Ok(()),
         Err(NotMade::Memory) => Err(ReplayFault::Memory),
         Err(NotMade::Refused(reply)) => Err(ReplayFault::EditLine {
@@ -197,14 +145,7 @@ impl Playback {
             IsConfigured edits.now units.now playback.connections) }
         ensures fault { IfErr result (λ fault. RefusesEdits fault edits.now units.now) }
     {
-        match configured(alloc, edits, units) {
-            Ok(target) => Ok(Playback {
-                connections: Connections::over(target),
-                bytes: Vec::new(alloc),
-                printer: Printer::new(alloc),
-            }),
-            Err(fault) => Err(fault),
-        }
+        begin(alloc, edits, units)
     }
 
     /// Runs a line of the script, the `number`th from 1 on, and prints what the target then sends
@@ -284,7 +225,7 @@ impl Playback {
         match self.connections.open(port) {
             Ok(k) => self.printer.event(out, k as u64, "open"),
             Err(OpenFault::Memory) => Err(ReplayFault::Memory),
-            Err(fault) => self.printer.refused_open(out, fault),
+            Err(fault) => print_refused_open(&mut self.printer, out, fault),
         }
     }
 
@@ -335,6 +276,19 @@ impl Playback {
         self.connections.tick(ms);
         settle(&mut self.connections, &mut self.printer, out)
     }
+}
+
+// Prints `open refused KIND`.
+fn print_refused_open<W: Write>(
+    printer: &mut Printer,
+    out: &mut W,
+    fault: OpenFault,
+) -> Result<(), ReplayFault>
+    ensures fault { IfErr result IsOfRun }
+    ensures printed { OnOk result (Appends (W.contents out.old) (W.contents out.new)
+        (refused_line fault)) }
+{
+    printer.text(out, format_args!("open refused {fault}\n"))
 }
 
 // Hands the bytes out, as many at a time as the connection has room for, and lets all connections

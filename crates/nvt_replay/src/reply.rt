@@ -1,44 +1,20 @@
-//! Lines of edits that are made on a target, and the replies to those that are refused.
+//! Lines of edits that are made on a target.
 
-ghost use Rattle.std.specs.Prelude.{◌≡◌, IfErr, Ok, OnErr, OnOk, Some};
+ghost use Rattle.std.specs.Prelude.{◌≡◌, IfErr, Ok, OnErr, OnOk};
 ghost use Rattle.config_rules.specs.Accept.{accept};
 ghost use Rattle.target_core.specs.Moves.{Moves};
 ghost use Rattle.target_history.specs.Event.{edited};
 ghost use Rattle.nvt_replay.specs.Replies.{IsEditRefused, IsRefused, MakesLine, not_read};
-ghost use Rattle.nvt_replay.specs.Replies.{text_of_reply};
 
 use block_store::MemoryDisk;
 use config_text::{LineFault, LineFaultKind, read_edit};
 use nvt_config::{Edit, EditFault};
+use replay_lines::Reply;
 use std::alloc::Global;
-use std::error::Error;
-use std::fmt;
 use target_core::Target;
 
-/// The reply to a line of edits that is refused.
-#[derive(Clone, Copy, Debug, PartialEq, Eq)]
-pub enum Reply {
-    /// The line is no edit's.
-    Line(LineFault),
-    /// The edit is refused.
-    Edit(EditFault),
-}
-
-impl Error for Reply {}
-
-impl fmt::Display for Reply {
-    ghost output = { λ reply. Some (text_of_reply reply) };
-
-    fn fmt<W: fmt::Write>(&self, f: &mut fmt::Formatter<W>) -> fmt::Result {
-        match self {
-            Reply::Line(fault) => write!(f, "{fault}"),
-            Reply::Edit(fault) => write!(f, "{fault}"),
-        }
-    }
-}
-
 /// Why the edit of a line is not made.
-#[derive(Clone, Copy, Debug, PartialEq, Eq)]
+#[derive(Clone, Copy)]
 pub enum NotMade {
     Refused(Reply),
     /// An allocation was refused.

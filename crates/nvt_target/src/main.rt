@@ -5,21 +5,18 @@
 #![tactic(auto)]
 
 mod arguments;
-mod explained;
+mod command_line;
 mod help;
-mod program;
 
 use arguments::Usage;
-use nvt_replay::ReplayFault;
+use replay_program::{ReplayFault, exit_status};
 use std::process::ExitCode;
-
-const FAULT: u8 = 1;
 
 const BAD_ARGUMENTS: u8 = 2;
 
 fn main(rt: HostRuntime) -> ExitCode {
     match arguments::read(&rt) {
-        Ok(Usage::Replay(arguments)) => finish(&rt, program::run(&rt, &arguments)),
+        Ok(Usage::Replay(arguments)) => finish(&rt, replay_program::run(&rt, &arguments)),
         Ok(Usage::Help) => ExitCode::SUCCESS,
         Ok(Usage::Bad) => {
             let _ = eprintln!(rt; "error: bad arguments");
@@ -30,11 +27,8 @@ fn main(rt: HostRuntime) -> ExitCode {
 }
 
 fn finish(rt: &impl Eprint, outcome: Result<(), ReplayFault>) -> ExitCode {
-    match outcome {
-        Ok(()) => ExitCode::SUCCESS,
-        Err(fault) => {
-            let _ = eprintln!(rt; "error: {fault}");
-            ExitCode::from(FAULT)
-        }
+    if let Err(fault) = outcome {
+        let _ = eprintln!(rt; "error: {fault}");
     }
+    ExitCode::from(exit_status(outcome))
 }

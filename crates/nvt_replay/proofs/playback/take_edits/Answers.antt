@@ -33,9 +33,9 @@ returns-in_err-take_edit-clause-fault c =
 pub returns-clause-ok : goal.returns-clause-ok
 returns-clause-ok c =
     let all = all_taken (lines_of c.args.edits.now) c.loop-line.number (c.loop-line.invariant.rest ∙ c.in-None.ensures.steps.0) in
-    subst (λ lines. Configures lines c.args.target.now.config c.loop-line.target.config) all c.loop-line.invariant.before
+    subst (λ lines. Configures lines c.args.connections.now.config c.loop-line.connections.config) all c.loop-line.invariant.before
 
 pub returns-clause-moves : goal.returns-clause-moves
 returns-clause-moves c =
     let all = all_taken (lines_of c.args.edits.now) c.loop-line.number (c.loop-line.invariant.rest ∙ c.in-None.ensures.steps.0) in
-    subst (λ lines. MovesByLines lines c.args.target.now c.loop-line.target) all c.loop-line.invariant.moves
+    subst (λ lines. MovesByLines lines c.args.connections.now c.loop-line.connections) all c.loop-line.invariant.moves

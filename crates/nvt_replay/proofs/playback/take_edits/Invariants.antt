@@ -7,6 +7,6 @@ abbrev pub invariant-loop-line : goal.invariant-loop-line
 invariant-loop-line l = record {
   rest : drop l.number (lines_of l.edits) ≡ l.line-iterator;
   counted : l.number ≤ length (lines_of l.edits);
-  before : Configures (take l.number (lines_of l.edits)) l.fn.target.config l.target.config;
-  moves : MovesByLines (take l.number (lines_of l.edits)) l.fn.target l.target;
+  before : Configures (take l.number (lines_of l.edits)) l.fn.connections.config l.connections.config;
+  moves : MovesByLines (take l.number (lines_of l.edits)) l.fn.connections l.connections;
 }

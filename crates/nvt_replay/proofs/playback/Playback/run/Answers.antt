@@ -1,7 +1,7 @@
 use Rattle.std.proofs.Common.{◌≡◌, ℕ, List, ◌∷◌, drop, subst, ◌∙◌, arith}
 use Rattle.std.specs.List.{All}
 use Rattle.line_words.specs.Lines.{lines_of}
-use Rattle.nvt_replay.specs.StreamLine.{IsStreamLine}
+use Rattle.replay_lines.specs.StreamLine.{IsStreamLine}
 use Rattle.line_words.proofs.LineLemmas.{length-lines_of}
 use Rattle.nvt_replay.specs.Played.{PlaysAll, Prints}
 use Rattle.nvt_replay.proofs.Playing.{played_before, played_more}

@@ -1,4 +1,0 @@
-use Rattle.nvt_replay.proofs.print.Printer.event.Goals as goal
-
-pub returns-clause-printed : goal.returns-clause-printed
-returns-clause-printed g c = c.text.ensures.printed

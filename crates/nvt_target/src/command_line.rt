@@ -1,0 +1,72 @@
+//! The command line, as the program declares it.
+
+use crate::help::HELP;
+use clap::{Arg, ArgAction, Command, value_parser};
+use std::alloc::{AllocError, Global};
+
+const DISKS_MAX: i64 = 256;
+
+const UNITS_MAX: i64 = 1_048_576;
+
+/// The program, with its command `replay`.
+pub fn program<'a>(alloc: Global) -> Result<Command<'a>, AllocError> {
+    match replay(alloc) {
+        Ok(replay) => Command::new(alloc, "nvt_target")
+            .about("A target of NVMe over TCP")
+            .after_help(HELP)
+            .subcommand_required(true)
+            .subcommand(replay),
+        Err(AllocError) => Err(AllocError),
+    }
+}
+
+fn replay<'a>(alloc: Global) -> Result<Command<'a>, AllocError> {
+    let command = Command::new(alloc, "replay")
+        .about("Applies the lines of EDITS, runs those of STREAM, and prints what the target sends")
+        .after_help(HELP)
+        .arg(file(alloc, "EDITS", "A file of one edit a line"));
+    let stream = file(alloc, "STREAM", "A script of connections, one line each");
+    let command = with(command, stream);
+    let command = with(command, disks(alloc));
+    let command = with(command, units(alloc));
+    with(command, explain(alloc))
+}
+
+// The command with one argument more, unless memory was wanted before.
+fn with<'a>(
+    command: Result<Command<'a>, AllocError>,
+    arg: Arg<'a>,
+) -> Result<Command<'a>, AllocError> {
+    match command {
+        Ok(command) => command.arg(arg),
+        Err(AllocError) => Err(AllocError),
+    }
+}
+
+fn file<'a>(alloc: Global, name: &'a str, help: &'a str) -> Arg<'a> {
+    Arg::new(alloc, name).required(true).help(help)
+}
+
+fn option<'a>(alloc: Global, name: &'a str, default: &'a str, help: &'a str) -> Arg<'a> {
+    Arg::new(alloc, name)
+        .long(name)
+        .default_value(default)
+        .help(help)
+}
+
+fn disks<'a>(alloc: Global) -> Arg<'a> {
+    let help = "How many disks the target has, 1 to 256";
+    option(alloc, "disks", "4", help).value_parser(value_parser!(u16).range(1..=DISKS_MAX))
+}
+
+fn units<'a>(alloc: Global) -> Arg<'a> {
+    let help = "The size of each disk in units of 512 bytes, 1 to 1048576";
+    option(alloc, "units", "2048", help).value_parser(value_parser!(u64).range(1..=UNITS_MAX))
+}
+
+fn explain<'a>(alloc: Global) -> Arg<'a> {
+    Arg::new(alloc, "explain")
+        .long("explain")
+        .action(ArgAction::SetTrue)
+        .help("Prints behind each PDU what it is, in words, after ` # `")
+}

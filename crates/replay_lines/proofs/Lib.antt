@@ -1,0 +1,2 @@
+pub mod PduLemmas
+pub mod Splits

@@ -1,0 +1,4 @@
+use Rattle.replay_lines.proofs.print.Printer.event.Goals as goal
+
+pub returns-clause-printed : goal.returns-clause-printed
+returns-clause-printed g c = c.text.ensures.printed

@@ -1,0 +1,4 @@
+pub mod Fault
+pub mod Printed
+pub mod Reply
+pub mod StreamLine
