@@ -57,12 +57,6 @@ replace_port-requires c = rw c.in-ReplacePort.is (rw c.in-ReplacePort.is at c.re
 pub returns-in-ReplacePort : goal.returns-in-ReplacePort
 returns-in-ReplacePort c = rw c.in-ReplacePort.is (rw c.in-ReplacePort.is at c.replace_port.ensures)
 
-pub remove_port-requires : goal.remove_port-requires
-remove_port-requires c = rw c.in-RemovePort.is at c.requires.valid
-
-pub returns-in-RemovePort : goal.returns-in-RemovePort
-returns-in-RemovePort c = rw c.in-RemovePort.is c.remove_port.ensures
-
 pub add_link-requires-clause-room : goal.add_link-requires-clause-room
 add_link-requires-clause-room c = rw c.in-AddLink.is (rw c.in-AddLink.is at c.requires.room)
 
