@@ -21,19 +21,10 @@ pub fn measure<R: Clock + Print + AllocGlobal>(
     setup: &[u8],
     lines: &[u8],
 ) -> Result<(), BenchFault> {
-    let mut config = Config::new(rt.alloc(), &[UNITS; DISKS])?;
-    measure_over(rt, &mut config, setup, lines)
-}
-
-fn measure_over<R: Clock + Print + AllocGlobal>(
-    rt: &R,
-    config: &mut Config,
-    setup: &[u8],
-    lines: &[u8],
-) -> Result<(), BenchFault> {
-    configure(rt.alloc(), config, setup)?;
-    let mut edits = Vec::new(rt.alloc());
-    measure_all(rt, config, lines, &mut edits)
+    let alloc = rt.alloc();
+    let mut config = Config::new(alloc, &[UNITS; DISKS])?;
+    configure(alloc, &mut config, setup)?;
+    measure_all(rt, &config, lines)
 }
 
 fn configure(alloc: Global, config: &mut Config, setup: &[u8]) -> Result<(), BenchFault> {
@@ -44,98 +35,57 @@ fn configure(alloc: Global, config: &mut Config, setup: &[u8]) -> Result<(), Ben
 }
 
 fn apply(alloc: Global, config: &mut Config, line: &[u8]) -> Result<(), BenchFault> {
-    match read_edit(alloc, line) {
-        Ok(edit) => apply_edit(config, &edit),
-        Err(fault) => Err(BenchFault::Line(fault)),
-    }
-}
-
-fn apply_edit(config: &mut Config, edit: &Edit) -> Result<(), BenchFault> {
-    config.apply(edit)?;
+    let edit = read_edit(alloc, line)?;
+    config.apply(&edit)?;
     Ok(())
 }
 
-// The edits are read into room that is empty.
 fn measure_all<R: Clock + Print + AllocGlobal>(
     rt: &R,
     config: &Config,
     lines: &[u8],
-    edits: &mut Vec<Edit>,
 ) -> Result<(), BenchFault> {
-    measure_reading(rt, lines, edits)?;
-    measure_writing(rt, edits, lines)?;
-    measure_checking(rt, config, edits)
-}
-
-fn measure_reading<R: Clock + Print + AllocGlobal>(
-    rt: &R,
-    lines: &[u8],
-    edits: &mut Vec<Edit>,
-) -> Result<(), BenchFault> {
+    let mut edits = Vec::new(rt.alloc());
     let begun = now(rt)?;
-    read_all(rt.alloc(), lines, edits)?;
-    report(rt, "read", edits.len(), begun)
+    read_all(rt.alloc(), lines, &mut edits)?;
+    report(rt, "read", edits.len(), begun)?;
+    write_all(rt, &edits, lines)?;
+    let begun = now(rt)?;
+    let accepted = check_all(config, &edits);
+    report(rt, "checked", edits.len(), begun)?;
+    print(rt, "accepted by the configuration", accepted)
 }
 
 fn read_all(alloc: Global, lines: &[u8], edits: &mut Vec<Edit>) -> Result<(), BenchFault> {
     for line in Lines::of(lines) {
-        read_one(alloc, line, edits)?;
-    }
-    Ok(())
-}
-
-fn read_one(alloc: Global, line: &[u8], edits: &mut Vec<Edit>) -> Result<(), BenchFault> {
-    let edit = read_edit(alloc, line)?;
-    if edits.push(edit).is_err() {
-        return Err(BenchFault::Memory);
+        let edit = read_edit(alloc, line)?;
+        if edits.push(edit).is_err() {
+            return Err(BenchFault::Memory);
+        }
     }
     Ok(())
 }
 
 // Writes the lines of the edits, each with its end, and compares them afterwards.
-fn measure_writing<R: Clock + Print + AllocGlobal>(
+fn write_all<R: Clock + Print + AllocGlobal>(
     rt: &R,
     edits: &[Edit],
     lines: &[u8],
 ) -> Result<(), BenchFault> {
     let mut written = BytesMut::with_capacity(rt.alloc(), lines.len() + LINE_MAX)?;
-    write_timed(rt, edits, &mut written)?;
+    let begun = now(rt)?;
+    for edit in edits {
+        if write_edit(edit, &mut written).is_err() {
+            return Err(BenchFault::OtherLine);
+        }
+        written.extend_from_slice(b"\n")?;
+    }
+    report(rt, "written", edits.len(), begun)?;
     if &written[..] == lines {
         Ok(())
     } else {
         Err(BenchFault::OtherLine)
     }
-}
-
-fn write_timed<R: Clock + Print>(
-    rt: &R,
-    edits: &[Edit],
-    written: &mut BytesMut,
-) -> Result<(), BenchFault> {
-    let begun = now(rt)?;
-    for edit in edits {
-        write_one(edit, written)?;
-    }
-    report(rt, "written", edits.len(), begun)
-}
-
-fn write_one(edit: &Edit, written: &mut BytesMut) -> Result<(), BenchFault> {
-    if write_edit(edit, written).is_err() {
-        return Err(BenchFault::OtherLine);
-    }
-    written.extend_from_slice(b"\n")?;
-    Ok(())
-}
-
-fn measure_checking<R: Clock + Print>(
-    rt: &R,
-    config: &Config,
-    edits: &[Edit],
-) -> Result<(), BenchFault> {
-    let begun = now(rt)?;
-    let accepted = check_all(config, edits);
-    report(rt, "checked", edits.len(), begun)?;
-    print(rt, "accepted by the configuration", accepted)
 }
 
 // How many of the edits the configuration would accept.

@@ -44,18 +44,13 @@ fn finish(rt: &impl Eprint, outcome: Result<(), BenchFault>) -> ExitCode {
 // The two files that the arguments name.
 fn paths<R: Env + AllocGlobal>(rt: &R) -> Option<(String, String)> {
     let mut words = env::args(rt).ok()?;
-    paths_in(&mut words)
-}
-
-// .. behind the program's name.
-fn paths_in(words: &mut impl Iterator<Item = String>) -> Option<(String, String)> {
-    words.next()?;
+    let _ = words.next()?;
     let setup = words.next()?;
     let lines = words.next()?;
-    match words.next() {
-        None => Some((setup, lines)),
-        Some(_) => None,
+    if words.next().is_some() {
+        return None;
     }
+    Some((setup, lines))
 }
 
 fn run<R: Files + Clock + Print + AllocGlobal>(
@@ -63,17 +58,10 @@ fn run<R: Files + Clock + Print + AllocGlobal>(
     setup: &str,
     lines: &str,
 ) -> Result<(), BenchFault> {
-    let setup = read_file(rt, rt.alloc(), setup)?;
-    let lines = read_file(rt, rt.alloc(), lines)?;
-    measure(rt, &setup, &lines)
-}
-
-fn measure<R: Clock + Print + AllocGlobal>(
-    rt: &R,
-    setup: &[u8],
-    lines: &[u8],
-) -> Result<(), BenchFault> {
-    edits::measure(rt, setup, lines)?;
+    let alloc = rt.alloc();
+    let setup = read_file(rt, alloc, setup)?;
+    let lines = read_file(rt, alloc, lines)?;
+    edits::measure(rt, &setup, &lines)?;
     commands::measure(rt)
 }
 
