@@ -8,6 +8,7 @@ import hashlib
 import os
 import re
 import subprocess
+import threading
 
 from calls import compiled
 from made import Made
@@ -37,7 +38,7 @@ class Ledger:
     """The lines of a file of them: a key by each label."""
 
     def __init__(self, file):
-        self.file, self.keys = file, {}
+        self.file, self.keys, self.lock = file, {}, threading.Lock()
         if os.path.isfile(file):
             with open(file, encoding="utf-8") as it:
                 self.keys = dict(line.split() for line in it if line.strip())
@@ -47,18 +48,20 @@ class Ledger:
 
     def take(self, label, key):
         """Takes the line of a label, or, with no key, takes it out."""
-        self.keys.pop(label, None)
-        if key:
-            self.keys[label] = key
+        with self.lock:
+            self.keys.pop(label, None)
+            if key:
+                self.keys[label] = key
 
     def without_edit(self, labels, crates):
         """Returns the lines of these crates that name none of these edits."""
         return sorted(it for it in self.keys if it.partition("/")[0] in crates and it not in labels)
 
     def write(self):
-        with open(f"{self.file}.new", "w", encoding="utf-8") as it:
-            it.writelines(f"{label} {self.keys[label]}\n" for label in sorted(self.keys))
-        os.replace(f"{self.file}.new", self.file)
+        with self.lock:
+            with open(f"{self.file}.new", "w", encoding="utf-8") as it:
+                it.writelines(f"{label} {self.keys[label]}\n" for label in sorted(self.keys))
+            os.replace(f"{self.file}.new", self.file)
 
 
 class Keys:
@@ -70,10 +73,13 @@ class Keys:
         self.printed = {}
 
     def key(self, edit, crate, sources):
-        lines = [*self.first, f"edit {sum_of_lines(edit.lines())}", *self.texts(edit, sources)]
-        return sum_of_lines([*lines, *self.reach.sums(self.reach.from_these(self.nodes(edit, crate, lines)))])
+        text = self.text_of(edit, sources)
+        words = {word for change in edit.changes for word in WORD.findall(change.new)}
+        nodes = self.reach.from_these(self.nodes(edit, crate, text, words))
+        constants = self.constants(crate, words)
+        return sum_of_lines([*self.first, *edit.lines(), *text, *constants, *self.reach.sums(nodes)])
 
-    def texts(self, edit, sources):
+    def text_of(self, edit, sources):
         """Returns the text of what is edited: that of a function, and of what its file brings in; or all files."""
         if edit.function is None:
             return [f"{file}\n{sources[file]}" for file in sorted(sources)]
@@ -81,21 +87,22 @@ class Keys:
         own = [it for it in functions_of(edit.function.file, text) if it.function == edit.function]
         return [*(it.strip() for it in USE.findall(blanked(text))), *(with_attributes(text, it) for it in own)]
 
-    def nodes(self, edit, crate, lines):
-        """Returns the modules that are the edited function's own, or named by its text and by the edit's."""
-        names = self.paths_of(edit.function, crate) if edit.function else []
-        libraries = [it for it in [*crate.below, crate.name] if it in self.reach.made_of]
-        if not names:
-            found = self.reach.all_of(crate.name) if crate.makes_library() else set()
-            below = [it for it in libraries if it != crate.name] if not crate.makes_library() else []
-            return found.union(*(self.reach.all_of(it) for it in below))
-        found = set().union(*(self.reach.own(crate.name, it) for it in names))
-        for text in lines:
-            for path in OF_PROOFS.findall(text):
-                found |= self.reach.imported(crate.name, "proofs" + path.replace("::", "/"))
-        words = {word for change in edit.changes for word in WORD.findall(change.new)}
-        lines += sorted(it for name in libraries for it in self.constants(name) if CONST.match(it)[1] in words)
-        return found | self.reach.items_named(libraries, words)
+    def nodes(self, edit, crate, text, words):
+        """Returns the modules that are the edited function's own, or that its text or a word of the edit names. Where
+        no function's are known, as in a program, these are all of the crate, or of those below it."""
+        paths = self.paths_of(edit.function, crate) if edit.function else []
+        if not paths:
+            crates = [crate.name] if crate.makes_library() else crate.below
+            return set().union(*(self.reach.all_of(it) for it in crates))
+        found = set().union(*(self.reach.own(crate.name, it) for it in paths))
+        for path in {it for line in text for it in OF_PROOFS.findall(line)}:
+            found |= self.reach.imported(crate.name, "proofs" + path.replace("::", "/"))
+        return found | self.reach.items_named([*crate.below, crate.name], words)
+
+    def constants(self, crate, words):
+        """Returns the constants of these names, of the crate and of those below it."""
+        texts = [text for name in [*crate.below, crate.name] for text in self.crates[name].sources().values()]
+        return sorted(it[0].strip() for text in texts for it in CONST.finditer(text) if it[1] in words)
 
     def paths_of(self, function, crate):
         """Returns the paths of the function's modules and of those of the closures in it."""
@@ -104,9 +111,6 @@ class Keys:
         own = [it for it in self.printed[crate.name] if is_of(function, crate.name, it)]
         paths = {it.removeprefix(f"{crate.name}::").replace("::", "/") for it in own}
         return sorted(paths | {re.sub(rf"(/fn/(?:.*/)?{function.name})/.*", r"\1", it) for it in paths if "/fn/" in it})
-
-    def constants(self, name):
-        return [found[0].strip() for text in self.crates[name].sources().values() for found in CONST.finditer(text)]
 
 
 def with_attributes(text, place):
