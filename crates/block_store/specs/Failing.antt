@@ -1,7 +1,7 @@
 -- Which call of a disk fails, where one is to fail.
 use Rattle.std.specs.Prelude.{◌≡◌, ℕ, zero, suc, Bool, true, false, Option, Some, None, Result}
 use Rattle.std.specs.Result.{is_err}
-use Rattle.block_store.specs.Faults.{faults_after}
+use Rattle.block_store.specs.Faults.{Counts}
 
 -- how many calls pass before the one that fails, after one more call; none once it has failed
 abbrev pub passes_after : Option ℕ → Option ℕ
@@ -20,10 +20,10 @@ abbrev pub own_faults : Option ℕ → ℕ
 own_faults None = 1
 own_faults (Some n) = 0
 
--- The call that is due fails, and does not reach the disk below; any other fails where that disk
--- counts a fault.
+-- The call that is due fails, and does not reach the disk below; any other fails exactly where that
+-- disk counts a fault.
 pub record FailsInTurn {D T E : Type 0} (faults : D → ℕ) (passes : Option ℕ) (result : Result T E)
     (old new : D) : Type 0 where
   pub due : is_due passes ≡ true → is_err result ≡ true
   pub untouched : is_due passes ≡ true → new ≡ old
-  pub passed : is_due passes ≡ false → faults new ≡ faults_after result (faults old)
+  pub passed : is_due passes ≡ false → Counts result (faults old) (faults new)

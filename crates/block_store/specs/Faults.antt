@@ -1,11 +1,7 @@
 -- The count of a disk's failures.
-use Rattle.std.specs.Prelude.{ℕ, ◌+◌, ◌%◌, ◌^◌, Result, Ok, Err}
+use Rattle.std.specs.Prelude.{◌≡◌, ◌≢◌, ℕ, Result, Ok, Err}
 
--- the count after one more fault, modulo 2^64
-abbrev pub raised : ℕ → ℕ
-raised faults = (faults + 1) % 2 ^ 64
-
--- the count after a call: it rises with a fault
-abbrev pub faults_after : {T E : Type 0} → Result T E → ℕ → ℕ
-faults_after (Ok _) faults = faults
-faults_after (Err _) faults = raised faults
+-- a call answers a fault exactly where it changed the count
+abbrev pub Counts : {T E : Type 0} → Result T E → ℕ → ℕ → Type 0
+Counts (Ok _) old new = new ≡ old
+Counts (Err _) old new = new ≢ old

@@ -1,8 +1,8 @@
 -- What a disk has and how it fared.
 use Rattle.std.specs.Prelude.{ℕ, List}
 
--- the bytes of each unit, in the order of their numbers; those that the latest sync found; and how often
--- a call has failed, modulo 2^64
+-- the bytes of each unit, in the order of their numbers; those that the latest sync found; and the count of
+-- its failures, which each call that fails changes, and no other
 pub record Stored : Type 0 where
   pub contents : List (List ℕ)
   pub synced : List (List ℕ)

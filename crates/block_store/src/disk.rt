@@ -14,7 +14,7 @@ pub trait Disk {
     ghost use Rattle.std.specs.Prelude.{◌≡◌, ◌<◌, ◌⊎◌, ℕ, List, length, slice_index_or, slice_set, [], OnOk, OnErr};
     ghost use Rattle.std.specs.List.{All};
     ghost use Rattle.block_store.specs.Unit.{IsUnit};
-    ghost use Rattle.block_store.specs.Faults.{faults_after};
+    ghost use Rattle.block_store.specs.Faults.{Counts};
 
     /// The bytes of each unit, in the order of their numbers.
     ghost contents: { Self → List (List ℕ) };
@@ -22,7 +22,7 @@ pub trait Disk {
     /// The bytes of each unit that the latest `sync` found, as far as no write came after it.
     ghost synced: { Self → List (List ℕ) };
 
-    /// How often a call has failed, modulo 2^64.
+    /// A count of the calls that failed: each of them changes it, and no other call does.
     ghost faults: { Self → ℕ };
 
     /// The number of units: always the same.
@@ -35,7 +35,7 @@ pub trait Disk {
         ensures bytes { OnOk result (out.new ≡ slice_index_or (contents self.old) unit []) }
         ensures contents { contents self.new ≡ contents self.old }
         ensures synced { synced self.new ≡ synced self.old }
-        ensures faults { faults self.new ≡ faults_after result (faults self.old) };
+        ensures faults { Counts result (faults self.old) (faults self.new) };
 
     /// Gives the unit these bytes. After a fault it has them or its old ones. What is synced then
     /// is not said until the next `sync`.
@@ -43,13 +43,13 @@ pub trait Disk {
         requires { unit < length (contents self.old) }
         ensures written { OnOk result (contents self.new ≡ slice_set (contents self.old) unit bytes.now) }
         ensures torn { OnErr result ((contents self.new ≡ contents self.old) ⊎ (contents self.new ≡ slice_set (contents self.old) unit bytes.now)) }
-        ensures faults { faults self.new ≡ faults_after result (faults self.old) };
+        ensures faults { Counts result (faults self.old) (faults self.new) };
 
     /// Makes what was written last.
     fn sync(&mut self) -> Result<(), DiskFault>
         ensures synced { OnOk result (synced self.new ≡ contents self.old) }
         ensures contents { contents self.new ≡ contents self.old }
-        ensures faults { faults self.new ≡ faults_after result (faults self.old) };
+        ensures faults { Counts result (faults self.old) (faults self.new) };
 
     /// Each unit has 512 bytes.
     ghost whole: { (disk : Self) → All IsUnit (contents disk) };

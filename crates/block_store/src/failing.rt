@@ -1,5 +1,5 @@
 //! A disk that fails once, for tests.
-ghost use Rattle.std.specs.Prelude.{◌≡◌, ◌+◌, ◌%◌, ◌^◌, Some};
+ghost use Rattle.std.specs.Prelude.{◌≡◌, ◌+◌, Some};
 ghost use Rattle.std.specs.Result.{is_err};
 ghost use Rattle.block_store.specs.Failing.{own_faults, is_due, passes_after, FailsInTurn};
 
@@ -48,13 +48,13 @@ impl<D: Disk> FailingDisk<D> {
 
 impl<D: Disk> Disk for FailingDisk<D> {
     ghost use Rattle.std.specs.Prelude.{◌≡◌, ◌<◌, ◌⊎◌, length, slice_index_or, slice_set, [], OnOk, OnErr};
-    ghost use Rattle.block_store.specs.Faults.{faults_after};
+    ghost use Rattle.block_store.specs.Faults.{Counts};
 
     ghost contents = { λ failing. D.contents failing.disk };
 
     ghost synced = { λ failing. D.synced failing.disk };
 
-    ghost faults = { λ failing. (own_faults failing.passes + D.faults failing.disk) % 2 ^ 64 };
+    ghost faults = { λ failing. own_faults failing.passes + D.faults failing.disk };
 
     ghost whole = { λ failing. D.whole failing.disk };
 

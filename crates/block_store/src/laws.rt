@@ -1,7 +1,6 @@
 //! Laws of ranges: a disk is a map from units to their bytes.
-ghost use Rattle.std.specs.Prelude.{◌≡◌, ◌≢◌, ◌⊎◌, ℕ, ◌+◌, ◌*◌, ◌≤◌, List, [], ◌++◌, length, slice_index_or, unwrap_or};
+ghost use Rattle.std.specs.Prelude.{◌≡◌, ◌⊎◌, ℕ, ◌+◌, ◌*◌, ◌≤◌, List, [], ◌++◌, length, slice_index_or, unwrap_or};
 ghost use Rattle.std.specs.List.{All};
-ghost use Rattle.block_store.specs.Faults.{raised};
 ghost use Rattle.block_store.specs.Range.{bytes_of, units_of, units_at, overwritten, FrontWritten, IsWritten};
 ghost use Rattle.block_store.specs.Unit.{IsUnit};
 ghost use Rattle.block_store.specs.Write.{Write, IsWithin, contents_after, latest};
@@ -63,9 +62,4 @@ pub fn units_are_their_bytes()
         → All IsUnit (units_of bytes) }
     ensures count { (bytes : List ℕ) (count : ℕ) → length bytes ≡ count * 512
         → length (units_of bytes) ≡ count }
-{}
-
-/// A law: a fault is seen in the count of failures, although that wraps at 2^64.
-pub fn fault_changes_the_count()
-    ensures { (faults : ℕ) → raised faults ≢ faults }
 {}

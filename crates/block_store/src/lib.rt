@@ -1,5 +1,5 @@
 //! Disks of units of 512 bytes, and a store that reads, writes, zeroes and compares ranges of their
-//! units. A disk counts its failures, and a call answers a fault exactly where that count rose. The
+//! units. A disk counts its failures, and a call answers a fault exactly where that count changed. The
 //! crate knows no namespace, no logical block and no command.
 #![tactic(auto)]
 

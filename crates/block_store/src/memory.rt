@@ -28,7 +28,7 @@ impl MemoryDisk {
 impl Disk for MemoryDisk {
     ghost use Rattle.std.specs.Prelude.{◌≡◌, ◌<◌, ◌⊎◌, length, slice_index_or, slice_set, [], OnOk, OnErr};
     ghost use Rattle.std.specs.Result.{IsOk};
-    ghost use Rattle.block_store.specs.Faults.{faults_after};
+    ghost use Rattle.block_store.specs.Faults.{Counts};
     ghost use Rattle.block_store.specs.Memory.{memory_contents};
 
     ghost contents = { memory_contents };

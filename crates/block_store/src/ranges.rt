@@ -1,6 +1,6 @@
 //! Ranges of a disk's units, one unit after the other, up to the first fault.
 ghost use Rattle.std.specs.Prelude.{◌≡◌, ◌+◌, ◌*◌, ◌<◌, ◌≤◌, ◌^◌, ◌↔◌, [], length, take, replicate, slice_index_or, IfOk, OnOk, OnErr, IsTrue};
-ghost use Rattle.block_store.specs.Faults.{faults_after};
+ghost use Rattle.block_store.specs.Faults.{Counts};
 ghost use Rattle.block_store.specs.Range.{bytes_of, units_at, overwritten, FrontWritten};
 ghost use Rattle.block_store.specs.Unit.{zero_unit};
 
@@ -13,7 +13,7 @@ fn read_unit<D: Disk>(disk: &mut D, unit: u64, out: &mut [u8]) -> Result<(), Dis
     ensures bytes { OnOk result (out.new ≡ slice_index_or (D.contents disk.old) unit []) }
     ensures contents { D.contents disk.new ≡ D.contents disk.old }
     ensures synced { D.synced disk.new ≡ D.synced disk.old }
-    ensures faults { D.faults disk.new ≡ faults_after result (D.faults disk.old) }
+    ensures faults { Counts result (D.faults disk.old) (D.faults disk.new) }
 {
     disk.read(unit, out.first_chunk_mut::<UNIT_LEN>().unwrap())
 }
@@ -31,7 +31,7 @@ pub(crate) fn read_units<D: Disk>(
     ensures bytes { OnOk result (out.new ≡ bytes_of (units_at (D.contents disk.old) first count)) }
     ensures contents { D.contents disk.new ≡ D.contents disk.old }
     ensures synced { D.synced disk.new ≡ D.synced disk.old }
-    ensures faults { D.faults disk.new ≡ faults_after result (D.faults disk.old) }
+    ensures faults { Counts result (D.faults disk.old) (D.faults disk.new) }
 {
     for i in 0..count {
         let at = i * UNIT_LEN;
@@ -50,7 +50,7 @@ pub(crate) fn write_units<D: Disk>(
     requires fits { first + length units.now < 2 ^ 64 }
     ensures written { OnOk result (D.contents disk.new ≡ overwritten (D.contents disk.old) first units.now) }
     ensures torn { OnErr result (FrontWritten (D.contents disk.old) first units.now (D.contents disk.new)) }
-    ensures faults { D.faults disk.new ≡ faults_after result (D.faults disk.old) }
+    ensures faults { Counts result (D.faults disk.old) (D.faults disk.new) }
 {
     let mut unit = first;
     for bytes in units {
@@ -66,7 +66,7 @@ pub(crate) fn zero_units<D: Disk>(disk: &mut D, first: u64, count: u64) -> Resul
     requires fits { first + count < 2 ^ 64 }
     ensures written { OnOk result (D.contents disk.new ≡ overwritten (D.contents disk.old) first (replicate count zero_unit)) }
     ensures torn { OnErr result (FrontWritten (D.contents disk.old) first (replicate count zero_unit) (D.contents disk.new)) }
-    ensures faults { D.faults disk.new ≡ faults_after result (D.faults disk.old) }
+    ensures faults { Counts result (D.faults disk.old) (D.faults disk.new) }
 {
     let zeros = [0; UNIT_LEN];
     for unit in first..first + count {
@@ -86,7 +86,7 @@ pub(crate) fn compare_units<D: Disk>(
     ensures same { IfOk result (λ same. IsTrue same ↔ (units.now ≡ units_at (D.contents disk.old) first (length units.now))) }
     ensures contents { D.contents disk.new ≡ D.contents disk.old }
     ensures synced { D.synced disk.new ≡ D.synced disk.old }
-    ensures faults { D.faults disk.new ≡ faults_after result (D.faults disk.old) }
+    ensures faults { Counts result (D.faults disk.old) (D.faults disk.new) }
 {
     let mut held = [0; UNIT_LEN];
     let mut same = true;

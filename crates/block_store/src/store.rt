@@ -1,7 +1,7 @@
 //! A disk as ranges of units.
 ghost use Rattle.std.specs.Prelude.{◌≡◌, ◌+◌, ◌%◌, ◌/◌, ◌≤◌, ◌↔◌, length, replicate, IfOk, OnOk, OnErr, IsTrue};
 ghost use Rattle.std.specs.List.{All};
-ghost use Rattle.block_store.specs.Faults.{faults_after};
+ghost use Rattle.block_store.specs.Faults.{Counts};
 ghost use Rattle.block_store.specs.Range.{bytes_of, units_of, units_at, overwritten, FrontWritten};
 ghost use Rattle.block_store.specs.Unit.{IsUnit, zero_unit};
 
@@ -64,7 +64,7 @@ impl<D: Disk> Store<D> {
         ensures bytes { OnOk result (out.new ≡ bytes_of (units_at self.old.contents first (length out.old / 512))) }
         ensures contents { self.new.contents ≡ self.old.contents }
         ensures synced { self.new.synced ≡ self.old.synced }
-        ensures faults { self.new.faults ≡ faults_after result self.old.faults }
+        ensures faults { Counts result self.old.faults self.new.faults }
     {
         read_units(&mut self.disk, first, out.len() / UNIT_LEN, out)
     }
@@ -77,7 +77,7 @@ impl<D: Disk> Store<D> {
         ensures written { OnOk result (self.new.contents ≡ overwritten self.old.contents first (units_of bytes.now)) }
         ensures torn { OnErr result (FrontWritten self.old.contents first (units_of bytes.now) self.new.contents) }
         ensures blocks { length self.new.contents ≡ length self.old.contents }
-        ensures faults { self.new.faults ≡ faults_after result self.old.faults }
+        ensures faults { Counts result self.old.faults self.new.faults }
     {
         let (units, _) = bytes.as_chunks::<UNIT_LEN>();
         write_units(&mut self.disk, first, units)
@@ -90,7 +90,7 @@ impl<D: Disk> Store<D> {
         ensures written { OnOk result (self.new.contents ≡ overwritten self.old.contents first (replicate count zero_unit)) }
         ensures torn { OnErr result (FrontWritten self.old.contents first (replicate count zero_unit) self.new.contents) }
         ensures blocks { length self.new.contents ≡ length self.old.contents }
-        ensures faults { self.new.faults ≡ faults_after result self.old.faults }
+        ensures faults { Counts result self.old.faults self.new.faults }
     {
         zero_units(&mut self.disk, first, count)
     }
@@ -103,7 +103,7 @@ impl<D: Disk> Store<D> {
         ensures same { IfOk result (λ same. IsTrue same ↔ (bytes.now ≡ bytes_of (units_at self.old.contents first (length bytes.now / 512)))) }
         ensures contents { self.new.contents ≡ self.old.contents }
         ensures synced { self.new.synced ≡ self.old.synced }
-        ensures faults { self.new.faults ≡ faults_after result self.old.faults }
+        ensures faults { Counts result self.old.faults self.new.faults }
     {
         let (units, _) = bytes.as_chunks::<UNIT_LEN>();
         compare_units(&mut self.disk, first, units)
@@ -113,7 +113,7 @@ impl<D: Disk> Store<D> {
     pub fn sync(&mut self) -> Result<(), DiskFault>
         ensures contents { self.new.contents ≡ self.old.contents }
         ensures synced { OnOk result (self.new.synced ≡ self.new.contents) }
-        ensures faults { self.new.faults ≡ faults_after result self.old.faults }
+        ensures faults { Counts result self.old.faults self.new.faults }
     {
         self.disk.sync()
     }

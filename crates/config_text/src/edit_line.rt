@@ -30,7 +30,8 @@ pub fn read_edit(alloc: Global, line: &[u8]) -> Result<Edit, LineFault>
     }
 }
 
-/// Reading what was written gives the edit: its line has no fault, and is no other edit's.
+/// The line of an edit has no fault, where each of its values has a word and the line has at most
+/// 1,024 bytes, so that `read_edit` reads it back, memory aside. No line is that of two edits.
 pub fn lines_are_read_back()
     ensures read { (edit : Edit) → IsSayable edit → length (line_of edit) ≤ 1024
         → line_fault (line_of edit) ≡ None }

@@ -258,6 +258,7 @@ fn hosts_need_permission(rt: HostRuntime) {
 }
 
 const IDENTIFIERS: &[Step] = &[
+    Step::Live(&[]),
     Step::Connect(
         1,
         &[],
@@ -289,19 +290,28 @@ const IDENTIFIERS: &[Step] = &[
     Step::Remove(3),
     Step::Remove(2),
     Step::Remove(9),
+    Step::Live(&[1, 4]),
     Step::Connect(1, &[], &[], Answer::Io(2)),
     Step::Connect(1, &[], &[DISCOVERY], Answer::Discovery(3)),
     Step::Connect(1, &[], &[], Answer::Io(5)),
+    Step::Live(&[1, 2, 3, 4, 5]),
 ];
 
 #[test]
 fn identifiers_are_least(rt: HostRuntime) {
     assert!(rt; holds(rt.alloc(), IDENTIFIERS));
     laws::identifiers_are_least();
+    laws::live_are_walked();
 }
+
+const ALL: &[u16] = &[
+    1, 2, 3, 4, 5, 6, 7, 8, 9, 10, 11, 12, 13, 14, 15, 16, 17, 18, 19, 20, 21, 22, 23, 24, 25, 26,
+    27, 28, 29, 30, 31, 32,
+];
 
 const FULL: &[Step] = &[
     Step::Fill,
+    Step::Live(ALL),
     Step::Connect(1, &[], &[], Answer::Denied(1, 0x81, 0)),
     Step::Connect(2, &[], &[DISCOVERY], Answer::Denied(1, 0x81, 0)),
     // The identifier before that.

@@ -39,6 +39,8 @@ pub enum Step {
     Leave(u16, u16),
     LeaveAll(u16),
     Remove(u16),
+    /// A walk finds the controllers of these identifiers, in this order.
+    Live(&'static [u16]),
 }
 
 // The plain Connect: an admin queue of 32 entries, its data of 1,024 bytes at offset 0.
@@ -116,7 +118,7 @@ fn is_answered(
     match decision {
         Decision::Admit(AdmitAs::Controller(controller)) => {
             match Row::new(alloc, port, command, controller) {
-                Ok(row) => controllers.put(controller.cntlid, row),
+                Ok(row) => controllers.put(row),
                 Err(AllocError) => return false,
             }
         }
@@ -183,6 +185,17 @@ fn are_filled(alloc: Global, config: &Config, controllers: &mut Controllers) -> 
     true
 }
 
+fn are_live(controllers: &Controllers, cntlids: &[u16]) -> bool {
+    let mut rows = controllers.iter();
+    for cntlid in cntlids {
+        match rows.next() {
+            Some(row) if row.cntlid == *cntlid => {}
+            _ => return false,
+        }
+    }
+    rows.next().is_none()
+}
+
 fn is_done(alloc: Global, config: &mut Config, controllers: &mut Controllers, step: Step) -> bool {
     match step {
         Step::Edit(line) => return is_applied(alloc, config, line),
@@ -193,6 +206,7 @@ fn is_done(alloc: Global, config: &mut Config, controllers: &mut Controllers, st
             return connects_placed(alloc, config, controllers, (len, at), entry, answer);
         }
         Step::Fill => return are_filled(alloc, config, controllers),
+        Step::Live(cntlids) => return are_live(controllers, cntlids),
         Step::Ready(cntlid, ready) => controllers.set_ready(cntlid, ready),
         Step::Leave(cntlid, qid) => controllers.leave(cntlid, qid),
         Step::LeaveAll(cntlid) => controllers.leave_all(cntlid),

@@ -1,5 +1,5 @@
 -- The controllers that live, as the calls of a target see them.
-use Rattle.std.specs.Prelude.{◌≡◌, ℕ, Bool, false, true, List, length, replicate, slice_index_or, Option, None, is_none, is_some}
+use Rattle.std.specs.Prelude.{◌≡◌, ℕ, Bool, false, List, length, replicate, slice_index_or, Option, None, IsSomeAnd, is_none}
 use Rattle.admin_queue.specs.Pages.{Pages}
 use Rattle.config_rules.specs.Configuration.{Configuration}
 use Rattle.fabrics_connect.specs.declared.row.Row.{Row}
@@ -52,9 +52,9 @@ is_gone gone cntlid = slice_index_or gone cntlid false
 
 -- ---- what a change asks of them
 
--- a controller that begins has a row, and an identifier that is free
+-- a controller that begins has a row of its identifier, which is free
 pub record CanStart (cntlid : ℕ) (begun : Option Row) (t : TablesState) : Type 0 where
-  pub row : is_some begun ≡ true
+  pub row : IsSomeAnd begun (λ row. row.cntlid ≡ cntlid)
   pub begins : CanBegin t.rows cntlid
 
 abbrev pub CanChange : Change → Option Row → TablesState → Type 0

@@ -89,7 +89,7 @@ impl ControllerTables {
     /// Makes the change of a reply, with the row of the controller that it begins, when the clock
     /// shows `now`, in ms: a controller begins, an I/O queue joins one (both by a Connect; Base 2.0,
     /// section 6.3), a property is set, or a Keep Alive Timer starts again. A controller that begins
-    /// has to have a row and an identifier that is free. What names a controller that is not there
+    /// has to have a row of its identifier, and that has to be free. What names a controller that is not there
     /// changes nothing.
     pub fn change(&mut self, now: u64, change: &Change, row: Option<Row>)
         requires { CanChange change.now row self.old }
@@ -102,7 +102,7 @@ impl ControllerTables {
             (Change::Begin(beginning), Some(row)) => {
                 let cntlid = beginning.controller.cntlid;
                 let own = Controller::new(beginning.controller.kind, beginning.kato, now);
-                self.rows.put(cntlid, row);
+                self.rows.put(row);
                 self.own.put(usize::from(cntlid), own);
             }
             (Change::Join(joining), _) => self.rows.join(joining.cntlid, joining.qid),

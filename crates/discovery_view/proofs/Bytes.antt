@@ -23,7 +23,7 @@ unfolding record_of
 record_pieces p =
     regroup (3 ∷ family_code p.family ∷ subtype_code p.subtype ∷ 0 ∷ to_le_bytes w16 p.port) (to_le_bytes w16 0xFFFF) (to_le_bytes w16 32) (replicate 22 0) (padded 32 0x20 (decimal p.service)) (replicate 192 0) (padded 256 0 p.nqn) (padded 256 0x20 p.address) (replicate 256 0)
 
-length-padded : (len padding : ℕ) (text : List ℕ) → length text ≤ len → length (padded len padding text) ≡ len
+pub length-padded : (len padding : ℕ) (text : List ℕ) → length text ≤ len → length (padded len padding text) ≡ len
 length-padded len padding text fits =
     omega (arith, length-append text (replicate (len - length text) padding), length-replicate {A = ℕ} (len - length text) padding)
 
@@ -44,3 +44,6 @@ address_fits p sound = search rules
 
 pub service_fits : (p : Port) → IsTrue (is_port p) → p.service < 2 ^ 16
 service_fits p sound = search rules
+
+pub number_fits : (p : Port) → IsTrue (is_port p) → p.id < 2 ^ 16
+number_fits p sound = search rules

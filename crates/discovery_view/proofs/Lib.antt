@@ -4,4 +4,5 @@ pub mod Counts
 pub mod Listings
 pub mod Orders
 pub mod Pages
+pub mod Told
 pub mod Walks

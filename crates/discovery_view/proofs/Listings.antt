@@ -277,7 +277,7 @@ kinds_apart c host =
     let referrals : All (λ p. p.subtype ≡ Referral) (referred c) = All-map (λ p. p.subtype ≡ Referral) referral_of (referrals_in_order c) (λ k d below. refl) in
     λ k d below j e inside. inl (subsystems k d below, referrals j e inside)
 
-all_shown : (c : Configuration) (host : List ℕ) → All (IsShown c host) (records_of c host)
+pub all_shown : (c : Configuration) (host : List ℕ) → All (IsShown c host) (records_of c host)
 all_shown c host =
     All-append (IsShown c host) (served c host) (referred c)
     (All-weaker (IsServed c host) (IsShown c host) (λ p is. inl is) (served c host) (all_served c host))

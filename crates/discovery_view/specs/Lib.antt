@@ -4,5 +4,6 @@ pub mod Page
 pub mod Record
 pub mod Records
 pub mod Same
+pub mod Told
 pub mod View
 pub mod Walk

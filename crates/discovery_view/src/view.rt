@@ -2,7 +2,6 @@
 ghost use Rattle.std.specs.Prelude.{◌≡◌, ◌≤◌, ◌<◌, IsOk, IfOk, OnOk, Ok, length, nat_lt};
 ghost use Rattle.config_rules.specs.Accept.{accept};
 ghost use Rattle.nvt_fields.specs.Window.{window};
-ghost use Rattle.discovery_view.specs.Listing.{RecordsAreListed};
 ghost use Rattle.discovery_view.specs.View.{ShowsFirst, ShowsNext, count_in, page_in};
 
 use crate::listing::Listing;
@@ -134,10 +133,3 @@ fn edited(config: &Config, edit: &Edit) -> Result<Config, AllocError>
     next.commit(change);
     Ok(next)
 }
-
-/// Whatever a configuration holds, the records that it shows to a host are those of the subsystems
-/// and ports that the host may use, one each, by rising port number and then by rising name. This is
-/// a fact of the definitions; a call does nothing.
-pub fn records_are_listed()
-    ensures { RecordsAreListed }
-{}

@@ -1,9 +1,12 @@
 //! Tests of disks and of ranges of their units, through the public calls: random calls beside a plain
-//! list of bytes, and each call of a disk failing in turn. Want of memory is tested in `growth_tests`.
+//! list of bytes, each call of a disk failing in turn, and a disk with a count of its own. Want of memory
+//! is tested in `growth_tests`.
 #![tactic(auto)]
 
 #[cfg(test)]
 mod checked;
+#[cfg(test)]
+mod counts;
 #[cfg(test)]
 mod faults;
 #[cfg(test)]

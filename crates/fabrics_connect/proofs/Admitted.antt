@@ -82,6 +82,10 @@ free_begun : (kind : ControllerKind) (free : Option ℕ) (controller : NewContro
 free_begun kind None controller h = cc
 free_begun kind (Some cntlid) controller h = cc
 
+kind_begun : (kind : ControllerKind) (free : Option ℕ) (controller : NewController) → begun_under kind free ≡ Ok (Controller controller) → controller.kind ≡ kind
+kind_begun kind None controller h = cc
+kind_begun kind (Some cntlid) controller h = cc
+
 no_queue_begun : (kind : ControllerKind) (free : Option ℕ) (cntlid qid : ℕ) → begun_under kind free ≡ Ok (Queue cntlid qid) → ⊥
 no_queue_begun kind None cntlid qid h = cc
 no_queue_begun kind (Some other) cntlid qid h = cc
@@ -93,17 +97,28 @@ no_controller_joined port p row controller h =
     let same = next_passed (join_verdict port p row) queue (Controller controller) h in
     cc
 
--- it gets the least identifier that is free
-pub begins_free : (config : Configuration) (row : ℕ → Option Row) (port : ℕ) (p : Parameters) (controller : NewController) → admitted config row port p ≡ Ok (Controller controller) → free_cntlid row ≡ Some controller.cntlid
+-- it is begun under an identifier that is free
+is_begun : (config : Configuration) (row : ℕ → Option Row) (port : ℕ) (p : Parameters) (controller : NewController) → admitted config row port p ≡ Ok (Controller controller)
+    → begun_under (kind_of p.subsystem) (free_cntlid row) ≡ Ok (Controller controller)
 unfolding begun
-begins_free config row port p controller it =
+is_begun config row port p controller it =
     let last = (has_passed config row port p (Controller controller) it).last in
     elim (either_passed (p.qid == 0) (begun row p) (joined_by port p (row p.cntlid)) (Controller controller) last) [
       | inl admin ↦
           let any = refuse (not (p.cntlid == 0xFFFF)) (invalid_parameter (in_data cntlid_at)) passed in
-          free_begun (kind_of p.subsystem) (free_cntlid row) controller (next_passed any (begun_under (kind_of p.subsystem) (free_cntlid row)) (Controller controller) admin.1)
+          next_passed any (begun_under (kind_of p.subsystem) (free_cntlid row)) (Controller controller) admin.1
       | inr queue ↦ absurd (no_controller_joined port p (row p.cntlid) controller queue.1)
     ]
+
+-- .. the least one
+pub begins_free : (config : Configuration) (row : ℕ → Option Row) (port : ℕ) (p : Parameters) (controller : NewController) → admitted config row port p ≡ Ok (Controller controller) → free_cntlid row ≡ Some controller.cntlid
+begins_free config row port p controller it =
+    free_begun (kind_of p.subsystem) (free_cntlid row) controller (is_begun config row port p controller it)
+
+-- .. for what its subsystem is
+pub begins_kind : (config : Configuration) (row : ℕ → Option Row) (port : ℕ) (p : Parameters) (controller : NewController) → admitted config row port p ≡ Ok (Controller controller) → controller.kind ≡ kind_of p.subsystem
+begins_kind config row port p controller it =
+    kind_begun (kind_of p.subsystem) (free_cntlid row) controller (is_begun config row port p controller it)
 
 -- ---- a queue that joins one
 

@@ -1,6 +1,6 @@
 -- What callers go by where a Connect is admitted, and the laws.
-use Rattle.std.proofs.Common.{◌≡◌, ℕ, true, false, List, Option, Some, None, Result, Ok, Err, refl, subst, arith}
-use Rattle.std.specs.Prelude.{IsSomeAnd}
+use Rattle.std.proofs.Common.{◌≡◌, ℕ, true, false, List, Option, Some, None, Result, Ok, Err, Bool, refl, sym, ap, subst, arith, ◌∙◌}
+use Rattle.std.specs.Prelude.{IsSomeAnd, if◌then◌else◌}
 use Rattle.std.proofs.lemmas.Bool.Decides.{nat_tests}
 use Rattle.number_table.specs.Table.{place}
 use Rattle.pdu_codec.specs.Sqe.{sgl1_of}
@@ -13,12 +13,15 @@ use Rattle.fabrics_connect.specs.declared.decision.Decision.TheVariants.{Admit}
 use Rattle.fabrics_connect.specs.declared.decision.Refusal.{Refusal}
 use Rattle.fabrics_connect.specs.declared.row.Row.{Row}
 use Rattle.fabrics_connect.specs.Command.{HasNames, Parameters, data_verdict, parameters_of}
-use Rattle.fabrics_connect.specs.Connect.{CanJoin, IfController, IfQueue, admitted, answer_to, connect, decision_of, permission_verdict}
+use Rattle.fabrics_connect.specs.Connect.{CanJoin, IfController, IfQueue, admitted, answer_to, connect, decision_of, kind_of, permission_verdict}
 use Rattle.fabrics_connect.specs.Controllers.{CanBegin}
-use Rattle.fabrics_connect.specs.Laws.{HostsNeedPermission, IdentifiersAreLeast, IsDenied, MayBeJoined, QueuesJoinTheirMaker}
+use Rattle.fabrics_connect.specs.Laws.{BeginningsArePermitted, HostsNeedPermission, IdentifiersAreLeast, IsDenied, MayBeJoined, QueuesJoinTheirMaker}
+use Rattle.fabrics_connect.specs.Permitted.{may_use_named}
 use Rattle.fabrics_connect.specs.Refusal.{passed}
-use Rattle.fabrics_connect.specs.Row.{has_queue}
-use Rattle.fabrics_connect.proofs.Admitted.{begins_free, first_passed, has_passed, joins_passed, names_passed, next_passed, well_formed_is_name}
+use Rattle.fabrics_connect.specs.Row.{has_queue, subsystem_named}
+use Rattle.property_regs.specs.declared.kind.ControllerKind.{ControllerKind}
+use Rattle.property_regs.specs.declared.kind.ControllerKind.TheVariants.{Discovery, Io}
+use Rattle.fabrics_connect.proofs.Admitted.{begins_free, begins_kind, first_passed, has_passed, joins_passed, names_passed, next_passed, well_formed_is_name}
 use Rattle.fabrics_connect.proofs.Free.{is_first_free}
 
 is_whole : (config : Configuration) (row : ℕ → Option Row) (port : ℕ) (entry payload : List ℕ) (a : AdmitAs) → answer_to config row port entry payload ≡ Ok a → data_verdict (sgl1_of entry) payload ≡ passed
@@ -92,6 +95,29 @@ hosts_need_permission = record {
       let checked = has_passed config row port p a (is_admitted config row port entry payload a it) in
       let used : may_use config p.host p.subsystem port ≡ true = permission_passed config port p checked.permission other in
       cc);
+}
+
+-- a discovery controller is of no subsystem, and another of the one that its Connect named
+named_permitted : (config : Configuration) (p : Parameters) (port : ℕ) (kind : ControllerKind) (test : Bool) → is_discovery p.subsystem ≡ test
+    → kind ≡ kind_of p.subsystem → (is_discovery p.subsystem ≡ false → may_use config p.host p.subsystem port ≡ true)
+    → may_use_named config p.host (subsystem_named kind p.subsystem) port ≡ true
+named_permitted config p port kind true is kinds used =
+    let for_discovery : kind ≡ Discovery = kinds ∙ ap (λ (b : Bool). if b then Discovery else Io) is in
+    subst (λ (k : ControllerKind). may_use_named config p.host (subsystem_named k p.subsystem) port ≡ true) (sym for_discovery) refl
+named_permitted config p port kind false is kinds used =
+    let for_io : kind ≡ Io = kinds ∙ ap (λ (b : Bool). if b then Discovery else Io) is in
+    subst (λ (k : ControllerKind). may_use_named config p.host (subsystem_named k p.subsystem) port ≡ true) (sym for_io) (used is)
+
+pub beginnings_are_permitted : BeginningsArePermitted
+unfolding connect
+beginnings_are_permitted = record {
+  permitted = λ config row port entry payload controller it.
+      let p = parameters_of entry payload in
+      let answered = answer_is (answer_to config row port entry payload) (Controller controller) it in
+      let admits = is_admitted config row port entry payload (Controller controller) answered in
+      let checked = has_passed config row port p (Controller controller) admits in
+      named_permitted config p port controller.kind (is_discovery p.subsystem) refl (begins_kind config row port p controller admits)
+      (permission_passed config port p checked.permission);
 }
 
 pub identifiers_are_least : IdentifiersAreLeast

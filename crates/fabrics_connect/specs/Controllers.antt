@@ -1,6 +1,6 @@
 -- The controllers that live, by their identifiers (CNTLID).
-use Rattle.std.specs.Prelude.{◌≡◌, ℕ, ◌≤◌, List, length, replicate, find, Option, Some, None, is_none}
-use Rattle.std.specs.List.{range_with_len}
+use Rattle.std.specs.Prelude.{◌≡◌, ℕ, ◌≤◌, List, drop, length, replicate, find, Option, Some, None, is_none}
+use Rattle.std.specs.List.{filter_map, range_with_len}
 use Rattle.number_table.specs.Table.{place, with_value}
 use Rattle.fabrics_connect.specs.declared.row.Row.{Row}
 
@@ -16,6 +16,16 @@ no_controllers = replicate 33 None
 pub record AreControllers (rows : List (Option Row)) : Type 0 where
   pub places : length rows ≡ 33
   pub unused : place rows 0 ≡ None
+  -- each row stands under its own identifier
+  pub own : (cntlid : ℕ) (row : Row) → place rows cntlid ≡ Some row → row.cntlid ≡ cntlid
+
+-- the rows of the controllers that live, by rising identifier
+abbrev pub live_rows : List (Option Row) → List Row
+live_rows rows = filter_map (λ there. there) rows
+
+-- .. of this identifier and those above it
+abbrev pub live_from : List (Option Row) → ℕ → List Row
+live_from rows from = live_rows (drop from rows)
 
 -- the least identifier from 1 to 32 that no controller has
 unfoldable pub free_cntlid : (ℕ → Option Row) → Option ℕ

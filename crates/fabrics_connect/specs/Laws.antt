@@ -1,6 +1,7 @@
--- Laws of the answer to a Connect.
-use Rattle.std.specs.Prelude.{◌≡◌, ◌⊎◌, ℕ, ◌≤◌, ◌<◌, false, true, List, Option, Some, None, IsSome, IsSomeAnd}
+-- Laws of the answer to a Connect, and of the controllers that live.
+use Rattle.std.specs.Prelude.{◌≡◌, ◌⊎◌, ◌↔◌, ℕ, ◌≤◌, ◌<◌, false, true, List, All, AllPairs, Contains, Option, Some, None, IsSome, IsSomeAnd}
 use Rattle.nvt_fields.specs.Name.{IsName}
+use Rattle.number_table.specs.Table.{place}
 use Rattle.pdu_codec.specs.Sqe.{sgl1_of}
 use Rattle.config_lists.specs.Subsystem.{is_discovery}
 use Rattle.config_rules.specs.Configuration.{Configuration}
@@ -8,12 +9,15 @@ use Rattle.config_rules.specs.Permission.{may_use}
 use Rattle.fabrics_connect.specs.declared.decision.AdmitAs.TheVariants.{Controller, Queue}
 use Rattle.fabrics_connect.specs.declared.decision.Decision.{Decision}
 use Rattle.fabrics_connect.specs.declared.decision.Decision.TheVariants.{Admit, Deny}
+use Rattle.fabrics_connect.specs.declared.decision.NewController.{NewController}
 use Rattle.property_regs.specs.declared.kind.ControllerKind.{ControllerKind}
 use Rattle.fabrics_connect.specs.declared.row.Row.{Row}
 use Rattle.fabrics_connect.specs.Command.{Parameters, data_verdict, parameters_of}
 use Rattle.fabrics_connect.specs.Connect.{connect}
+use Rattle.fabrics_connect.specs.Controllers.{AreControllers, live_rows}
+use Rattle.fabrics_connect.specs.Permitted.{is_permitted}
 use Rattle.fabrics_connect.specs.Refusal.{passed}
-use Rattle.fabrics_connect.specs.Row.{has_queue}
+use Rattle.fabrics_connect.specs.Row.{has_queue, row_begun}
 
 abbrev pub IsDenied : Decision → Type 0
 IsDenied (Admit admit) = ⊥
@@ -25,6 +29,12 @@ pub record HostsNeedPermission : Type 0 where
       → is_discovery (parameters_of entry payload).subsystem ≡ false
       → may_use config (parameters_of entry payload).host (parameters_of entry payload).subsystem port ≡ false
       → IsDenied (connect config row port entry payload)
+
+-- the host of a controller that begins may use its subsystem on its port
+pub record BeginningsArePermitted : Type 0 where
+  pub permitted : (config : Configuration) (row : ℕ → Option Row) (port : ℕ) (entry payload : List ℕ) (controller : NewController)
+      → connect config row port entry payload ≡ Admit (Controller controller)
+      → is_permitted config (row_begun controller port entry payload) ≡ true
 
 -- the least identifier from 1 on that no controller has
 pub record IsLeastFree (row : ℕ → Option Row) (cntlid : ℕ) : Type 0 where
@@ -83,3 +93,13 @@ pub record HostsAreAdmitted : Type 0 where
       → AsksForAdmin config port (parameters_of entry payload)
       → 1 ≤ cntlid → cntlid ≤ 32 → row cntlid ≡ None
       → IsAdmitted (connect config row port entry payload)
+
+-- these rows are those that stand in the table, each under its identifier, and each before the ones of greater
+-- identifiers, so none twice
+pub record IsWalk (rows : List (Option Row)) (walked : List Row) : Type 0 where
+  pub rising : AllPairs (λ r s. r.cntlid < s.cntlid) walked
+  pub live : (row : Row) → Contains walked row ↔ (place rows row.cntlid ≡ Some row)
+  pub identifiers : All (λ row. (1 ≤ row.cntlid) × (row.cntlid ≤ 32)) walked
+
+pub record LiveAreWalked : Type 0 where
+  pub walks : (rows : List (Option Row)) → AreControllers rows → IsWalk rows (live_rows rows)

@@ -15,6 +15,7 @@ subsystem_named Io nqn = Some nqn
 -- the row of a controller that begins, through this port, by this entry and the data in its capsule
 abbrev pub row_begun : NewController → ℕ → List ℕ → List ℕ → Row
 row_begun controller port entry payload = record {
+  cntlid = controller.cntlid;
   subsystem = subsystem_named controller.kind (parameters_of entry payload).subsystem;
   port = port;
   host = (parameters_of entry payload).host;

@@ -1,13 +1,15 @@
 //! The controllers that live, by their identifiers.
-ghost use Rattle.std.specs.Prelude.{◌≡◌, ◌<◌, IfOk, is_none, length};
+ghost use Rattle.std.specs.Prelude.{◌≡◌, ◌+◌, ◌<◌, ◌∷◌, [], IfOk, IfSome, MatchOption, is_none};
+ghost use Rattle.std.specs.Prelude.{length};
 ghost use Rattle.std.specs.Option.{option_copied};
 ghost use Rattle.number_table.specs.Table.{place, with_value, without};
 ghost use Rattle.fabrics_connect.specs.Controllers.{CanBegin, ChangedAt, free_cntlid};
-ghost use Rattle.fabrics_connect.specs.Controllers.{no_controllers};
+ghost use Rattle.fabrics_connect.specs.Controllers.{live_from, live_rows, no_controllers};
 ghost use Rattle.fabrics_connect.specs.Row.{joined, left, left_all, with_ready};
 
 use crate::queue_ids::QueueIds;
 use crate::row::Row;
+use crate::walk::Walk;
 use number_table::NumberTable;
 use std::alloc::{AllocError, Global};
 use std::marker::Model;
@@ -67,13 +69,34 @@ impl Controllers {
         self.get(cntlid).is_none()
     }
 
-    /// Puts a controller under an identifier that is free, which takes no memory.
-    pub fn put(&mut self, cntlid: u16, row: Row)
-        requires { CanBegin self.old cntlid }
-        ensures row { self.new ≡ with_value self.old cntlid row }
-        ensures within { cntlid < length self.old }
+    /// The controllers that live, one after the other, by rising identifier.
+    pub fn iter(&self) -> Walk<'_>
+        ensures { result ≡ live_rows self.now }
     {
-        self.rows.put(usize::from(cntlid), row);
+        Walk::new(self)
+    }
+
+    /// The controller of this identifier, or else the one of the next above it.
+    pub(crate) fn first_from(&self, from: u16) -> Option<&Row>
+        ensures row { MatchOption result (live_from self.now from ≡ [])
+            (λ row. live_from self.now from ≡ row.now ∷ live_from self.now (row.now.cntlid + 1)) }
+        ensures within { IfSome result (λ row. row.now.cntlid < 33) }
+    {
+        for next in from..PLACES as u16 {
+            if let Some(row) = self.rows.get(usize::from(next)) {
+                return Some(row);
+            }
+        }
+        None
+    }
+
+    /// Puts a controller under its identifier, which is free. It takes no memory.
+    pub fn put(&mut self, row: Row)
+        requires { CanBegin self.old row.cntlid }
+        ensures row { self.new ≡ with_value self.old row.cntlid row }
+        ensures within { row.cntlid < length self.old }
+    {
+        self.rows.put(usize::from(row.cntlid), row);
     }
 
     /// Takes the controller of that identifier away, if it is there.

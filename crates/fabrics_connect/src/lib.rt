@@ -11,9 +11,11 @@ mod decision;
 pub mod laws;
 mod queue_ids;
 mod row;
+mod walk;
 
 pub use command::{Connect, Request, SQSIZE_MAX};
 pub use controllers::{CONTROLLERS_MAX, Controllers};
 pub use decision::{AdmitAs, Decision, NewController, Refusal, decide};
 pub use queue_ids::{QID_MAX, QueueIds};
 pub use row::Row;
+pub use walk::Walk;

@@ -12,6 +12,8 @@ use std::alloc::{AllocError, Global};
 /// A controller that lives.
 #[derive(Debug, Drop)]
 pub struct Row {
+    /// Controller identifier (CNTLID), from 1 to 32.
+    pub cntlid: u16,
     /// The name of its subsystem; `None` for a discovery controller.
     pub subsystem: Option<Nqn>,
     /// The number of the port through which it was made.
@@ -46,6 +48,7 @@ impl Row {
             unreachable!()
         };
         Ok(Row {
+            cntlid: controller.cntlid,
             subsystem: Row::subsystem_named(alloc, controller.kind, request.subsystem())?,
             port,
             host: named(alloc, request.host())?,

@@ -1,15 +1,15 @@
 -- What a write leaves where the disk failed, and where what was written is to last.
-use Rattle.std.proofs.Common.{◌≡◌, ◌≤◌, ℕ, zero, suc, List, [], length, take, refl, sym, ap, ◌∙◌, arith}
+use Rattle.std.proofs.Common.{◌≡◌, ◌≢◌, ◌≤◌, ℕ, zero, suc, List, [], length, take, refl, sym, ap, ◌∙◌, arith}
 use Rattle.std.proofs.lemmas.List.{take_all}
 use Rattle.block_store.specs.Range.{FrontWritten, overwritten}
 use Rattle.block_store.specs.Stored.{Stored}
 use Rattle.nvt_fields.specs.declared.status.Status.{Status}
 use Rattle.nvt_fields.specs.Status.{write_fault}
-use Rattle.io_queue.specs.Act.{IsOfWrite, Medium, Writes, faults_by, good, read_fault, write_fault_after, write_status, written_by}
+use Rattle.io_queue.specs.Act.{CountsBy, IsOfWrite, Medium, Writes, good, read_fault, write_fault_after, write_status, written_by}
 
 -- a front of the units is new
 pub front_new : (first : ℕ) (units : List (List ℕ)) (old new : Stored) → FrontWritten old.contents first units new.contents
-    → new.faults ≡ faults_by read_fault old.faults → Writes first units old new write_fault
+    → new.faults ≢ old.faults → Writes first units old new write_fault
 front_new first units old new front faults = record {
   medium = write_fault_after front.count;
   of_write = front.within;
@@ -19,7 +19,7 @@ front_new first units old new front faults = record {
 }
 
 -- none of no units is new
-pub none_new : (old new : Stored) → new.contents ≡ old.contents → new.faults ≡ faults_by read_fault old.faults → Writes 0 [] old new write_fault
+pub none_new : (old new : Stored) → new.contents ≡ old.contents → new.faults ≢ old.faults → Writes 0 [] old new write_fault
 none_new old new contents faults = record {
   medium = write_fault_after 0;
   of_write = omega arith;
@@ -39,7 +39,7 @@ pub then_flushed : (first : ℕ) (units : List (List ℕ)) (old mid new : Stored
     → mid.faults ≡ old.faults → Writes 0 [] mid new status → Writes first units old new status
 then_flushed first units old mid new status written kept flushed = by flushed.medium flushed.of_write flushed.answer flushed.contents flushed.faults where
   by : (m : Medium) → IsOfWrite 0 m → status ≡ write_status m → new.contents ≡ written_by m 0 [] mid.contents
-      → new.faults ≡ faults_by m mid.faults → Writes first units old new status
+      → CountsBy m mid.faults new.faults → Writes first units old new status
   by good of answer contents faults = record {
     medium = good;
     of_write = tt;
@@ -53,6 +53,6 @@ then_flushed first units old mid new status written kept flushed = by flushed.me
     of_write = omega arith;
     answer = answer;
     contents = contents ∙ written ∙ whole first units old.contents;
-    faults = rw kept at faults;
+    faults = λ same. faults (same ∙ sym kept);
   }
   by (write_fault_after (suc n)) of answer contents faults = absurd (none_below n of)

@@ -1,5 +1,5 @@
 -- Each operation, performed: what its call did to the disk is what the operation is to do.
-use Rattle.std.proofs.Common.{◌≡◌, ◌≤◌, ◌<◌, ℕ, ◌+◌, ◌*◌, ◌/◌, ◌==◌, Bool, true, false, List, [], ◌++◌, length, replicate, slice_index_or, slice_set, bytes_eq, Option, Some, None, option_map, append-nil, refl, sym, ap, ◌∙◌, arith}
+use Rattle.std.proofs.Common.{◌≡◌, ◌≢◌, ◌≤◌, ◌<◌, ℕ, ◌+◌, ◌*◌, ◌/◌, ◌==◌, Bool, true, false, List, [], ◌++◌, length, replicate, slice_index_or, slice_set, bytes_eq, Option, Some, None, option_map, append-nil, refl, sym, ap, ◌∙◌, arith}
 use Rattle.std.proofs.Math.ListN.{get_or-map}
 use Rattle.std.proofs.Math.Seq.{map-set_same, take-nil}
 use Rattle.std.proofs.lemmas.List.{get_or-set_other, get_or_default, get_or-set_same, length-map, length-replicate}
@@ -7,7 +7,6 @@ use Rattle.std.proofs.lemmas.Bool.{eq-eqb, eqb-true, false≢true}
 use Rattle.block_store.proofs.Cuts.{count_is, length-first_chunks}
 use Rattle.block_store.specs.Range.{overwritten, units_of}
 use Rattle.block_store.specs.Stored.{Stored}
-use Rattle.block_store.specs.Faults.{raised}
 use Rattle.block_store.specs.Unit.{zero_unit}
 use Rattle.block_store.specs.Write.{Write}
 use Rattle.config_lists.proofs.Names.{bytes_eq-same, same_name}
@@ -15,7 +14,7 @@ use Rattle.nvt_fields.specs.declared.status.Status.{Status}
 use Rattle.io_queue.specs.declared.operation.Extent.{Extent}
 use Rattle.io_queue.specs.declared.operation.Operation.{Operation}
 use Rattle.io_queue.specs.declared.operation.Operation.TheVariants as operation
-use Rattle.io_queue.specs.Act.{Compares, Flushes, IsOfRead, IsOfWrite, Medium, Writes, extent_bytes, faults_by, good, read_fault, read_status, write_fault_after, write_status, written_by}
+use Rattle.io_queue.specs.Act.{Compares, CountsBy, Flushes, IsOfRead, IsOfWrite, Medium, Writes, extent_bytes, good, read_fault, read_status, write_fault_after, write_status, written_by}
 use Rattle.io_queue.specs.Execution.{Performs, PerformsOn, Syncs, SyncsIn, Tells, compared, contents_at, disk_at, faults_at, new_of, no_disk, size_of, sizes, write_of, write_on, written}
 use Rattle.io_queue.specs.Operation.{HasExtent, IsOnDisk, IsWithin, brought, disk_of}
 use Rattle.io_queue.specs.Reply.{AppendsRead, data_pdu, read_by}
@@ -24,7 +23,7 @@ pub read_performed : (e : Extent) (bytes : List ℕ) (cid : ℕ) (old new : Stor
     → AppendsRead cid e old new output appended status → PerformsOn (operation.Read e) bytes cid old new output appended status
 read_performed e bytes cid old new output appended status h = by h.medium h.of_read h.answer h.sends h.faults where
   by : (m : Medium) → IsOfRead m → status ≡ read_status m → appended ≡ output ++ data_pdu cid (read_by m (extent_bytes e old))
-      → new.faults ≡ faults_by m old.faults → PerformsOn (operation.Read e) bytes cid old new output appended status
+      → CountsBy m old.faults new.faults → PerformsOn (operation.Read e) bytes cid old new output appended status
   by good of answer sends faults = record { medium = good; meets = tt; answer = answer; sends = sends; contents = h.contents; faults = faults }
   by read_fault of answer sends faults = record { medium = read_fault; meets = tt; answer = answer; sends = sends; contents = h.contents; faults = faults }
   by (write_fault_after n) of answer sends faults = absurd of
@@ -38,7 +37,7 @@ compare_performed e at bytes cid old new output status h = by h.medium refl h.of
     differ : bytes_eq (brought e at bytes) (extent_bytes e old) ≡ true → ⊥
     differ same = cc
 
-  by : (m : Medium) → h.medium ≡ m → IsOfRead m → new.faults ≡ faults_by m old.faults
+  by : (m : Medium) → h.medium ≡ m → IsOfRead m → CountsBy m old.faults new.faults
       → PerformsOn (operation.Compare e at) bytes cid old new output output status
   by good is of faults = record {
     medium = good;
@@ -65,7 +64,7 @@ write_performed e at fua bytes cid old new output status len h = by h.medium h.o
   units = units_of (brought e at bytes)
 
   by : (m : Medium) → IsOfWrite (length units) m → status ≡ write_status m → new.contents ≡ written_by m e.first units old.contents
-      → new.faults ≡ faults_by m old.faults → PerformsOn (operation.Write e at fua) bytes cid old new output output status
+      → CountsBy m old.faults new.faults → PerformsOn (operation.Write e at fua) bytes cid old new output output status
   by good of answer contents faults = record { medium = good; meets = tt; answer = answer; sends = simp append-nil; contents = contents; faults = faults }
   by read_fault of answer contents faults = absurd of
   by (write_fault_after n) of answer contents faults = record {
@@ -84,7 +83,7 @@ zeroes_performed e fua bytes cid old new output status h = by h.medium h.of_writ
   units = replicate e.units zero_unit
 
   by : (m : Medium) → IsOfWrite (length units) m → status ≡ write_status m → new.contents ≡ written_by m e.first units old.contents
-      → new.faults ≡ faults_by m old.faults → PerformsOn (operation.WriteZeroes e fua) bytes cid old new output output status
+      → CountsBy m old.faults new.faults → PerformsOn (operation.WriteZeroes e fua) bytes cid old new output output status
   by good of answer contents faults = record { medium = good; meets = tt; answer = answer; sends = simp append-nil; contents = contents; faults = faults }
   by read_fault of answer contents faults = absurd of
   by (write_fault_after n) of answer contents faults = record {
@@ -100,7 +99,7 @@ pub flush_performed : (disk : ℕ) (bytes : List ℕ) (cid : ℕ) (old new : Sto
     → PerformsOn (operation.Flush disk) bytes cid old new output output status
 flush_performed disk bytes cid old new output status h = by h.medium h.of_write h.answer h.contents h.faults where
   by : (m : Medium) → IsOfWrite 0 m → status ≡ write_status m → new.contents ≡ written_by m 0 [] old.contents
-      → new.faults ≡ faults_by m old.faults → PerformsOn (operation.Flush disk) bytes cid old new output output status
+      → CountsBy m old.faults new.faults → PerformsOn (operation.Flush disk) bytes cid old new output output status
   by good of answer contents faults = record { medium = good; meets = tt; answer = answer; sends = simp append-nil; contents = contents; faults = faults }
   by read_fault of answer contents faults = absurd of
   by (write_fault_after n) of answer contents faults = record {
@@ -161,10 +160,7 @@ acted_at m None disks i new within h d false is = same_elsewhere (λ (s : Stored
 acted_at m (Some w) disks i new within h d true is = rw is (rw (eqb-true d i is) (ap (λ (s : Stored). s.contents) (here disks i new within) ∙ h))
 acted_at m (Some w) disks i new within h d false is = rw is (same_elsewhere (λ (s : Stored). s.contents) disks i d new is)
 
-fault_changes : (faults : ℕ) → raised faults ≡ faults → ⊥
-fault_changes faults same = omega (arith, same)
-
-told : (m : Medium) (disks : List Stored) (i : ℕ) (new : Stored) → i < length disks → new.faults ≡ faults_by m (faults_at disks i)
+told : (m : Medium) (disks : List Stored) (i : ℕ) (new : Stored) → i < length disks → CountsBy m (faults_at disks i) new.faults
     → Tells m disks (slice_set disks i new)
 told m disks i new within h = by m h where
   i_now : (n : ℕ) → new.faults ≡ n → faults_at (slice_set disks i new) i ≡ n
@@ -174,13 +170,13 @@ told m disks i new within h = by m h where
   same_at d true is same = rw (eqb-true d i is) (i_now (faults_at disks i) same)
   same_at d false is same = same_elsewhere (λ (s : Stored). s.faults) disks i d new is
 
-  rises : new.faults ≡ raised (faults_at disks i) → ¬ ((d : ℕ) → faults_at (slice_set disks i new) d ≡ faults_at disks d)
-  rises risen same = fault_changes (faults_at disks i) (sym (i_now (raised (faults_at disks i)) risen) ∙ same i)
+  changes : new.faults ≢ faults_at disks i → ¬ ((d : ℕ) → faults_at (slice_set disks i new) d ≡ faults_at disks d)
+  changes differs same = differs (sym (i_now new.faults refl) ∙ same i)
 
-  by : (m : Medium) → new.faults ≡ faults_by m (faults_at disks i) → Tells m disks (slice_set disks i new)
+  by : (m : Medium) → CountsBy m (faults_at disks i) new.faults → Tells m disks (slice_set disks i new)
   by good h = record { good = λ is d. same_at d (d == i) refl h; failed = λ is. absurd (false≢true (sym is)) }
-  by read_fault h = record { good = λ is. absurd (false≢true is); failed = λ is. rises h }
-  by (write_fault_after n) h = record { good = λ is. absurd (false≢true is); failed = λ is. rises h }
+  by read_fault h = record { good = λ is. absurd (false≢true is); failed = λ is. changes h }
+  by (write_fault_after n) h = record { good = λ is. absurd (false≢true is); failed = λ is. changes h }
 
 -- an operation that is performed on one disk is performed on them all
 performed_on : (op : Operation) (bytes : List ℕ) (cid : ℕ) (disks : List Stored) (new : Stored) (output appended : List ℕ) (status : Status)

@@ -1,5 +1,5 @@
 -- What an operation makes of its disk, and what it is answered.
-use Rattle.std.specs.Prelude.{◌≡◌, ◌≤◌, ℕ, ◌+◌, ◌%◌, ◌^◌, Bool, true, false, List, [], length, take}
+use Rattle.std.specs.Prelude.{◌≡◌, ◌≢◌, ◌≤◌, ℕ, Bool, true, false, List, [], length, take}
 use Rattle.block_store.specs.Range.{bytes_of, overwritten, units_at}
 use Rattle.block_store.specs.Stored.{Stored}
 use Rattle.nvt_fields.specs.declared.status.Status.{Status}
@@ -20,11 +20,11 @@ is_good good = true
 is_good read_fault = false
 is_good (write_fault_after new) = false
 
--- the disk counts a fault exactly where it failed
-abbrev pub faults_by : Medium → ℕ → ℕ
-faults_by good faults = faults
-faults_by read_fault faults = (faults + 1) % 2 ^ 64
-faults_by (write_fault_after count) faults = (faults + 1) % 2 ^ 64
+-- the disk's count of faults changed exactly where it failed
+abbrev pub CountsBy : Medium → ℕ → ℕ → Type 0
+CountsBy good old new = new ≡ old
+CountsBy read_fault old new = new ≢ old
+CountsBy (write_fault_after count) old new = new ≢ old
 
 -- how many of so many units that were to be written are new
 abbrev pub count_new : Medium → ℕ → ℕ
@@ -70,7 +70,7 @@ pub record Writes (first : ℕ) (units : List (List ℕ)) (old new : Stored) (st
   pub of_write : IsOfWrite (length units) medium
   pub answer : status ≡ write_status medium
   pub contents : new.contents ≡ written_by medium first units old.contents
-  pub faults : new.faults ≡ faults_by medium old.faults
+  pub faults : CountsBy medium old.faults new.faults
 
 -- a Compare says whether the extent has these bytes, unless the disk failed to read them all
 pub record Compares (e : Extent) (bytes : List ℕ) (old new : Stored) (status : Status) : Type 0 where
@@ -80,7 +80,7 @@ pub record Compares (e : Extent) (bytes : List ℕ) (old new : Stored) (status :
   pub other : medium ≡ good → ¬ (bytes ≡ extent_bytes e old) → status ≡ compare_failure
   pub failed : medium ≡ read_fault → status ≡ unrecovered_read_error
   pub contents : new.contents ≡ old.contents
-  pub faults : new.faults ≡ faults_by medium old.faults
+  pub faults : CountsBy medium old.faults new.faults
 
 -- a Flush changes no unit
 abbrev pub Flushes : Stored → Stored → Status → Type 0

@@ -8,7 +8,7 @@ use Rattle.nvt_fields.specs.declared.status.Status.{Status}
 use Rattle.nvt_fields.specs.Status.{compare_failure, success, unrecovered_read_error, write_fault}
 use Rattle.io_queue.specs.declared.operation.Operation.{Operation}
 use Rattle.io_queue.specs.declared.operation.Operation.TheVariants as operation
-use Rattle.io_queue.specs.Act.{IsOfRead, IsOfWrite, IsSynced, Medium, count_new, faults_by, is_good}
+use Rattle.io_queue.specs.Act.{CountsBy, IsOfRead, IsOfWrite, IsSynced, Medium, count_new, good, is_good}
 use Rattle.io_queue.specs.Operation.{brought, disk_of}
 use Rattle.io_queue.specs.Reply.{data_pdu}
 
@@ -99,7 +99,7 @@ pub record PerformsOn (op : Operation) (bytes : List ℕ) (cid : ℕ) (old new :
   pub answer : status ≡ status_by op bytes old.contents medium
   pub sends : appended ≡ output ++ data_pdu cid (returned op old.contents medium)
   pub contents : new.contents ≡ written (option_map (new_of medium) (write_of op bytes)) old.contents
-  pub faults : new.faults ≡ faults_by medium old.faults
+  pub faults : CountsBy medium old.faults new.faults
 
 -- where it is to last and is answered with success, what the disk holds has been synced
 abbrev pub Syncs : Operation → Stored → Status → Type 0
@@ -121,7 +121,7 @@ disk_at disks d = slice_index_or disks d no_disk
 abbrev pub contents_at : List Stored → ℕ → List (List ℕ)
 contents_at disks d = (disk_at disks d).contents
 
--- how often a disk has failed
+-- the count of a disk's failures
 abbrev pub faults_at : List Stored → ℕ → ℕ
 faults_at disks d = (disk_at disks d).faults
 
@@ -132,7 +132,7 @@ size_of s = length s.contents
 abbrev pub sizes : List Stored → List ℕ
 sizes disks = map size_of disks
 
--- what the disks did is good exactly where none counts a failure more
+-- what the disks did is good exactly where no count of failures changed
 pub record Tells (m : Medium) (old new : List Stored) : Type 0 where
   pub good : is_good m ≡ true → (d : ℕ) → faults_at new d ≡ faults_at old d
   pub failed : is_good m ≡ false → ¬ ((d : ℕ) → faults_at new d ≡ faults_at old d)
@@ -148,3 +148,22 @@ pub record Performs (op : Operation) (bytes : List ℕ) (cid : ℕ) (old new : L
 
 abbrev pub SyncsIn : Operation → List Stored → Status → Type 0
 SyncsIn op new status = Syncs op (disk_at new (disk_of op)) status
+
+-- ---- an operation, or none
+
+-- the disks may do this: with an operation what it may meet, and without one nothing is asked of them, so all is good
+abbrev pub MayMeetIn : Option Operation → Medium → Type 0
+MayMeetIn None m = m ≡ good
+MayMeetIn (Some op) m = MayMeet op m
+
+-- .. and where the operation is to last and is answered with success, what its disk holds has been synced
+abbrev pub LastsIn : Option Operation → List ℕ → Medium → List Stored → List Stored → Type 0
+LastsIn None bytes m old new = Unit {0}
+LastsIn (Some op) bytes m old new = SyncsIn op new (status_by op bytes (contents_at old (disk_of op)) m)
+
+-- The disks did this, with an operation that takes its data from these bytes, or without one: what they did is good
+-- exactly where no count of failures changed, it is what they may do then, and what is to last has been synced.
+pub record DisksDid (op : Option Operation) (bytes : List ℕ) (m : Medium) (old new : List Stored) : Type 0 where
+  pub tells : Tells m old new
+  pub meets : MayMeetIn op m
+  pub lasts : LastsIn op bytes m old new

@@ -4,7 +4,7 @@ use Rattle.block_store.specs.Stored.{Stored}
 use Rattle.nvt_fields.specs.declared.status.Status.{Status}
 use Rattle.pdu_codec.specs.C2hData.{c2h_data}
 use Rattle.io_queue.specs.declared.operation.Extent.{Extent}
-use Rattle.io_queue.specs.Act.{IsOfRead, Medium, extent_bytes, faults_by, is_good, read_status}
+use Rattle.io_queue.specs.Act.{CountsBy, IsOfRead, Medium, extent_bytes, is_good, read_status}
 
 -- the data of a reply, whole in one PDU, where it has data
 abbrev pub data_pdu : ℕ → Option (List ℕ) → List ℕ
@@ -22,4 +22,4 @@ pub record AppendsRead (cid : ℕ) (e : Extent) (old new : Stored) (output appen
   pub answer : status ≡ read_status medium
   pub sends : appended ≡ output ++ data_pdu cid (read_by medium (extent_bytes e old))
   pub contents : new.contents ≡ old.contents
-  pub faults : new.faults ≡ faults_by medium old.faults
+  pub faults : CountsBy medium old.faults new.faults

@@ -1,6 +1,6 @@
 //! A Read's data, straight from the disk into the output.
 ghost use Rattle.std.specs.Prelude.{◌≡◌, ◌+◌, ◌*◌, ◌^◌, ◌<◌, ◌≤◌, ◌++◌, OnOk, Some, length, take};
-ghost use Rattle.block_store.specs.Faults.{faults_after};
+ghost use Rattle.block_store.specs.Faults.{Counts};
 ghost use Rattle.io_queue.specs.Act.{extent_bytes};
 ghost use Rattle.io_queue.specs.Reply.{AppendsRead, data_pdu};
 
@@ -50,7 +50,7 @@ fn read_in_place<D: Disk>(
     ensures front { take (length output.old.items) output.new.items ≡ output.old.items }
     ensures spare { output.old.spare ≤ output.new.spare + 24 + 512 * extent.now.units }
     ensures contents { store.new.contents ≡ store.old.contents }
-    ensures faults { store.new.faults ≡ faults_after result store.old.faults }
+    ensures faults { Counts result store.old.faults store.new.faults }
 {
     let len = extent.units as usize * UNIT_LEN;
     let head = C2hHead {

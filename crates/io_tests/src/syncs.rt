@@ -30,7 +30,7 @@ struct CountingDisk {
 
 impl Disk for CountingDisk {
     ghost use Rattle.std.specs.Prelude.{◌≡◌, ◌<◌, ◌⊎◌, length, slice_index_or, slice_set, [], OnOk, OnErr};
-    ghost use Rattle.block_store.specs.Faults.{faults_after};
+    ghost use Rattle.block_store.specs.Faults.{Counts};
     ghost use Rattle.block_store.specs.Memory.{memory_contents};
 
     ghost contents = { λ counting. memory_contents counting.disk };

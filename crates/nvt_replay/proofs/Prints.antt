@@ -15,7 +15,7 @@ use Rattle.replay_lines.specs.Printed.{event_line, output_lines}
 use Rattle.replay_lines.proofs.PduLemmas.{output_lines-nil}
 
 -- the lines of a connection, by its output and whether it is ended
-lines_are : (k : ℕ) (o : Option ConnectionState)
+pub lines_are : (k : ℕ) (o : Option ConnectionState)
     → connection_lines k o ≡ output_lines k (output_at o) ++ (if is_ended_at o then event_line k (codes "closed") else [])
 lines_are k None = sym (rw output_lines-nil refl)
 lines_are k (Some c) = refl
@@ -181,7 +181,7 @@ pub none_more : (k : ℕ) (old mid : TargetState) → is_some (place mid.connect
 none_more k old mid unknown first =
     more_printed k old mid mid first (left_at k None mid mid (none_is (place mid.connections k) unknown) refl refl)
 
-lines_below-more : (k : ℕ) (t : TargetState) → lines_below (k + 1) t ≡ lines_below k t ++ connection_lines k (place t.connections k)
+pub lines_below-more : (k : ℕ) (t : TargetState) → lines_below (k + 1) t ≡ lines_below k t ++ connection_lines k (place t.connections k)
 unfolding lines_below
 lines_below-more k t = rw add-one refl
 
@@ -189,7 +189,7 @@ lines_below-none : (t : TargetState) → lines_below 0 t ≡ []
 unfolding lines_below
 lines_below-none t = refl
 
-not_yet : (k : ℕ) (old mid : TargetState) → ArePrinted (λ j. nat_lt j k) old mid → place mid.connections k ≡ place old.connections k
+pub not_yet : (k : ℕ) (old mid : TargetState) → ArePrinted (λ j. nat_lt j k) old mid → place mid.connections k ≡ place old.connections k
 not_yet k old mid first =
     let itself : nat_lt k k ≡ false = grind (arith, nat_tests) in
     first.connection k ∙ ap (λ b. if b then printed_out (place old.connections k) else place old.connections k) itself

@@ -95,12 +95,13 @@ refused_edits fault.Io edits units disks refuses = refuses
 refused_edits fault.Disks edits units disks refuses = absurd refuses
 
 -- a fault of the script explains itself to the whole replay, once all edits are accepted
-pub ended : (f : ReplayFault) (edits stream units : List ℕ) → AcceptsAll edits units → EndsScript f (lines_of stream) → Explains f edits stream units
-ended (fault.EditLine m reply) edits stream units accepted ends = absurd ends
-ended (fault.StreamLine m) edits stream units accepted ends = (accepted, ends)
-ended fault.Memory edits stream units accepted ends = tt
-ended fault.Io edits stream units accepted ends = accepted
-ended fault.Disks edits stream units accepted ends = absurd ends
+pub ended : (f : ReplayFault) (has_failed : Bool) (edits stream units : List ℕ) → AcceptsAll edits units → EndsScript has_failed f (lines_of stream)
+    → Explains f edits stream units
+ended (fault.EditLine m reply) has_failed edits stream units accepted ends = absurd ends
+ended (fault.StreamLine m) has_failed edits stream units accepted ends = (accepted, ends)
+ended fault.Memory has_failed edits stream units accepted ends = tt
+ended fault.Io has_failed edits stream units accepted ends = accepted
+ended fault.Disks has_failed edits stream units accepted ends = absurd ends
 
 -- a fault of the edits explains them to the whole replay
 pub explained : (f : ReplayFault) (edits stream units : List ℕ) → RefusesEdits f edits units → Explains f edits stream units

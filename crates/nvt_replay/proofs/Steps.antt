@@ -133,7 +133,7 @@ step_by k held c ended old new stream known busy steps =
     moves.stream k ∙ ap (option_map (stream_moved (stepped k found m) k)) stream ∙ ap (λ b. Some (if b then drop (consumed_of found) held else held)) same in
     let before : left_at old k ≡ suc (length held) = left_is old k held c stream known ∙ ap (λ b. if b then 0 else suc (length held)) lasts.0 in
     record {
-      step = record { busy = rw (stream, known) busy; medium = m; tells = steps.tells; moves = rw stream moves };
+      step = record { busy = rw (stream, known) busy; medium = m; did = rw stream steps.did; moves = rw stream moves };
       less = subst (λ n. n < left_at old k) (sym (left_is new k (drop (consumed_of found) held) after held_after connection))
           (subst (λ n. (if is_ended after.conversation.session then 0 else suc (length (drop (consumed_of found) held))) < n) (sym before)
           (consumes_or_ends old k held c found m same known lasts.0 lasts.1 refl));

@@ -1,3 +1,4 @@
+pub mod CutOff
 pub mod Played
 pub mod Replies
 pub mod Replay

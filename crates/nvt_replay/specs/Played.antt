@@ -3,17 +3,18 @@ use Rattle.std.specs.Prelude.{◌≡◌, ◌⊎◌, ℕ, zero, suc, ◌<◌, ◌
 use Rattle.std.specs.Io.KnownBytes.{Appends}
 use Rattle.hex.specs.Hex.{decode_of}
 use Rattle.io_queue.specs.Act.{Medium}
-use Rattle.io_queue.specs.Execution.{Tells, contents_at}
+use Rattle.io_queue.specs.Execution.{contents_at}
 use Rattle.number_table.specs.Table.{place}
 use Rattle.target_core.specs.Agreement.{front_of}
 use Rattle.target_core.specs.declared.fault.OpenFault.{OpenFault}
 use Rattle.target_core.specs.Connection.{ConnectionState}
 use Rattle.target_core.specs.Fault.{word_of_open_fault}
 use Rattle.target_core.specs.Moves.{Moves}
-use Rattle.target_core.specs.Target.{TargetState, free_number, is_ended_at, is_idle, open_fault, room_at, with_connection, with_stream}
+use Rattle.target_core.specs.Target.{TargetState, free_number, is_ended_at, is_idle, meets, open_fault, room_at, with_connection, with_stream}
 use Rattle.target_decision.specs.Session.{is_ended}
 use Rattle.target_decision.specs.World.{connections_max}
 use Rattle.target_history.specs.Event.{given_up, opened, stepped, ticked}
+use Rattle.target_history.specs.Happening.{DisksAct}
 use Rattle.replay_lines.specs.declared.reply.Reply.{Reply}
 use Rattle.replay_lines.specs.declared.stream_line.StreamLine.{StreamLine}
 use Rattle.replay_lines.specs.declared.stream_line.StreamLine.TheVariants as line
@@ -52,11 +53,11 @@ is_idle_at None o = true
 is_idle_at (Some held) None = true
 is_idle_at (Some held) (Some c) = is_idle held c
 
--- a step of connection k, which is not idle
+-- a step of connection k, which is not idle, with what the disks may do at its event
 pub record Steps (k : ℕ) (old new : TargetState) : Type 0 where
   pub busy : is_idle_at (place old.streams k) (place old.connections k) ≡ false
   pub medium : Medium
-  pub tells : Tells medium old.disks new.disks
+  pub did : DisksAct (meets old (stepped k (front_of (place old.streams k)) medium)) old.disks new.disks
   pub moves : Moves (stepped k (front_of (place old.streams k)) medium) old new
 
 -- n of them, one after the other

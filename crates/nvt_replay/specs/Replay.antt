@@ -1,5 +1,5 @@
 -- What the end of a replay says of its files.
-use Rattle.std.specs.Prelude.{◌≡◌, ℕ, ◌-◌, ◌≤◌, true, false, List, [], ◌∷◌, length, map, replicate, take, slice_index_or, All, Option, Result, Ok, Err}
+use Rattle.std.specs.Prelude.{◌≡◌, ◌⊎◌, ℕ, ◌-◌, ◌≤◌, Bool, true, false, List, [], ◌∷◌, length, map, replicate, take, slice_index_or, All, Option, Result, Ok, Err}
 use Rattle.block_store.specs.Unit.{zero_unit}
 use Rattle.config_edits.specs.declared.edit.Edit.{Edit}
 use Rattle.config_rules.specs.Accept.{accept}
@@ -10,6 +10,7 @@ use Rattle.target_core.specs.Moves.{Moves}
 use Rattle.target_core.specs.Target.{IsNewTarget, TargetState}
 use Rattle.target_history.specs.Event.{edited}
 use Rattle.target_history.specs.History.{Opening}
+use Rattle.nvt_replay.specs.CutOff.{IsCutOff, PlaysLineInPart}
 use Rattle.nvt_replay.specs.Played.{PlaysAll, Prints}
 use Rattle.nvt_replay.specs.Replies.{Refuses}
 use Rattle.replay_lines.specs.declared.fault.ReplayFault.{ReplayFault}
@@ -68,21 +69,24 @@ abbrev pub Replays : List ℕ → List ℕ → List ℕ → List ℕ → Type 0
 Replays edits stream units text =
     (t : TargetState) × (last : TargetState) × IsConfigured edits units t × PlaysAll (lines_of stream) t text last
 
--- where a line of a script has none of its forms, those before it were played
+-- what was printed before a fault of the script: where a line has none of its forms, those before it were played;
+-- without memory, or where a write failed, a line was cut off
 abbrev pub PlaysBefore : ReplayFault → List (List ℕ) → TargetState → Option (List ℕ) → Option (List ℕ) → Type 0
 PlaysBefore (EditLine n reply) lines t old new = Unit {0}
 PlaysBefore (StreamLine n) lines t old new = Prints old new (λ text. (last : TargetState) × PlaysAll (take (n - 1) lines) t text last)
-PlaysBefore Memory lines t old new = Unit {0}
-PlaysBefore Io lines t old new = Unit {0}
+PlaysBefore Memory lines t old new = Prints old new (λ text. IsCutOff lines t text)
+PlaysBefore Io lines t old new = Prints old new (λ text. IsCutOff lines t text)
 PlaysBefore Disks lines t old new = Unit {0}
 
--- .. over the target that the edits made
+-- .. over the target that the edits made; without memory for that nothing was printed
 abbrev pub ReplaysBefore : ReplayFault → List ℕ → List ℕ → List ℕ → Option (List ℕ) → Option (List ℕ) → Type 0
 ReplaysBefore (EditLine n reply) edits stream units old new = Unit {0}
 ReplaysBefore (StreamLine n) edits stream units old new =
     (t : TargetState) × IsConfigured edits units t × PlaysBefore (StreamLine n) (lines_of stream) t old new
-ReplaysBefore Memory edits stream units old new = Unit {0}
-ReplaysBefore Io edits stream units old new = Unit {0}
+ReplaysBefore Memory edits stream units old new =
+    (new ≡ old) ⊎ ((t : TargetState) × IsConfigured edits units t × PlaysBefore Memory (lines_of stream) t old new)
+ReplaysBefore Io edits stream units old new =
+    (t : TargetState) × IsConfigured edits units t × PlaysBefore Io (lines_of stream) t old new
 ReplaysBefore Disks edits stream units old new = Unit {0}
 
 -- what each fault says of the edits, the script and the disks
@@ -103,21 +107,29 @@ RefusesLines Memory lines old = Unit {0}
 RefusesLines Io lines old = ⊥
 RefusesLines Disks lines old = ⊥
 
--- what a fault says of a line of a script, the nth
-abbrev pub EndsAtLine : ReplayFault → List ℕ → ℕ → Type 0
-EndsAtLine (EditLine m reply) line n = ⊥
-EndsAtLine (StreamLine m) line n = (m ≡ n) × ¬ IsStreamLine line
-EndsAtLine Memory line n = Unit {0}
-EndsAtLine Io line n = Unit {0}
-EndsAtLine Disks line n = ⊥
+-- what a fault says of a line of a script, the nth, and of the output: it is at fault only where a write has failed
+abbrev pub EndsAtLine : Bool → ReplayFault → List ℕ → ℕ → Type 0
+EndsAtLine has_failed (EditLine m reply) line n = ⊥
+EndsAtLine has_failed (StreamLine m) line n = (m ≡ n) × ¬ IsStreamLine line
+EndsAtLine has_failed Memory line n = Unit {0}
+EndsAtLine has_failed Io line n = has_failed ≡ true
+EndsAtLine has_failed Disks line n = ⊥
 
--- what a fault says of the lines of a script that runs
-abbrev pub EndsScript : ReplayFault → List (List ℕ) → Type 0
-EndsScript (EditLine n reply) lines = ⊥
-EndsScript (StreamLine n) lines = IsFirstMalformed lines n
-EndsScript Memory lines = Unit {0}
-EndsScript Io lines = Unit {0}
-EndsScript Disks lines = ⊥
+-- what such a line printed and changed: nothing where it has none of the forms, and else a part
+abbrev pub LeavesLine : ReplayFault → List ℕ → TargetState → TargetState → Option (List ℕ) → Option (List ℕ) → Type 0
+LeavesLine (EditLine m reply) line old new before after = ⊥
+LeavesLine (StreamLine m) line old new before after = (new ≡ old) × (after ≡ before)
+LeavesLine Memory line old new before after = PlaysLineInPart line old new before after
+LeavesLine Io line old new before after = PlaysLineInPart line old new before after
+LeavesLine Disks line old new before after = ⊥
+
+-- what a fault says of the lines of a script that runs, and of the output
+abbrev pub EndsScript : Bool → ReplayFault → List (List ℕ) → Type 0
+EndsScript has_failed (EditLine n reply) lines = ⊥
+EndsScript has_failed (StreamLine n) lines = IsFirstMalformed lines n
+EndsScript has_failed Memory lines = Unit {0}
+EndsScript has_failed Io lines = has_failed ≡ true
+EndsScript has_failed Disks lines = ⊥
 
 -- what a fault says of disks of these sizes
 abbrev pub RefusesDisks : ReplayFault → List ℕ → Type 0

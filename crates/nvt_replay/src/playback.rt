@@ -1,6 +1,7 @@
 //! A script of connections, run over a target that a file of edits configured.
 
-ghost use Rattle.std.specs.Prelude.{◌≡◌, ◌*◌, ◌==◌, ℕ, IfErr, IfOk, OnOk, All, true, length};
+ghost use Rattle.std.specs.Prelude.{◌≡◌, ◌*◌, ◌==◌, ℕ, IfErr, IfOk, OnErr, OnOk, All, false, true};
+ghost use Rattle.std.specs.Prelude.{length};
 ghost use Rattle.std.specs.Bool.{OnFalse};
 ghost use Rattle.std.specs.Io.KnownBytes.{Appends};
 ghost use Rattle.std.specs.List.{AllPass};
@@ -9,8 +10,10 @@ ghost use Rattle.config_rules.specs.Configuration.{are_disks, disks_alone};
 ghost use Rattle.line_words.specs.Lines.{lines_of};
 ghost use Rattle.number_table.specs.Table.{place};
 ghost use Rattle.target_core.specs.Target.{IsNewTarget, TargetState};
+ghost use Rattle.nvt_replay.specs.CutOff.{EditsInPart, EndsInPart, HandsOutInPart, OpensInPart};
+ghost use Rattle.nvt_replay.specs.CutOff.{PlaysInPart, ReceivesInPart, SettlesInPart, TicksInPart};
 ghost use Rattle.nvt_replay.specs.Replay.{AcceptsAll, Configures, EndsScript, Explains};
-ghost use Rattle.nvt_replay.specs.Replay.{EndsAtLine, IsBeforeScript, IsConfigured};
+ghost use Rattle.nvt_replay.specs.Replay.{EndsAtLine, IsBeforeScript, IsConfigured, LeavesLine};
 ghost use Rattle.nvt_replay.specs.Replay.{MovesByLine, MovesByLines, PlaysBefore};
 ghost use Rattle.nvt_replay.specs.Replay.{Replays, ReplaysBefore};
 ghost use Rattle.nvt_replay.specs.Replay.{RefusesDisks, RefusesEdits, RefusesLines, TakesLine, zeroed};
@@ -18,8 +21,9 @@ ghost use Rattle.nvt_replay.specs.Played.{ArePrinted, HandsOut, Plays, PlaysAll,
 ghost use Rattle.nvt_replay.specs.Played.{PlaysEdit, PlaysEnd, PlaysOpen, PlaysReceive, Prints};
 ghost use Rattle.nvt_replay.specs.Played.{PlaysTick, Settles};
 ghost use Rattle.nvt_replay.specs.Played.{connection_lines, refused_line};
-ghost use Rattle.replay_lines.specs.Fault.{IsOfRun};
+ghost use Rattle.replay_lines.specs.Fault.{EndsRun};
 ghost use Rattle.replay_lines.specs.StreamLine.{HasHex, IsHex, IsStreamLine};
+ghost use Rattle.replay_lines.specs.Writing.{AppendsFront};
 
 use crate::connections::{CONNECTIONS, Connections};
 use crate::disks::{are_disks, memory_disks};
@@ -65,6 +69,7 @@ fn begin(alloc: Global, edits: &[u8], units: &[u64]) -> Result<Playback, ReplayF
         Configures (lines_of edits.now) (disks_alone units.now) playback.connections.config) }
     ensures configured { IfOk result (λ playback.
         IsConfigured edits.now units.now playback.connections) }
+    ensures unfailed { IfOk result (λ playback. playback.printer.writes.has_failed ≡ false) }
     ensures fault { IfErr result (λ fault. RefusesEdits fault edits.now units.now) }
 {
     let mut playback = over_zeros(alloc, units)?;
@@ -75,6 +80,7 @@ fn begin(alloc: Global, edits: &[u8], units: &[u64]) -> Result<Playback, ReplayF
 // A playback over a target with a disk of zeros in memory, of each of these sizes.
 fn over_zeros(alloc: Global, units: &[u64]) -> Result<Playback, ReplayFault>
     ensures ok { IfOk result (λ playback. IsNewTarget (zeroed units.now) playback.connections) }
+    ensures unfailed { IfOk result (λ playback. playback.printer.writes.has_failed ≡ false) }
     ensures disks { OnOk result (are_disks units.now ≡ true) }
     ensures refused { OnFalse (are_disks units.now) (result ≡ Err ReplayFault.Disks) }
     ensures fault { IfErr result (λ fault. RefusesDisks fault units.now) }
@@ -143,13 +149,15 @@ impl Playback {
     pub fn new(alloc: Global, edits: &[u8], units: &[u64]) -> Result<Playback, ReplayFault>
         ensures ok { IfOk result (λ playback.
             IsConfigured edits.now units.now playback.connections) }
+        ensures unfailed { IfOk result (λ playback. playback.printer.writes.has_failed ≡ false) }
         ensures fault { IfErr result (λ fault. RefusesEdits fault edits.now units.now) }
     {
         begin(alloc, edits, units)
     }
 
     /// Runs a line of the script, the `number`th from 1 on, and prints what the target then sends
-    /// and which connections it opens and ends.
+    /// and which connections it opens and ends. A line that has none of the forms prints nothing and
+    /// changes no connection; of one that wants memory, or whose output fails, a beginning is printed.
     pub fn line<W: Write>(
         &mut self,
         number: usize,
@@ -158,7 +166,10 @@ impl Playback {
     ) -> Result<(), ReplayFault>
         ensures played { OnOk result (PlaysLine line.now self.old.connections self.new.connections
             (W.contents out.old) (W.contents out.new)) }
-        ensures fault { IfErr result (λ fault. EndsAtLine fault line.now number) }
+        ensures fault { IfErr result (λ fault.
+            EndsAtLine self.new.printer.writes.has_failed fault line.now number) }
+        ensures left { IfErr result (λ fault. LeavesLine fault line.now self.old.connections
+            self.new.connections (W.contents out.old) (W.contents out.new)) }
     {
         match read_stream_line(line) {
             Some(line) => self.play(line, out),
@@ -173,7 +184,8 @@ impl Playback {
             PlaysAll (lines_of stream.now) self.old.connections text self.new.connections)) }
         ensures before { IfErr result (λ fault. PlaysBefore fault (lines_of stream.now)
             self.old.connections (W.contents out.old) (W.contents out.new)) }
-        ensures fault { IfErr result (λ fault. EndsScript fault (lines_of stream.now)) }
+        ensures fault { IfErr result (λ fault.
+            EndsScript self.new.printer.writes.has_failed fault (lines_of stream.now)) }
     {
         let mut number = 0;
         for line in Lines::of(stream) {
@@ -188,9 +200,11 @@ impl Playback {
 
     fn play<W: Write>(&mut self, line: StreamLine<'_>, out: &mut W) -> Result<(), ReplayFault>
         requires { HasHex line }
-        ensures fault { IfErr result IsOfRun }
+        ensures fault { IfErr result (EndsRun self.new.printer.writes.has_failed) }
         ensures played { OnOk result (Prints (W.contents out.old) (W.contents out.new)
             (λ text. Plays line.entry self.old.connections text self.new.connections)) }
+        ensures begun { OnErr result (Prints (W.contents out.old) (W.contents out.new)
+            (λ text. PlaysInPart line.entry self.old.connections text self.new.connections)) }
     {
         match line {
             StreamLine::Open { port } => self.open(port, out),
@@ -203,9 +217,11 @@ impl Playback {
 
     // The reply comes first, and then what the edit makes the connections send or close.
     fn edit<W: Write>(&mut self, line: &[u8], out: &mut W) -> Result<(), ReplayFault>
-        ensures fault { IfErr result IsOfRun }
+        ensures fault { IfErr result (EndsRun self.new.printer.writes.has_failed) }
         ensures played { OnOk result (Prints (W.contents out.old) (W.contents out.new)
             (λ text. PlaysEdit line.now self.old.connections text self.new.connections)) }
+        ensures begun { OnErr result (Prints (W.contents out.old) (W.contents out.new)
+            (λ text. EditsInPart line.now self.old.connections text self.new.connections)) }
     {
         match self.connections.edit(*self.bytes.allocator(), line) {
             Ok(()) => {
@@ -218,9 +234,11 @@ impl Playback {
     }
 
     fn open<W: Write>(&mut self, port: u16, out: &mut W) -> Result<(), ReplayFault>
-        ensures fault { IfErr result IsOfRun }
+        ensures fault { IfErr result (EndsRun self.new.printer.writes.has_failed) }
         ensures played { OnOk result (Prints (W.contents out.old) (W.contents out.new)
             (λ text. PlaysOpen port self.old.connections text self.new.connections)) }
+        ensures begun { OnErr result (Prints (W.contents out.old) (W.contents out.new)
+            (λ text. OpensInPart port self.old.connections text self.new.connections)) }
     {
         match self.connections.open(port) {
             Ok(k) => self.printer.event(out, k as u64, "open"),
@@ -236,9 +254,11 @@ impl Playback {
         out: &mut W,
     ) -> Result<(), ReplayFault>
         requires { IsHex hex.now }
-        ensures fault { IfErr result IsOfRun }
+        ensures fault { IfErr result (EndsRun self.new.printer.writes.has_failed) }
         ensures played { OnOk result (Prints (W.contents out.old) (W.contents out.new) (λ text.
             PlaysReceive connection hex.now self.old.connections text self.new.connections)) }
+        ensures begun { OnErr result (Prints (W.contents out.old) (W.contents out.new) (λ text.
+            ReceivesInPart connection hex.now self.old.connections text self.new.connections)) }
     {
         let k = connection as usize;
         if !self.connections.is_open(k) {
@@ -256,9 +276,11 @@ impl Playback {
 
     // Prints what ends with the connection, and nothing of itself.
     fn end<W: Write>(&mut self, connection: u64, out: &mut W) -> Result<(), ReplayFault>
-        ensures fault { IfErr result IsOfRun }
+        ensures fault { IfErr result (EndsRun self.new.printer.writes.has_failed) }
         ensures played { OnOk result (Prints (W.contents out.old) (W.contents out.new)
             (λ text. PlaysEnd connection self.old.connections text self.new.connections)) }
+        ensures begun { OnErr result (Prints (W.contents out.old) (W.contents out.new)
+            (λ text. EndsInPart connection self.old.connections text self.new.connections)) }
     {
         let k = connection as usize;
         if !self.connections.is_open(k) {
@@ -269,9 +291,11 @@ impl Playback {
     }
 
     fn tick<W: Write>(&mut self, ms: u64, out: &mut W) -> Result<(), ReplayFault>
-        ensures fault { IfErr result IsOfRun }
+        ensures fault { IfErr result (EndsRun self.new.printer.writes.has_failed) }
         ensures played { OnOk result (Prints (W.contents out.old) (W.contents out.new)
             (λ text. PlaysTick ms self.old.connections text self.new.connections)) }
+        ensures begun { OnErr result (Prints (W.contents out.old) (W.contents out.new)
+            (λ text. TicksInPart ms self.old.connections text)) }
     {
         self.connections.tick(ms);
         settle(&mut self.connections, &mut self.printer, out)
@@ -284,8 +308,10 @@ fn print_refused_open<W: Write>(
     out: &mut W,
     fault: OpenFault,
 ) -> Result<(), ReplayFault>
-    ensures fault { IfErr result IsOfRun }
+    ensures fault { IfErr result (EndsRun printer.new.writes.has_failed) }
     ensures printed { OnOk result (Appends (W.contents out.old) (W.contents out.new)
+        (refused_line fault)) }
+    ensures begun { OnErr result (AppendsFront (W.contents out.old) (W.contents out.new)
         (refused_line fault)) }
 {
     printer.text(out, format_args!("open refused {fault}\n"))
@@ -300,9 +326,11 @@ fn hand_out<W: Write>(
     printer: &mut Printer,
     out: &mut W,
 ) -> Result<(), ReplayFault>
-    ensures fault { IfErr result IsOfRun }
+    ensures fault { IfErr result (EndsRun printer.new.writes.has_failed) }
     ensures played { OnOk result (Prints (W.contents out.old) (W.contents out.new) (λ text.
         (n : ℕ) × HandsOut n k bytes.now connections.old text connections.new)) }
+    ensures begun { OnErr result (Prints (W.contents out.old) (W.contents out.new) (λ text.
+        (n : ℕ) × HandsOutInPart n k bytes.now connections.old text)) }
 {
     let mut rest = bytes;
     loop {
@@ -321,9 +349,11 @@ fn settle<W: Write>(
     printer: &mut Printer,
     out: &mut W,
 ) -> Result<(), ReplayFault>
-    ensures fault { IfErr result IsOfRun }
+    ensures fault { IfErr result (EndsRun printer.new.writes.has_failed) }
     ensures settled { OnOk result (Prints (W.contents out.old) (W.contents out.new)
         (λ text. Settles connections.old text connections.new)) }
+    ensures begun { OnErr result (Prints (W.contents out.old) (W.contents out.new)
+        (λ text. SettlesInPart connections.old text)) }
 {
     connections.step()?;
     for k in 0..CONNECTIONS {
@@ -341,8 +371,10 @@ fn print<W: Write>(
     printer: &mut Printer,
     out: &mut W,
 ) -> Result<(), ReplayFault>
-    ensures fault { IfErr result IsOfRun }
+    ensures fault { IfErr result (EndsRun printer.new.writes.has_failed) }
     ensures printed { OnOk result (Appends (W.contents out.old) (W.contents out.new)
+        (connection_lines k (place connections.old.connections k))) }
+    ensures begun { OnErr result (AppendsFront (W.contents out.old) (W.contents out.new)
         (connection_lines k (place connections.old.connections k))) }
     ensures left { OnOk result (ArePrinted (λ j. j == k) connections.old connections.new) }
 {

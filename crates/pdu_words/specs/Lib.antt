@@ -1,3 +1,5 @@
 pub mod Command
 pub mod Explanation
+pub mod Names
 pub mod Subject
+pub mod Words

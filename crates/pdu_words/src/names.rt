@@ -1,10 +1,16 @@
 //! Names that the standards give to numbers, in lower case but for abbreviations.
+ghost use Rattle.std.specs.Prelude.{◌≡◌, MatchOption, None, Some};
+ghost use Rattle.pdu_words.specs.Names.{command_specific_name, fatal_error_name, generic_name};
+ghost use Rattle.pdu_words.specs.Names.{identify_name, log_page_name, media_name, path_name};
+ghost use Rattle.pdu_words.specs.Names.{property_name, status_name};
 
 use nvt_fields::Status;
 
 /// The name of a status code of its type (Base 2.0, section 3.3.3.2.1; Fabrics Connect, section 6.3),
 /// of those that this target sends or that reads and writes may have.
-pub(crate) fn status_name(status: Status) -> Option<&'static str> {
+pub(crate) fn status_name(status: Status) -> Option<&'static str>
+    ensures { MatchOption result (status_name status ≡ None) (λ name. status_name status ≡ Some name.now) }
+{
     match status.sct {
         0 => generic_name(status.sc),
         1 => command_specific_name(status.sc),
@@ -14,7 +20,10 @@ pub(crate) fn status_name(status: Status) -> Option<&'static str> {
     }
 }
 
-fn generic_name(sc: u8) -> Option<&'static str> {
+#[tactic(auto, unfolding(crate::specs::Names::generic_name))]
+fn generic_name(sc: u8) -> Option<&'static str>
+    ensures { MatchOption result (generic_name sc ≡ None) (λ name. generic_name sc ≡ Some name.now) }
+{
     Some(match sc {
         0x00 => "success",
         0x01 => "invalid command opcode",
@@ -31,7 +40,10 @@ fn generic_name(sc: u8) -> Option<&'static str> {
     })
 }
 
-fn command_specific_name(sc: u8) -> Option<&'static str> {
+#[tactic(auto, unfolding(crate::specs::Names::command_specific_name))]
+fn command_specific_name(sc: u8) -> Option<&'static str>
+    ensures { MatchOption result (command_specific_name sc ≡ None) (λ name. command_specific_name sc ≡ Some name.now) }
+{
     Some(match sc {
         0x05 => "asynchronous event request limit exceeded",
         0x09 => "invalid log page",
@@ -44,7 +56,10 @@ fn command_specific_name(sc: u8) -> Option<&'static str> {
     })
 }
 
-fn media_name(sc: u8) -> Option<&'static str> {
+#[tactic(auto, unfolding(crate::specs::Names::media_name))]
+fn media_name(sc: u8) -> Option<&'static str>
+    ensures { MatchOption result (media_name sc ≡ None) (λ name. media_name sc ≡ Some name.now) }
+{
     Some(match sc {
         0x80 => "write fault",
         0x81 => "unrecovered read error",
@@ -53,7 +68,10 @@ fn media_name(sc: u8) -> Option<&'static str> {
     })
 }
 
-fn path_name(sc: u8) -> Option<&'static str> {
+#[tactic(auto, unfolding(crate::specs::Names::path_name))]
+fn path_name(sc: u8) -> Option<&'static str>
+    ensures { MatchOption result (path_name sc ≡ None) (λ name. path_name sc ≡ Some name.now) }
+{
     Some(match sc {
         0x01 => "asymmetric access persistent loss",
         0x02 => "asymmetric access inaccessible",
@@ -63,7 +81,10 @@ fn path_name(sc: u8) -> Option<&'static str> {
 }
 
 /// The name of a fatal error status (TCP Transport 1.0, section 3.6).
-pub(crate) fn fatal_error_name(fes: u16) -> Option<&'static str> {
+#[tactic(auto, unfolding(crate::specs::Names::fatal_error_name))]
+pub(crate) fn fatal_error_name(fes: u16) -> Option<&'static str>
+    ensures { MatchOption result (fatal_error_name fes ≡ None) (λ name. fatal_error_name fes ≡ Some name.now) }
+{
     Some(match fes {
         1 => "invalid header field",
         2 => "sequence error",
@@ -76,7 +97,10 @@ pub(crate) fn fatal_error_name(fes: u16) -> Option<&'static str> {
 }
 
 /// The name of the property at an offset (Base 2.0, section 3.1.3).
-pub(crate) fn property_name(offset: u32) -> Option<&'static str> {
+#[tactic(auto, unfolding(crate::specs::Names::property_name))]
+pub(crate) fn property_name(offset: u32) -> Option<&'static str>
+    ensures { MatchOption result (property_name offset ≡ None) (λ name. property_name offset ≡ Some name.now) }
+{
     Some(match offset {
         0x00 => "CAP",
         0x08 => "VS",
@@ -89,7 +113,10 @@ pub(crate) fn property_name(offset: u32) -> Option<&'static str> {
 }
 
 /// What the data of an Identify command are, by CNS (Base 2.0, section 5.17).
-pub(crate) fn identify_name(cns: u8) -> Option<&'static str> {
+#[tactic(auto, unfolding(crate::specs::Names::identify_name))]
+pub(crate) fn identify_name(cns: u8) -> Option<&'static str>
+    ensures { MatchOption result (identify_name cns ≡ None) (λ name. identify_name cns ≡ Some name.now) }
+{
     Some(match cns {
         0x00 => "Identify Namespace",
         0x01 => "Identify Controller",
@@ -100,7 +127,10 @@ pub(crate) fn identify_name(cns: u8) -> Option<&'static str> {
 }
 
 /// The name of a log page (Base 2.0, section 5.16).
-pub(crate) fn log_page_name(lid: u8) -> Option<&'static str> {
+#[tactic(auto, unfolding(crate::specs::Names::log_page_name))]
+pub(crate) fn log_page_name(lid: u8) -> Option<&'static str>
+    ensures { MatchOption result (log_page_name lid ≡ None) (λ name. log_page_name lid ≡ Some name.now) }
+{
     Some(match lid {
         0x04 => "changed namespace list",
         0x0C => "ANA log",

@@ -1,4 +1,14 @@
 //! The words of an explanation: one line with no end.
+ghost use Rattle.std.specs.Prelude.{◌≡◌, ◌++◌, Some};
+ghost use Rattle.std.specs.Fmt.{WritesOnOk};
+ghost use Rattle.pdu_words.specs.Words.{answer_words, byte_words, command_words, connect_words};
+ghost use Rattle.pdu_words.specs.Words.{completion_words, connect_result_words, content_words};
+ghost use Rattle.pdu_words.specs.Words.{data_words, fatal_error_words, flag_words, ic_req_words};
+ghost use Rattle.pdu_words.specs.Words.{ic_resp_words, identify_words_by, information_words};
+ghost use Rattle.pdu_words.specs.Words.{log_page_words_by, named_words, numbered_words, place_words};
+ghost use Rattle.pdu_words.specs.Words.{property_words, r2t_words, result_words, retry_words};
+ghost use Rattle.pdu_words.specs.Words.{status_words, termination_words, words_of};
+ghost use Rattle.pdu_words.specs.Names.{identify_name, log_page_name};
 
 use crate::command::Command;
 use crate::explanation::{Completion, Explanation};
@@ -8,6 +18,8 @@ use pdu_codec::{DataHead, IcReq, IcResp, R2t, TermReq};
 use std::fmt::{self, Formatter};
 
 impl fmt::Display for Explanation {
+    ghost output = { λ explanation. Some (words_of explanation) };
+
     fn fmt<W: fmt::Write>(&self, f: &mut Formatter<W>) -> fmt::Result {
         match *self {
             Explanation::IcReq(request) => write_ic_req(f, request),
@@ -15,39 +27,40 @@ impl fmt::Display for Explanation {
             Explanation::H2cTermReq(request) => write_termination(f, "H2CTermReq", request),
             Explanation::C2hTermReq(request) => write_termination(f, "C2HTermReq", request),
             Explanation::CapsuleCmd { cid, command } => {
-                write!(f, "CapsuleCmd CID {cid}")?;
-                write_command(f, command)
+                let named = Named(command);
+                write!(f, "CapsuleCmd CID {cid}{named}")
             }
             Explanation::CapsuleResp {
                 completion,
                 command,
-            } => {
-                write_completion(f, completion, command)?;
-                write_command(f, command)
-            }
+            } => write_completion(f, completion, command),
             Explanation::H2cData { head, command } => {
-                write_data(f, "H2CData", head)?;
-                write_command(f, command)
+                let (moved, named) = (Data("H2CData", head), Named(command));
+                write!(f, "{moved}{named}")
             }
             Explanation::C2hData { head, command } => {
-                write_data(f, "C2HData", head)?;
-                write_content(f, command)
+                let (moved, content) = (Data("C2HData", head), Content(command));
+                write!(f, "{moved}{content}")
             }
             Explanation::R2t { request, command } => {
-                write_r2t(f, request)?;
-                write_command(f, command)
+                let (asked, named) = (Asked(request), Named(command));
+                write!(f, "{asked}{named}")
             }
             Explanation::NoPdu => f.write_str("no PDU"),
         }
     }
 }
 
-fn write_ic_req<W: fmt::Write>(f: &mut Formatter<W>, request: IcReq) -> fmt::Result {
+fn write_ic_req<W: fmt::Write>(f: &mut Formatter<W>, request: IcReq) -> fmt::Result
+    ensures { WritesOnOk W.write_str_gives f.old result (ic_req_words request) f.new }
+{
     let (pfv, hpda, maxr2t) = (request.pfv, request.hpda, request.maxr2t);
     write!(f, "ICReq PFV {pfv} HPDA {hpda} MAXR2T {maxr2t}")
 }
 
-fn write_ic_resp<W: fmt::Write>(f: &mut Formatter<W>, response: IcResp) -> fmt::Result {
+fn write_ic_resp<W: fmt::Write>(f: &mut Formatter<W>, response: IcResp) -> fmt::Result
+    ensures { WritesOnOk W.write_str_gives f.old result (ic_resp_words response) f.new }
+{
     let (pfv, cpda, max) = (response.pfv, response.cpda, response.maxh2cdata);
     write!(f, "ICResp PFV {pfv} CPDA {cpda} MAXH2CDATA {max}")
 }
@@ -56,26 +69,44 @@ fn write_termination<W: fmt::Write>(
     f: &mut Formatter<W>,
     name: &str,
     request: TermReq,
-) -> fmt::Result {
-    f.write_str(name)?;
-    write_fatal_error(f, request.fes)?;
-    write_information(f, request)
+) -> fmt::Result
+    ensures { WritesOnOk W.write_str_gives f.old result (termination_words name.now request) f.new }
+{
+    let (error, information) = (FatalError(request.fes), Information(request));
+    write!(f, "{name}{error}{information}")
 }
 
-fn write_fatal_error<W: fmt::Write>(f: &mut Formatter<W>, fes: u16) -> fmt::Result {
-    match fatal_error_name(fes) {
-        Some(error) => write!(f, " {error}"),
-        None => write!(f, " FES {fes}"),
+#[derive(Clone, Copy)]
+struct FatalError(u16);
+
+impl fmt::Display for FatalError {
+    ghost output = { λ error. Some (fatal_error_words error.0) };
+
+    fn fmt<W: fmt::Write>(&self, f: &mut Formatter<W>) -> fmt::Result {
+        let fes = self.0;
+        match fatal_error_name(fes) {
+            Some(name) => write!(f, " {name}"),
+            None => write!(f, " FES {fes}"),
+        }
     }
 }
 
 // FEI is the offset of a field with an invalid header field and an unsupported parameter.
-fn write_information<W: fmt::Write>(f: &mut Formatter<W>, request: TermReq) -> fmt::Result {
-    let fei = request.fei;
-    match request.fes {
-        1 | 6 => write!(f, ", at byte {fei}"),
-        _ if fei != 0 => write!(f, ", FEI {fei}"),
-        _ => Ok(()),
+#[derive(Clone, Copy)]
+struct Information(TermReq);
+
+impl fmt::Display for Information {
+    ghost output = { λ information. Some (information_words information.0) };
+
+    fn fmt<W: fmt::Write>(&self, f: &mut Formatter<W>) -> fmt::Result {
+        let (fes, fei) = (self.0.fes, self.0.fei);
+        if fes == 1 || fes == 6 {
+            return write!(f, ", at byte {fei}");
+        }
+        if fei == 0 {
+            return Ok(());
+        }
+        write!(f, ", FEI {fei}")
     }
 }
 
@@ -83,30 +114,63 @@ fn write_completion<W: fmt::Write>(
     f: &mut Formatter<W>,
     completion: Completion,
     command: Option<Command>,
-) -> fmt::Result {
+) -> fmt::Result
+    ensures { WritesOnOk W.write_str_gives f.old result (completion_words completion command) f.new }
+{
     let (cid, sqhd) = (completion.cid, completion.sqhd);
-    write!(f, "CapsuleResp CID {cid} SQHD {sqhd} ")?;
-    write_status(f, completion.status)?;
-    if let Some(Command::Connect { qid: _ }) = command {
-        write_connect_result(f, completion)
-    } else {
-        write_result(f, completion.result)
+    let (status, retry) = (
+        NamedStatus(completion.status),
+        retry_words(completion.status),
+    );
+    let (answer, named) = (Answer(completion, command), Named(command));
+    write!(
+        f,
+        "CapsuleResp CID {cid} SQHD {sqhd} {status}{retry}{answer}{named}"
+    )
+}
+
+#[derive(Clone, Copy)]
+struct NamedStatus(Status);
+
+impl fmt::Display for NamedStatus {
+    ghost output = { λ status. Some (status_words status.0) };
+
+    fn fmt<W: fmt::Write>(&self, f: &mut Formatter<W>) -> fmt::Result {
+        let (sct, code) = (self.0.sct, Byte(self.0.sc));
+        match status_name(self.0) {
+            Some(name) => f.write_str(name),
+            None => write!(f, "SCT {sct} SC {code}"),
+        }
     }
 }
 
-fn write_status<W: fmt::Write>(f: &mut Formatter<W>, status: Status) -> fmt::Result {
-    let (sct, sc) = (status.sct, status.sc);
-    match status_name(status) {
-        Some(name) => f.write_str(name)?,
-        None => write!(f, "SCT {sct} SC {sc:02X}h")?,
-    }
+fn retry_words(status: Status) -> &'static str
+    ensures { result.now ≡ retry_words status }
+{
     if status.dnr {
-        f.write_str(", DNR")?;
+        return ", DNR";
     }
-    Ok(())
+    ""
 }
 
-fn write_result<W: fmt::Write>(f: &mut Formatter<W>, dwords: u64) -> fmt::Result {
+// The result of a command.
+#[derive(Clone, Copy)]
+struct Answer(Completion, Option<Command>);
+
+impl fmt::Display for Answer {
+    ghost output = { λ answer. Some (answer_words answer.0 answer.1) };
+
+    fn fmt<W: fmt::Write>(&self, f: &mut Formatter<W>) -> fmt::Result {
+        match self.1 {
+            Some(Command::Connect { qid: _ }) => write_connect_result(f, self.0),
+            _ => write_result(f, self.0.result),
+        }
+    }
+}
+
+fn write_result<W: fmt::Write>(f: &mut Formatter<W>, dwords: u64) -> fmt::Result
+    ensures { WritesOnOk W.write_str_gives f.old result (result_words dwords) f.new }
+{
     if dwords == 0 {
         return Ok(());
     }
@@ -114,36 +178,50 @@ fn write_result<W: fmt::Write>(f: &mut Formatter<W>, dwords: u64) -> fmt::Result
 }
 
 // Whether a Connect's parameter that is invalid is in its data, by bit 16 of the result.
-fn parameter_place(dwords: u64) -> &'static str {
+fn parameter_place(dwords: u64) -> &'static str
+    ensures { result.now ≡ place_words dwords }
+{
     if dwords / 0x1_0000 % 2 == 1 {
-        "data"
-    } else {
-        "command"
+        return "data";
     }
+    "command"
 }
 
 // The low 16 bits are the controller's identifier, or the offset of the parameter that is invalid
 // (Base 2.0, section 6.3).
-fn write_connect_result<W: fmt::Write>(
-    f: &mut Formatter<W>,
-    completion: Completion,
-) -> fmt::Result {
+fn write_connect_result<W: fmt::Write>(f: &mut Formatter<W>, completion: Completion) -> fmt::Result
+    ensures { WritesOnOk W.write_str_gives f.old result (connect_result_words completion) f.new }
+{
+    let (sct, sc) = (completion.status.sct, completion.status.sc);
     let low = completion.result % 0x1_0000;
-    let place = parameter_place(completion.result);
-    match (completion.status.sct, completion.status.sc) {
-        (0, 0x00) => write!(f, ", CNTLID {low}"),
-        (1, 0x82) => write!(f, ", at byte {low} of the {place}"),
-        _ => write_result(f, completion.result),
+    if sct == 0 && sc == 0x00 {
+        return write!(f, ", CNTLID {low}");
+    }
+    if sct == 1 && sc == 0x82 {
+        let place = parameter_place(completion.result);
+        return write!(f, ", at byte {low} of the {place}");
+    }
+    write_result(f, completion.result)
+}
+
+// The header of a data PDU of this name.
+#[derive(Clone, Copy)]
+struct Data(&'static str, DataHead);
+
+impl fmt::Display for Data {
+    ghost output = { λ moved. Some (data_words moved.0.now moved.1) };
+
+    fn fmt<W: fmt::Write>(&self, f: &mut Formatter<W>) -> fmt::Result {
+        let (name, head) = (self.0, self.1);
+        let (cid, offset, len) = (head.cccid, head.datao, head.datal);
+        let flags = data_flags(head);
+        write!(f, "{name} CID {cid} offset {offset} length {len}{flags}")
     }
 }
 
-fn write_data<W: fmt::Write>(f: &mut Formatter<W>, name: &str, head: DataHead) -> fmt::Result {
-    let (cid, offset, len) = (head.cccid, head.datao, head.datal);
-    let flags = data_flags(head);
-    write!(f, "{name} CID {cid} offset {offset} length {len}{flags}")
-}
-
-fn data_flags(head: DataHead) -> &'static str {
+fn data_flags(head: DataHead) -> &'static str
+    ensures { result.now ≡ flag_words head }
+{
     match (head.last_pdu, head.success) {
         (false, false) => "",
         (true, false) => ", last",
@@ -152,40 +230,89 @@ fn data_flags(head: DataHead) -> &'static str {
     }
 }
 
-fn write_r2t<W: fmt::Write>(f: &mut Formatter<W>, request: R2t) -> fmt::Result {
-    let (cid, ttag, offset, len) = (request.cccid, request.ttag, request.r2to, request.r2tl);
-    write!(f, "R2T CID {cid} TTAG {ttag} offset {offset} length {len}")
+#[derive(Clone, Copy)]
+struct Asked(R2t);
+
+impl fmt::Display for Asked {
+    ghost output = { λ asked. Some (r2t_words asked.0) };
+
+    fn fmt<W: fmt::Write>(&self, f: &mut Formatter<W>) -> fmt::Result {
+        let (cid, ttag) = (self.0.cccid, self.0.ttag);
+        let (offset, len) = (self.0.r2to, self.0.r2tl);
+        write!(f, "R2T CID {cid} TTAG {ttag} offset {offset} length {len}")
+    }
 }
 
-fn write_command<W: fmt::Write>(f: &mut Formatter<W>, command: Option<Command>) -> fmt::Result {
-    match command {
-        Some(command) => write!(f, " ({command})"),
-        None => Ok(()),
+// The command that a PDU belongs to, where it is known.
+#[derive(Clone, Copy)]
+struct Named(Option<Command>);
+
+impl fmt::Display for Named {
+    ghost output = { λ named. Some (named_words named.0) };
+
+    fn fmt<W: fmt::Write>(&self, f: &mut Formatter<W>) -> fmt::Result {
+        match self.0 {
+            Some(command) => write!(f, " ({command})"),
+            None => Ok(()),
+        }
     }
 }
 
 // What the data that a command returns are.
-fn write_content<W: fmt::Write>(f: &mut Formatter<W>, command: Option<Command>) -> fmt::Result {
-    match command {
-        Some(Command::GetLogPage { lid, offset }) => match log_page_name(lid) {
-            Some(name) => write!(f, " (Get Log Page: {name}, offset {offset})"),
-            None => write!(f, " (Get Log Page {lid:02X}h, offset {offset})"),
-        },
-        Some(Command::Identify { cns }) => match identify_name(cns) {
-            Some(name) => write!(f, " ({name})"),
-            None => write_command(f, command),
-        },
-        _ => write_command(f, command),
+#[derive(Clone, Copy)]
+struct Content(Option<Command>);
+
+impl fmt::Display for Content {
+    ghost output = { λ content. Some (content_words content.0) };
+
+    fn fmt<W: fmt::Write>(&self, f: &mut Formatter<W>) -> fmt::Result {
+        match self.0 {
+            Some(Command::GetLogPage { lid, offset }) => write_log_page(f, lid, offset),
+            Some(Command::Identify { cns }) => write_structure(f, cns),
+            command => {
+                let named = Named(command);
+                write!(f, "{named}")
+            }
+        }
+    }
+}
+
+fn write_log_page<W: fmt::Write>(f: &mut Formatter<W>, lid: u8, offset: u64) -> fmt::Result
+    ensures { WritesOnOk W.write_str_gives f.old result
+        (log_page_words_by (log_page_name lid) lid offset) f.new }
+{
+    let number = Byte(lid);
+    match log_page_name(lid) {
+        Some(name) => write!(f, " (Get Log Page: {name}, offset {offset})"),
+        None => write!(f, " (Get Log Page {number}, offset {offset})"),
+    }
+}
+
+fn write_structure<W: fmt::Write>(f: &mut Formatter<W>, cns: u8) -> fmt::Result
+    ensures { WritesOnOk W.write_str_gives f.old result
+        (identify_words_by (identify_name cns) cns) f.new }
+{
+    let command = Command::Identify { cns };
+    match identify_name(cns) {
+        Some(name) => write!(f, " ({name})"),
+        None => write!(f, " ({command})"),
     }
 }
 
 impl fmt::Display for Command {
+    ghost output = { λ command. Some (command_words command) };
+
     fn fmt<W: fmt::Write>(&self, f: &mut Formatter<W>) -> fmt::Result {
         match *self {
-            Command::Connect { qid: 0 } => f.write_str("Connect"),
-            Command::Connect { qid } => write!(f, "Connect QID {qid}"),
-            Command::PropertyGet { offset } => write_property(f, "Property Get", offset),
-            Command::PropertySet { offset } => write_property(f, "Property Set", offset),
+            Command::Connect { qid } => write_connect(f, qid),
+            Command::PropertyGet { offset } => {
+                let property = Property(offset);
+                write!(f, "Property Get {property}")
+            }
+            Command::PropertySet { offset } => {
+                let property = Property(offset);
+                write!(f, "Property Set {property}")
+            }
             Command::Fabrics { fctype } => write_numbered(f, "Fabrics command", fctype),
             Command::GetLogPage { lid, offset: _ } => write_numbered(f, "Get Log Page", lid),
             Command::Identify { cns } => write_numbered(f, "Identify", cns),
@@ -205,13 +332,47 @@ impl fmt::Display for Command {
     }
 }
 
-fn write_property<W: fmt::Write>(f: &mut Formatter<W>, verb: &str, offset: u32) -> fmt::Result {
-    match property_name(offset) {
-        Some(name) => write!(f, "{verb} {name}"),
-        None => write!(f, "{verb} {offset:X}h"),
+fn write_connect<W: fmt::Write>(f: &mut Formatter<W>, qid: u16) -> fmt::Result
+    ensures { WritesOnOk W.write_str_gives f.old result (connect_words qid) f.new }
+{
+    if qid == 0 {
+        return f.write_str("Connect");
+    }
+    write!(f, "Connect QID {qid}")
+}
+
+// A property, by its offset.
+#[derive(Clone, Copy)]
+struct Property(u32);
+
+impl fmt::Display for Property {
+    ghost output = { λ property. Some (property_words property.0) };
+
+    fn fmt<W: fmt::Write>(&self, f: &mut Formatter<W>) -> fmt::Result {
+        let offset = self.0;
+        match property_name(offset) {
+            Some(name) => f.write_str(name),
+            None => write!(f, "{offset:X}h"),
+        }
     }
 }
 
-fn write_numbered<W: fmt::Write>(f: &mut Formatter<W>, name: &str, number: u8) -> fmt::Result {
-    write!(f, "{name} {number:02X}h")
+fn write_numbered<W: fmt::Write>(f: &mut Formatter<W>, name: &str, number: u8) -> fmt::Result
+    ensures { WritesOnOk W.write_str_gives f.old result (numbered_words name.now number) f.new }
+{
+    let number = Byte(number);
+    write!(f, "{name} {number}")
+}
+
+// A byte in two hex digits, with an `h` behind them.
+#[derive(Clone, Copy)]
+struct Byte(u8);
+
+impl fmt::Display for Byte {
+    ghost output = { λ byte. Some (byte_words byte.0) };
+
+    fn fmt<W: fmt::Write>(&self, f: &mut Formatter<W>) -> fmt::Result {
+        let (high, low) = (self.0 / 16, self.0 % 16);
+        write!(f, "{high:X}{low:X}h")
+    }
 }

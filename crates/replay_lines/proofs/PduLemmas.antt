@@ -1,13 +1,14 @@
 -- How an output is cut into its PDUs.
-use Rattle.std.proofs.Common.{◌≡◌, ℕ, zero, suc, ◌+◌, ◌<◌, ◌≤◌, ◌&&◌, Bool, true, false, List, [], ◌∷◌, ◌++◌, length, take, drop, length-drop, refl, sym, ap, ◌∙◌, ◌⊎◌, inl, inr, arith, take-append-drop, Option}
+use Rattle.std.proofs.Common.{◌≡◌, ℕ, zero, suc, ◌+◌, ◌<◌, ◌≤◌, ◌&&◌, Bool, true, false, List, [], ◌∷◌, ◌++◌, length, take, drop, length-drop, refl, sym, ap, ◌∙◌, ◌⊎◌, inl, inr, arith, take-append-drop, Option, append_assoc, append-nil, subst}
 use Rattle.std.specs.Prelude.{All, flat_map, nat_le, nat_lt, if◌then◌else◌}
 use Rattle.std.proofs.lemmas.Bool.Decides.{nat_tests}
 use Rattle.std.proofs.lemmas.List.{length-take-le, take_all}
 use Rattle.std.proofs.lemmas.List.Elements.{All-cons, All-nil}
 use Rattle.std.specs.Io.KnownBytes.{Appends}
-use Rattle.std.proofs.KnownBytes.{Appends-nil, Appends-trans}
 use Rattle.nvt_fields.specs.Field.{field_at}
 use Rattle.replay_lines.specs.Printed.{AreAllOf, first_pdus, output_lines, pdu_length, pdu_line, pdus_of}
+use Rattle.replay_lines.specs.Writing.{AppendsFront}
+use Rattle.replay_lines.proofs.Fronts.{front_behind, front_left}
 
 -- what is so of a length that is less than a header, of a PLEN that is a length, and of one that is none
 by_cases : (P : ℕ → Type 0) (len plen : ℕ) → P len → (8 ≤ plen → plen ≤ len → P plen)
@@ -130,14 +131,24 @@ output_lines-front k output some = ap (flat_map (pdu_line k)) (pdus_of-front out
 pub output_lines-nil : (k : ℕ) → output_lines k [] ≡ []
 output_lines-nil k = ap (flat_map (pdu_line k)) pdus_of-nil
 
--- a writer that took the line of the first PDU, and then those of what follows it
-pub printed_front : (k : ℕ) (output pdu rest : List ℕ) (old mid last : Option (List ℕ)) → 0 < length output
-    → pdu ≡ take (pdu_length output) output → rest ≡ drop (pdu_length output) output
-    → Appends old mid (pdu_line k pdu) → Appends mid last (output_lines k rest) → Appends old last (output_lines k output)
-printed_front k output pdu rest old mid last some first after here more =
-    rw (output_lines-front k output some, ← first, ← after) (Appends-trans old mid last (pdu_line k pdu) (output_lines k rest) here more)
+-- what was printed before, and the line of the first PDU of the rest, come before the lines of what follows it
+pub printed_more : (k : ℕ) (all rest pdu after done : List ℕ) → 0 < length rest → pdu ≡ take (pdu_length rest) rest
+    → after ≡ drop (pdu_length rest) rest → all ≡ done ++ output_lines k rest → all ≡ (done ++ pdu_line k pdu) ++ output_lines k after
+printed_more k all rest pdu after done some first next before =
+    let front : output_lines k rest ≡ pdu_line k pdu ++ output_lines k after = rw (first, next) (output_lines-front k rest some) in
+    before ∙ ap (λ (lines : List ℕ). done ++ lines) front ∙ sym (append_assoc done (pdu_line k pdu) (output_lines k after))
 
 -- nothing is left to print
-pub printed_end : (k : ℕ) (rest : List ℕ) (old : Option (List ℕ)) → length rest ≡ 0 → Appends old old (output_lines k rest)
-printed_end k [] old none = rw output_lines-nil (Appends-nil old)
-printed_end k (b ∷ bytes) old none = absurd (omega arith)
+pub printed_all : (k : ℕ) (all rest done : List ℕ) (old new : Option (List ℕ)) → length rest ≡ 0 → all ≡ done ++ output_lines k rest
+    → Appends old new done → Appends old new all
+printed_all k all [] done old new none before took =
+    subst (Appends old new) (sym (before ∙ ap (λ (lines : List ℕ). done ++ lines) (output_lines-nil k) ∙ append-nil done)) took
+printed_all k all (b ∷ bytes) done old new none before took = absurd (omega arith)
+
+-- of the line of the first PDU of the rest a beginning was printed
+pub printed_part : (k : ℕ) (all rest pdu after done : List ℕ) (old mid new : Option (List ℕ)) → 0 < length rest → pdu ≡ take (pdu_length rest) rest
+    → after ≡ drop (pdu_length rest) rest → all ≡ done ++ output_lines k rest → Appends old mid done
+    → AppendsFront mid new (pdu_line k pdu) → AppendsFront old new all
+printed_part k all rest pdu after done old mid new some first next before took part =
+    subst (AppendsFront old new) (sym (printed_more k all rest pdu after done some first next before))
+    (front_left old new (done ++ pdu_line k pdu) (output_lines k after) (front_behind old mid new done (pdu_line k pdu) took part))

@@ -1,4 +1,5 @@
 -- Why a replay ends.
+use Rattle.std.specs.Prelude.{◌≡◌, Bool, true}
 use Rattle.replay_lines.specs.declared.fault.ReplayFault.{ReplayFault}
 use Rattle.replay_lines.specs.declared.fault.ReplayFault.TheVariants.{EditLine, StreamLine, Memory, Io, Disks}
 
@@ -9,3 +10,11 @@ IsOfRun (StreamLine n) = ⊥
 IsOfRun Memory = Unit {0}
 IsOfRun Io = Unit {0}
 IsOfRun Disks = ⊥
+
+-- .. the output only where a write has failed
+abbrev pub EndsRun : Bool → ReplayFault → Type 0
+EndsRun has_failed (EditLine n reply) = ⊥
+EndsRun has_failed (StreamLine n) = ⊥
+EndsRun has_failed Memory = Unit {0}
+EndsRun has_failed Io = has_failed ≡ true
+EndsRun has_failed Disks = ⊥

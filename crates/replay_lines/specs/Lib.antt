@@ -2,3 +2,4 @@ pub mod Fault
 pub mod Printed
 pub mod Reply
 pub mod StreamLine
+pub mod Writing

@@ -6,6 +6,7 @@ pub mod fault;
 pub mod print;
 pub mod reply;
 pub mod stream_line;
+pub mod writes;
 
 pub use fault::ReplayFault;
 pub use print::{Printer, written};

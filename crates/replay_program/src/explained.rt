@@ -1,5 +1,12 @@
 //! A replay with words behind each PDU.
 
+ghost use Rattle.std.specs.Prelude.{All, IfErr, OnOk};
+ghost use Rattle.line_words.specs.Lines.{lines_of};
+ghost use Rattle.nvt_replay.specs.Replay.{EndsAtLine, EndsScript};
+ghost use Rattle.replay_lines.specs.StreamLine.{IsStreamLine};
+ghost use Rattle.replay_program.specs.Explained.{FailsSo};
+ghost use Rattle.replay_words.specs.Explained.{WasHeard};
+
 use nvt_replay::{Lines, Playback, ReplayFault};
 use replay_words::Explained;
 use std::alloc::Global;
@@ -12,7 +19,10 @@ pub(crate) fn replay<W: Write>(
     stream: &[u8],
     units: &[u64],
     out: &mut W,
-) -> Result<(), ReplayFault> {
+) -> Result<(), ReplayFault>
+    ensures ok { OnOk result (All IsStreamLine (lines_of stream.now)) }
+    ensures fault { IfErr result (λ fault. FailsSo fault edits.now stream.now units.now) }
+{
     match Playback::new(alloc, edits, units) {
         Ok(mut playback) => explain(alloc, &mut playback, stream, out),
         Err(fault) => Err(fault),
@@ -24,19 +34,28 @@ fn explain<W: Write>(
     playback: &mut Playback,
     stream: &[u8],
     out: &mut W,
-) -> Result<(), ReplayFault> {
+) -> Result<(), ReplayFault>
+    ensures ok { OnOk result (All IsStreamLine (lines_of stream.now)) }
+    ensures fault { IfErr result (λ fault.
+        EndsScript playback.new.printer.writes.has_failed fault (lines_of stream.now)) }
+{
     let mut explained = Explained::new(alloc, out)?;
     play(playback, stream, &mut explained)
 }
 
+// Runs the script, up to the first line that has none of its forms.
 fn play<W: Write>(
     playback: &mut Playback,
     stream: &[u8],
     out: &mut Explained<'_, W>,
-) -> Result<(), ReplayFault> {
-    let mut number: usize = 0;
+) -> Result<(), ReplayFault>
+    ensures ok { OnOk result (All IsStreamLine (lines_of stream.now)) }
+    ensures fault { IfErr result (λ fault.
+        EndsScript playback.new.printer.writes.has_failed fault (lines_of stream.now)) }
+{
+    let mut number = 0;
     for line in Lines::of(stream) {
-        number = number.saturating_add(1);
+        number += 1;
         play_line(playback, number, line, out)?;
     }
     Ok(())
@@ -48,7 +67,26 @@ fn play_line<W: Write>(
     number: usize,
     line: &[u8],
     out: &mut Explained<'_, W>,
-) -> Result<(), ReplayFault> {
+) -> Result<(), ReplayFault>
+    ensures ok { OnOk result (IsStreamLine line.now) }
+    ensures fault { IfErr result (λ fault.
+        EndsAtLine playback.new.printer.writes.has_failed fault line.now number) }
+{
     out.hears_line(line)?;
+    run_heard(playback, number, line, out)
+}
+
+// Runs a line that was heard the last.
+fn run_heard<W: Write>(
+    playback: &mut Playback,
+    number: usize,
+    line: &[u8],
+    out: &mut Explained<'_, W>,
+) -> Result<(), ReplayFault>
+    requires { WasHeard line.now out.old.notes }
+    ensures ok { OnOk result (IsStreamLine line.now) }
+    ensures fault { IfErr result (λ fault.
+        EndsAtLine playback.new.printer.writes.has_failed fault line.now number) }
+{
     playback.line(number, line, out)
 }

@@ -1,13 +1,15 @@
 //! The output of a replay, with words behind each PDU.
-ghost use Rattle.std.specs.Io.KnownBytes.{WriteAppends};
+ghost use Rattle.std.specs.Io.KnownBytes.{Appends, Keeps, WriteAppends};
 ghost use Rattle.std.specs.Io.{WritesAtMost};
-ghost use Rattle.std.specs.Prelude.{◌∷◌, ℕ, List, ◌≡◌, ◌≤◌, [], length, take, IfOk, OnErr, OnOk, None, replicate, Option, Ok};
+ghost use Rattle.std.specs.Prelude.{◌∷◌, ◌++◌, ℕ, List, ◌≡◌, ◌≤◌, [], length, take, IfOk, OnErr, OnOk};
+ghost use Rattle.std.specs.Prelude.{None, replicate, Option, Ok};
 ghost use Rattle.pdu_words.specs.declared.explanation.Explanation.{Explanation};
-ghost use Rattle.replay_words.specs.Explained.{Passes, kept};
+ghost use Rattle.replay_words.specs.Explained.{Passes, WasHeard, kept, words_behind};
 ghost use Rattle.replay_words.specs.Notes.{HearsLine, NotesLine};
 
 use crate::notes::Notes;
 use line_words::find_byte;
+use pdu_words::Explanation;
 use std::alloc::{AllocError, Global};
 use std::io::{self, Write};
 
@@ -33,6 +35,7 @@ impl<'a, W: Write> Explained<'a, W> {
     pub fn new(alloc: Global, out: &'a mut W) -> Result<Explained<'a, W>, AllocError>
         ensures line { IfOk result (λ explained. explained.line.items ≡ []) }
         ensures notes { IfOk result (λ explained. explained.notes ≡ replicate 64 None) }
+        ensures out { IfOk result (λ explained. explained.out.now ≡ out.old) }
     {
         let notes = Notes::new(alloc)?;
         let line = Vec::with_capacity(alloc, LINE_HEAD)?;
@@ -48,21 +51,25 @@ impl<'a, W: Write> Explained<'a, W> {
     /// Hears a line of the script, without its end, before it is played.
     pub fn hears_line(&mut self, line: &[u8]) -> Result<(), AllocError>
         ensures heard { HearsLine line.now self.old.notes self.new.notes result }
+        ensures was_heard { OnOk result (WasHeard line.now self.new.notes) }
         ensures line { self.new.line ≡ self.old.line }
+        ensures out { self.new.out ≡ self.old.out }
         ensures err { OnErr result (self.new.notes ≡ self.old.notes) }
     {
         self.notes.hears_line(line)
     }
 
-    // Passes on the end of a line, behind the note on it.
+    // Passes on the end of a line, behind the words of its note.
     fn end_line(&mut self) -> io::Result<()>
         ensures line { OnOk result (self.new.line.items ≡ []) }
-        ensures noted { OnOk result ((note : Option Explanation) × NotesLine self.old.line.items self.old.notes self.new.notes (Ok note)) }
+        ensures noted { OnOk result ((note : Option Explanation)
+            × NotesLine self.old.line.items self.old.notes self.new.notes (Ok note)
+            × Appends (W.contents self.old.out.now) (W.contents self.new.out.now)
+            (words_behind note ++ 10 ∷ [])) }
     {
+        let note = self.notes.note(&self.line)?;
         self.note.clear();
-        if let Some(explanation) = self.notes.note(&self.line)? {
-            write!(self.note, " # {explanation}")?;
-        }
+        write_words(&mut self.note, note)?;
         self.note.push(b'\n')?;
         self.line.clear();
         self.out.write_all(&self.note)
@@ -72,6 +79,7 @@ impl<'a, W: Write> Explained<'a, W> {
     fn keep(&mut self, piece: &[u8]) -> Result<(), AllocError>
         ensures line { OnOk result (self.new.line.items ≡ kept self.old.line.items piece.now) }
         ensures notes { self.new.notes ≡ self.old.notes }
+        ensures out { self.new.out ≡ self.old.out }
     {
         let room = LINE_HEAD.saturating_sub(self.line.len());
         let kept = room.min(piece.len());
@@ -82,7 +90,8 @@ impl<'a, W: Write> Explained<'a, W> {
     fn pass(&mut self, buf: &[u8]) -> io::Result<usize>
         ensures bound { IfOk result (λ n. n ≤ length buf.now) }
         ensures passed { IfOk result (λ n. Passes self.old.line.items self.new.line.items
-            self.old.notes self.new.notes (take n buf.now)) }
+            self.old.notes self.new.notes (take n buf.now)
+            (W.contents self.old.out.now) (W.contents self.new.out.now)) }
         ensures end { (rest : List ℕ) → buf.now ≡ 10 ∷ rest → IfOk result (λ n. n ≡ 1) }
     {
         let len = find_byte(buf, b'\n');
@@ -106,13 +115,29 @@ impl<W: Write> Write for Explained<'_, W> {
         ensures bound { WritesAtMost result buf.now }
         ensures bytes { WriteAppends None None result buf.now }
         ensures passed { IfOk result (λ n. Passes self.old.line.items self.new.line.items
-            self.old.notes self.new.notes (take n buf.now)) }
+            self.old.notes self.new.notes (take n buf.now)
+            (W.contents self.old.out.now) (W.contents self.new.out.now)) }
         ensures end { (rest : List ℕ) → buf.now ≡ 10 ∷ rest → IfOk result (λ n. n ≡ 1) }
     {
         self.pass(buf)
     }
 
-    fn flush(&mut self) -> io::Result<()> {
+    fn flush(&mut self) -> io::Result<()>
+        ensures bytes { Keeps None None }
+        ensures out { Keeps (W.contents self.old.out.now) (W.contents self.new.out.now) }
+        ensures line { self.new.line ≡ self.old.line }
+        ensures notes { self.new.notes ≡ self.old.notes }
+    {
         self.out.flush()
+    }
+}
+
+// Appends the words of a note, if there is one.
+fn write_words(text: &mut Vec<u8>, note: Option<Explanation>) -> io::Result<()>
+    ensures { OnOk result (text.new.items ≡ text.old.items ++ words_behind note) }
+{
+    match note {
+        Some(explanation) => write!(text, " # {explanation}"),
+        None => Ok(()),
     }
 }

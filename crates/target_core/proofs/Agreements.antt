@@ -55,7 +55,7 @@ happenings_same : (event : Event) (v w : World) (f g : ℕ → Option Conversati
 happenings_same event v w f g m n b c worlds conversations clocks blocks = rw (worlds, conversations, clocks, blocks) refl
 
 -- .. and so is all that an event meets
-meets_agree : (t : TargetState) (event : Event) (disks : Opening) (before : List Happening) (received taken : ℕ → List ℕ)
+pub meets_agree : (t : TargetState) (event : Event) (disks : Opening) (before : List Happening) (received taken : ℕ → List ℕ)
     → AgreesWith t disks before received taken → meets t event ≡ meets_after disks before event
 meets_agree t event disks before received taken agrees =
     happenings_same event (world_at t) (world_of disks before) (conversation_at t) (conversation_of before) t.clock (clock_of before)

@@ -1,5 +1,5 @@
 -- Each call keeps the agreement: from the exact clauses of a call to what its answer says.
-use Rattle.std.proofs.Common.{◌≡◌, ℕ, Bool, true, false, ◌&&◌, List, ◌++◌, length, take, drop, min, Option, Some, None, Result, Ok, Err, OnOk, OnErr, IfOk, MatchOption, refl, sym, ap, ◌∙◌, append_assoc, take-append-drop}
+use Rattle.std.proofs.Common.{◌≡◌, ℕ, Bool, true, false, ◌&&◌, List, ◌++◌, length, take, drop, min, Option, Some, None, Result, Ok, Err, OnOk, OnErr, IfOk, MatchOption, refl, sym, ap, subst, ◌∙◌, append_assoc, take-append-drop}
 use Rattle.std.specs.Prelude.{if◌then◌else◌, ◌==◌}
 use Rattle.std.specs.Option.{option_map}
 use Rattle.std.proofs.lemmas.Bool.{eqb-true}
@@ -25,9 +25,9 @@ use Rattle.target_decision.specs.declared.session.Conversation.{Conversation}
 use Rattle.target_decision.specs.declared.session.Session.TheVariants as session
 use Rattle.target_decision.specs.Session.{is_ended}
 use Rattle.target_history.specs.Event.{edited, given_up, opened, stepped}
-use Rattle.target_history.specs.Happening.{Happening}
+use Rattle.target_history.specs.Happening.{DisksAct, Happening}
 use Rattle.target_history.specs.History.{Admission, admission_of, conversation_of, happened, has_ended, is_initialized, is_known, last_front, pdus_of, port_of, responses_since, sent, session_of, session_with}
-use Rattle.target_core.proofs.Agreements.{moves_agree, same_agrees}
+use Rattle.target_core.proofs.Agreements.{meets_agree, moves_agree, same_agrees}
 
 -- ---- events
 
@@ -46,7 +46,9 @@ stepped_agrees : (old new : TargetState) (k : ℕ) (held : List ℕ) (ended : Bo
     → AgreesAfterStep k (front Target held) old new
 stepped_agrees old new k held ended h = record {
   medium = h.medium;
-  tells = h.tells;
+  tells = h.did.tells;
+  did = λ disks events received taken agrees. subst (λ (x : Happening). DisksAct x old.disks new.disks)
+      (meets_agree old (stepped k (front Target held) h.medium) disks (happened disks events) received taken agrees) h.did;
   agrees = moves_agree (stepped k (front Target held) h.medium) old new h.moves;
 }
 

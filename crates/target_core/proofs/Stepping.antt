@@ -1,5 +1,5 @@
 -- What a step has done to the target.
-use Rattle.std.proofs.Common.{◌≡◌, ℕ, ◌<◌, Bool, true, false, List, length, map, drop, ◌++◌, Option, Some, None, MatchOption, refl, sym, ap, ◌∙◌}
+use Rattle.std.proofs.Common.{◌≡◌, ℕ, ◌<◌, Bool, true, false, List, length, map, drop, ◌++◌, Option, Some, None, MatchOption, refl, sym, ap, subst, ◌∙◌}
 use Rattle.std.specs.Prelude.{if◌then◌else◌, ◌==◌}
 use Rattle.std.specs.Option.{option_map}
 use Rattle.std.proofs.Math.Dec.{T, eqb_refl}
@@ -12,7 +12,7 @@ use Rattle.controller_tables.proofs.Staying.{nothing_gone}
 use Rattle.fabrics_connect.specs.declared.row.Row.{Row}
 use Rattle.block_store.specs.Stored.{Stored}
 use Rattle.io_queue.specs.Act.{Medium}
-use Rattle.io_queue.specs.Execution.{Tells, contents_at, write_on, written}
+use Rattle.io_queue.specs.Execution.{DisksDid, contents_at, write_on, written}
 use Rattle.pdu_cut.specs.declared.side.Side.TheVariants.{Target}
 use Rattle.pdu_cut.specs.Front.{Front, front}
 use Rattle.target_core.specs.declared.fault.Stepped.{Stepped}
@@ -25,13 +25,13 @@ use Rattle.target_decision.specs.declared.decision.Decision.TheVariants as decis
 use Rattle.target_decision.specs.declared.session.Session.{Session}
 use Rattle.target_decision.specs.declared.session.Session.TheVariants.{Ended}
 use Rattle.target_decision.specs.Begin.{row_by, row_decided}
-use Rattle.target_decision.specs.Decision.{act_by, consumed_of, decide, is_end, sent_by}
+use Rattle.target_decision.specs.Decision.{act_by, bytes_at, consumed_of, decide, is_end, operation_of, sent_by}
 use Rattle.target_decision.specs.Session.{is_ended, session_after}
 use Rattle.target_decision.specs.World.{World}
 use Rattle.target_history.specs.declared.ending.Ending.{Ending}
 use Rattle.target_history.specs.Ending.{ending_decided, ends_by}
 use Rattle.target_history.specs.Event.{stepped}
-use Rattle.target_history.specs.Happening.{act_decided, change_decided, change_of, controller_changed, decided, decision_of, ending_of, ends_live, is_end_decided, port_met, row_changed, row_kept, terminates}
+use Rattle.target_history.specs.Happening.{DisksAct, act_decided, change_decided, change_of, controller_changed, decided, decision_of, ending_of, ends_live, is_end_decided, operation_decided, port_met, row_changed, row_kept, terminates}
 use Rattle.target_core.proofs.Moving.{moved_is, silent_at, stream_stays, tables_of, turned}
 use Rattle.target_core.proofs.Places.{connection_is_target, map_is_target, stream_is_target}
 use Rattle.target_core.proofs.Settling.{QuietWhere, decision_settles}
@@ -206,16 +206,21 @@ step_is_target streams connections k held after c turned f is stream known =
 
 steps_by : (old new : TargetState) (k : ℕ) (held : List ℕ) (c : ConnectionState) (d : Decision) (s : Stepped) (m : Medium)
     → place old.connections k ≡ Some c → is_ended c.conversation.session ≡ false → is_incomplete (front Target held) ≡ false
-    → d ≡ decide (world_at old) c.conversation (front Target held) → Tells m old.disks new.disks
+    → d ≡ decide (world_at old) c.conversation (front Target held)
+    → DisksDid (operation_of d) (bytes_at (front Target held)) m old.disks new.disks
     → Moves (stepped k (front Target held) m) old new → s ≡ stepped_by (is_end d) → StepsBy k held c s old new
-steps_by old new k held c d s m known lasts complete decides tells moves is =
+steps_by old new k held c d s m known lasts complete decides did moves is =
     rw is (by (is_end d) (step_ends old k (front Target held) m c d known lasts decides))
   where
     idle : is_idle held c ≡ false
     idle = rw (lasts, complete) refl
 
+    acts : DisksAct (meets old (stepped k (front Target held) m)) old.disks new.disks
+    acts = subst (λ (o : Option Decision). DisksDid (operation_decided o) (bytes_at (front Target held)) m old.disks new.disks)
+        (sym (decides_so old k (front Target held) m c d known lasts decides)) did
+
     steps : (ended : Bool) → terminates (meets old (stepped k (front Target held) m)) k ≡ ended → StepsOn k held ended old new
-    steps ended ends = record { medium = m; tells = tells; moves = moves; ends = ends }
+    steps ended ends = record { medium = m; did = acts; moves = moves; ends = ends }
 
     by : (ended : Bool) → terminates (meets old (stepped k (front Target held) m)) k ≡ ended → StepsBy k held c (stepped_by ended) old new
     by true ends = (idle, steps true ends)
@@ -257,7 +262,7 @@ step_done old new k held c found d e ch begun s turned stream known lasts stands
     let m : Medium = acts.acts.medium in
     let made : turned ≡ with_value old.connections k (acted (world_at old) (contents_at old.disks) m d found c) =
     acts.placed ∙ ap (with_value old.connections k) acts.acts.connection in
-    steps_by old new k held c d s m known lasts here decided acts.acts.tells
+    steps_by old new k held c d s m known lasts here decided (rw stands at acts.acts.did)
     (step_moves old new k held c d e ch begun m stream known lasts here decided ends changes (rw stands at begins) config shown clock
     (rw stands at (connections ∙ ap (map (option_map (settled e (gone_by e old.config (tables_of old))))) made)) (rw stands at streams) rows controllers
     (rw stands at acts.acts.contents)) steps

@@ -19,8 +19,8 @@ use Rattle.target_core.specs.Connection.{ConnectionState}
 use Rattle.target_core.specs.Target.{TargetState, conversation_at}
 use Rattle.target_views.specs.Views.{ShowHistory}
 use Rattle.target_history.specs.Event.{Event, edited, gives_up, opened, opens, stepped, given_up}
-use Rattle.target_history.specs.Happening.{Happening}
-use Rattle.target_history.specs.History.{Opening, blocks_of, clock_of, config_of, controller_of, conversation_of, happened, has_ended, is_known, last_front, pdus_of, row_of, sent}
+use Rattle.target_history.specs.Happening.{DisksAct, Happening}
+use Rattle.target_history.specs.History.{Opening, blocks_of, clock_of, config_of, controller_of, conversation_of, happened, has_ended, is_known, last_front, meets_after, pdus_of, row_of, sent}
 
 -- what was found last, where it is a fault, stands at the front of the bytes that are held
 abbrev pub StandsAt : Front → List ℕ → Type 0
@@ -95,10 +95,14 @@ abbrev pub front_of : Option (List ℕ) → Front
 front_of None = incomplete
 front_of (Some held) = front Target held
 
--- a step with which the disks did this, good exactly where none counts a failure more
+-- A step with which the disks did this, good exactly where none counts a failure: whatever history the old target agrees
+-- with, that is what they may do at this event of it, and what a Flush, or a write with FUA, that is answered with success
+-- was to make last has been synced.
 pub record AgreesAfterStep (k : ℕ) (found : Front) (old new : TargetState) : Type 0 where
   pub medium : Medium
   pub tells : Tells medium old.disks new.disks
+  pub did : (disks : Opening) (events : List Event) (received taken : ℕ → List ℕ) → Agrees old disks events received taken
+      → DisksAct (meets_after disks (happened disks events) (stepped k found medium)) old.disks new.disks
   pub agrees : AgreesAfter (stepped k found medium) old new
 
 abbrev pub AgreesByStep : ℕ → Stepped → TargetState → TargetState → Type 0

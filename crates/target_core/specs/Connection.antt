@@ -2,12 +2,12 @@
 use Rattle.std.specs.Prelude.{◌≡◌, ℕ, Bool, List, [], ◌++◌, if◌then◌else◌}
 use Rattle.block_store.specs.Stored.{Stored}
 use Rattle.io_queue.specs.Act.{Medium}
-use Rattle.io_queue.specs.Execution.{Tells, contents_at, sizes as sizes_of, write_on, written}
+use Rattle.io_queue.specs.Execution.{DisksDid, contents_at, sizes as sizes_of, write_on, written}
 use Rattle.pdu_cut.specs.Front.{Front}
 use Rattle.target_decision.specs.declared.decision.Decision.{Decision}
 use Rattle.target_decision.specs.declared.session.Conversation.{Conversation}
 use Rattle.target_decision.specs.declared.session.Session.TheVariants.{Ended}
-use Rattle.target_decision.specs.Decision.{act_by, sent_by}
+use Rattle.target_decision.specs.Decision.{act_by, bytes_at, operation_of, sent_by}
 use Rattle.target_decision.specs.Session.{opened_on, session_after}
 use Rattle.target_decision.specs.World.{World}
 use Rattle.target_history.specs.declared.ending.Ending.{Ending}
@@ -34,7 +34,7 @@ acted w contents m d front c = record {
 -- what was decided on this front is done to it, with these disks
 pub record Acts (w : World) (d : Decision) (front : Front) (old new : ConnectionState) (disks after : List Stored) : Type 0 where
   pub medium : Medium
-  pub tells : Tells medium disks after
+  pub did : DisksDid (operation_of d) (bytes_at front) medium disks after
   pub connection : new ≡ acted w (contents_at disks) medium d front old
   pub contents : (disk : ℕ) → contents_at after disk ≡ written (write_on disk (act_by d front medium)) (contents_at disks disk)
   pub sizes : sizes_of after ≡ sizes_of disks

@@ -4,7 +4,7 @@ use Rattle.std.specs.Option.{option_map}
 use Rattle.number_table.specs.Table.{place, with_value}
 use Rattle.block_store.specs.Stored.{Stored}
 use Rattle.io_queue.specs.Act.{Medium}
-use Rattle.io_queue.specs.Execution.{Tells, contents_at, write_on, written}
+use Rattle.io_queue.specs.Execution.{contents_at, write_on, written}
 use Rattle.pdu_cut.specs.declared.side.Side.TheVariants.{Target}
 use Rattle.pdu_cut.specs.Front.{Front, front}
 use Rattle.target_core.specs.declared.fault.StepFault.{StepFault}
@@ -18,7 +18,7 @@ use Rattle.target_decision.specs.declared.decision.Decision.{Decision}
 use Rattle.target_decision.specs.Decision.{consumed_of}
 use Rattle.target_decision.specs.World.{World}
 use Rattle.target_history.specs.Event.{Event, edited, front_in, gives_up, opened, opens, port_in, steps, stepped, given_up, ticked}
-use Rattle.target_history.specs.Happening.{Happening, acts, clock_after, config_after, controller_after, conversation_moved, row_after, sends, terminates}
+use Rattle.target_history.specs.Happening.{DisksAct, Happening, acts, clock_after, config_after, controller_after, conversation_moved, row_after, sends, terminates}
 
 abbrev pub connection_moved : Happening → ℕ → ConnectionState → ConnectionState
 connection_moved x k c = record { conversation = conversation_moved x k c.conversation; output = c.output ++ sends x k }
@@ -87,10 +87,10 @@ abbrev pub stepped_by : Bool → Stepped
 stepped_by ended = if ended then Ended else One
 
 -- a step that consumed what stands at the front of these bytes, and whether it ended the connection: what the disks
--- did is good exactly where none counts a failure more
+-- did is good exactly where none counts a failure, and what they may do at its event
 pub record StepsOn (k : ℕ) (held : List ℕ) (ended : Bool) (old new : TargetState) : Type 0 where
   pub medium : Medium
-  pub tells : Tells medium old.disks new.disks
+  pub did : DisksAct (meets old (stepped k (front Target held) medium)) old.disks new.disks
   pub moves : Moves (stepped k (front Target held) medium) old new
   pub ends : terminates (meets old (stepped k (front Target held) medium)) k ≡ ended
 

@@ -1,8 +1,8 @@
 -- A reply whose operation is performed does what its decision says.
-use Rattle.std.proofs.Common.{◌≡◌, ℕ, List, ◌++◌, Option, append_assoc, ap, ◌∙◌}
+use Rattle.std.proofs.Common.{◌≡◌, ℕ, List, ◌++◌, Option, append_assoc, ap, subst, ◌∙◌}
 use Rattle.block_store.specs.Stored.{Stored}
 use Rattle.io_queue.specs.declared.operation.Operation.{Operation}
-use Rattle.io_queue.specs.Execution.{Performs, contents_at, returned}
+use Rattle.io_queue.specs.Execution.{Performs, SyncsIn, contents_at, returned}
 use Rattle.io_queue.specs.Operation.{disk_of}
 use Rattle.io_queue.specs.Reply.{data_pdu}
 use Rattle.nvt_fields.specs.declared.status.Status.{Status}
@@ -15,14 +15,17 @@ use Rattle.target_decision.specs.Decision.{bytes_at, response_of}
 
 pub operation_done : (r : Reply) (op : Operation) (front : Front) (payload : Option (List ℕ)) (old new : List Stored) (output mid appended : List ℕ)
     (status : Status) → r.answer ≡ answer.Performed op → Performs op (bytes_at front) r.cid old new output mid status
-    → appended ≡ mid ++ response_of r status 0 → Does (decision.Reply r) front payload old new output appended
-operation_done r op front payload old new output mid appended status is h sends = record {
+    → SyncsIn op new status → appended ≡ mid ++ response_of r status 0 → Does (decision.Reply r) front payload old new output appended
+operation_done r op front payload old new output mid appended status is h lasts sends = record {
   medium = h.medium;
-  tells = h.tells;
+  did = rw is (record { tells = h.tells; meets = h.meets; lasts = subst lasting h.answer lasts });
   sends = rw is (sends ∙ ap (λ s. s ++ response_of r status 0) h.sends ∙ append_assoc output shown (response_of r status 0)
       ∙ ap (λ s. output ++ (shown ++ response_of r s 0)) h.answer);
   contents = rw is h.contents;
   sizes = h.sizes;
 } where
+  lasting : Status → Type 0
+  lasting s = SyncsIn op new s
+
   shown : List ℕ
   shown = data_pdu r.cid (returned op (contents_at old (disk_of op)) h.medium)

@@ -64,7 +64,7 @@ AdmitsBy row role port change.Stay = Unit {0}
 AdmitsBy row role port (change.Configure s) = Unit {0}
 AdmitsBy row role port (change.KeepAlive c) = Unit {0}
 
-abbrev AdmitsIn : (ℕ → Option Row) → Option Role → ℕ → Outcome → Type 0
+abbrev pub AdmitsIn : (ℕ → Option Row) → Option Role → ℕ → Outcome → Type 0
 AdmitsIn row role port (Ok success) = AdmitsBy row role port success.change
 AdmitsIn row role port (Err refusal) = Unit {0}
 
@@ -161,7 +161,7 @@ io_admits : (row : ℕ → Option Row) (role : Option Role) (port : ℕ) (o : Op
 io_admits row role port None w entry brings = tt
 io_admits row role port (Some r) w entry brings = search (either_admits, io_of_admits)
 
-queue_admits : (row : ℕ → Option Row) (now : Option Role) (port : ℕ) (w : World) (role : Role) (entry bytes : List ℕ)
+pub queue_admits : (row : ℕ → Option Row) (now : Option Role) (port : ℕ) (w : World) (role : Role) (entry bytes : List ℕ)
     → AdmitsIn row now port (queue_command w role entry bytes)
 queue_admits row now port w (Admin cntlid) entry bytes = search (either_admits, fabrics_admits, admin_admits)
 queue_admits row now port w (Io cntlid qid) entry bytes = search (either_admits, io_admits)

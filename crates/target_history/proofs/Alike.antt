@@ -33,9 +33,9 @@ use Rattle.target_decision.specs.Outcome.{Outcome, refuse, refused}
 use Rattle.target_decision.specs.Session.{is_ended}
 use Rattle.target_decision.specs.World.{World, admin_controller}
 use Rattle.target_history.specs.Event.{Event, front_in, gives_up, medium_in, opens, steps}
-use Rattle.target_history.specs.Happening.{Happening, decided_on, sends, sends_on}
+use Rattle.target_history.specs.Happening.{Happening, decided_on, operation_decided, sends, sends_on}
 use Rattle.target_history.specs.History.{sent}
-use Rattle.target_history.specs.Laws.{AdminAlike, AreSeenAlike, AreToldAlike, ConnectAlike, DiskAlike, HappenedAlike, IoAlike, IoSeen, RoleAlike, SameFor, SentByOwnAlone, SessionAlike, SubsystemAlike, WorldAlike, io_seen, is_command, is_of, operation_decided, own}
+use Rattle.target_history.specs.Laws.{AdminAlike, AreSeenAlike, AreToldAlike, ConnectAlike, DiskAlike, HappenedAlike, IoAlike, IoSeen, RoleAlike, SameFor, SentByOwnAlone, SessionAlike, SubsystemAlike, WorldAlike, io_seen, is_command, is_of, own}
 
 -- ---- a Connect
 

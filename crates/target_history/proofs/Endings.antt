@@ -1,10 +1,11 @@
 -- What ends connections and controllers: resets, edits and the clock.
 use Rattle.std.proofs.Common.{◌≡◌, ◌⊎◌, ℕ, Bool, true, false, List, [], ◌∷◌, Option, Some, None, refl, sym, ap, ◌∙◌, inl, inr}
-use Rattle.std.specs.Prelude.{if◌then◌else◌}
+use Rattle.std.specs.Prelude.{if◌then◌else◌, ◌==◌, ◌||◌}
 use Rattle.config_edits.specs.declared.edit.Edit.{Edit}
 use Rattle.config_edits.specs.declared.edit.Edit.TheVariants.{PortDel}
 use Rattle.config_rules.specs.Configuration.{Configuration}
 use Rattle.fabrics_connect.specs.declared.row.Row.{Row}
+use Rattle.fabrics_connect.specs.Permitted.{is_permitted, may_use_named}
 use Rattle.pdu_cut.specs.Front.{Front}
 use Rattle.property_regs.specs.declared.regs.Change.TheVariants as effect
 use Rattle.target_decision.specs.declared.controller.Controller.{Controller}
@@ -25,10 +26,10 @@ use Rattle.target_history.specs.Ending.{ending_changed, ending_edited, ending_lo
 use Rattle.target_history.specs.Event.{Event, edited, front_in, opened, stepped, steps, given_up, ticked}
 use Rattle.target_history.specs.Happening.{Happening, change_decided, change_of, decided, decided_on, decision_of, ending_by, ending_given_up, ending_of, ending_taken, ends_live, is_end_decided, row_kept, stepping}
 use Rattle.target_history.specs.History.{Opening, beats_by, clock_of, config_of, controller_of, conversation_of, happened, mark_of, meets_after, row_of}
-use Rattle.target_history.specs.Laws.{EditsEndControllers, NothingExpiresWithoutTicks, PermittedOutliveEdits, ResetsEndTheirQueuesAlone, StaysPermitted, deletes, has_ticks, is_deletion, is_io_queue_of, is_permitted, is_queue_of, is_role_of, is_tick, may_use_named}
+use Rattle.target_history.specs.Laws.{EditsEndControllers, NothingExpiresWithoutTicks, PermittedOutliveEdits, ResetsEndTheirQueuesAlone, StaysPermitted, deletes, has_ticks, is_io_queue_of, is_queue_of, is_role_of, is_tick}
 use Rattle.target_history.proofs.Lives.{controller_step, row_step}
 use Rattle.target_history.proofs.Steps.{conversation_step}
-use Rattle.target_history.proofs.Tests.{neither, same_number}
+use Rattle.target_history.proofs.Tests.{either_false, neither, other_true, same_number}
 
 -- ---- the connection that an event steps
 
@@ -124,7 +125,11 @@ row_outlives : (edit : Edit) (config : Configuration) (c : ℕ) (row : Row) → 
 row_outlives edit config c row port permitted =
     elim (edit_is edit) [
       | inl other ↦ rw other (not_barred config row.host row.subsystem row.port permitted)
-      | inr (id, is) ↦ ap (λ (e : Edit). ends_row (ending_edited e) config c row) is ∙ ap (λ (e : Edit). deletes e row.port) (sym is) ∙ port
+      | inr (id, is) ↦
+          let stays : (id == row.port) ≡ false = ap (λ (e : Edit). deletes e row.port) (sym is) ∙ port in
+          ap (λ (e : Edit). ends_row (ending_edited e) config c row) is
+          ∙ either_false (id == row.port) (is_barred config row.host row.subsystem row.port) stays
+          (not_barred config row.host row.subsystem row.port permitted)
     ]
 
 no_timer : (edit : Edit) (o : Option Controller) → ends_timer (ending_edited edit) o ≡ false
@@ -197,7 +202,7 @@ permitted_outlive_edits = record {
 }
 
 deleted_ends : (edit : Edit) (config : Configuration) (c : ℕ) (row : Row) → deletes edit row.port ≡ true → ends_row (ending_edited edit) config c row ≡ true
-deleted_ends (PortDel id) config c row h = h
+deleted_ends (PortDel id) config c row h = ap (λ (b : Bool). b || is_barred config row.host row.subsystem row.port) h
 deleted_ends _ config c row h = cc
 
 barred_is : (config : Configuration) (host : List ℕ) (subsystem : Option (List ℕ)) (port : ℕ) → may_use_named config host subsystem port ≡ false
@@ -205,10 +210,11 @@ barred_is : (config : Configuration) (host : List ℕ) (subsystem : Option (List
 barred_is config host None port h = cc
 barred_is config host (Some nqn) port h = rw h refl
 
-barred_ends : (edit : Edit) (config : Configuration) (c : ℕ) (row : Row) → is_deletion edit ≡ false → is_permitted config row ≡ false
+barred_ends : (edit : Edit) (config : Configuration) (c : ℕ) (row : Row) → is_permitted config row ≡ false
     → ends_row (ending_edited edit) config c row ≡ true
-barred_ends (PortDel id) config c row other h = cc
-barred_ends _ config c row other h = barred_is config row.host row.subsystem row.port h
+barred_ends (PortDel id) config c row h =
+    other_true (id == row.port) (is_barred config row.host row.subsystem row.port) (barred_is config row.host row.subsystem row.port h)
+barred_ends _ config c row h = barred_is config row.host row.subsystem row.port h
 
 -- a controller whose row an edit ends is gone
 edit_ends : (disks : Opening) (events : List Event) (edit : Edit) (c : ℕ) (row : Row) → row_of (happened disks events) c ≡ Some row
@@ -221,7 +227,7 @@ edit_ends disks events edit c row lives h =
 pub edits_end_controllers : EditsEndControllers
 edits_end_controllers = record {
   deleted = λ disks events edit c row lives h. edit_ends disks events edit c row lives (deleted_ends edit _ c row h);
-  barred = λ disks events edit c row lives other h. edit_ends disks events edit c row lives (barred_ends edit _ c row other h);
+  barred = λ disks events edit c row lives h. edit_ends disks events edit c row lives (barred_ends edit _ c row h);
 }
 
 -- ---- without ticks

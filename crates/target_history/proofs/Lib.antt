@@ -1,13 +1,17 @@
 pub mod Admissions
 pub mod Alike
+pub mod Begun
 pub mod Blocks
 pub mod Counting
 pub mod Endings
 pub mod Heads
 pub mod Histories
 pub mod Holding
+pub mod Identifiers
 pub mod Lives
+pub mod Permissions
 pub mod Roles
 pub mod Serving
 pub mod Steps
+pub mod Terminations
 pub mod Tests

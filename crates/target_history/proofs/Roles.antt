@@ -318,7 +318,7 @@ remains_is x k role is opening leaving port kept = by (x.conversation k) is port
 
 -- ---- what comes of a Connect
 
-none_gone : (gone : ℕ → Bool) (s : Session) → ((c : ℕ) → gone c ≡ false) → ends_session ending.Nothing gone s ≡ false
+pub none_gone : (gone : ℕ → Bool) (s : Session) → ((c : ℕ) → gone c ≡ false) → ends_session ending.Nothing gone s ≡ false
 none_gone gone Opened lives = refl
 none_gone gone Initialized lives = refl
 none_gone gone (Connected (Admin c) queue) lives = lives c

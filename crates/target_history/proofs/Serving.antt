@@ -20,7 +20,7 @@ use Rattle.target_decision.specs.declared.session.Session.TheVariants.{Opened, I
 use Rattle.target_decision.specs.World.{World}
 use Rattle.target_history.specs.declared.ending.Ending.{Ending}
 use Rattle.target_history.specs.declared.ending.Ending.TheVariants as ending
-use Rattle.target_history.specs.Ending.{ends_role, ends_row_at, ends_timer, is_on_port, resets}
+use Rattle.target_history.specs.Ending.{ends_role, ends_row_at, ends_timer, is_barred, is_on_port, resets}
 use Rattle.target_history.specs.Event.{Event, edited, opened, opens, stepped, given_up, ticked}
 use Rattle.target_history.specs.Happening.{Happening, Start, begins, begins_by, change_of, config_after, conversation_after, ending_of, ends_live, port_at, started}
 use Rattle.target_history.specs.History.{Opening, config_of, controller_of, conversation_of, drops_by, happened, has_queue, is_known, joins_by, meets_after, registers_of, row_of, row_with, start_of, start_or}
@@ -100,7 +100,8 @@ event_makes (stepped n front m) w conversation clock blocks role made =
 port_stays : (e : Ending) (config : Configuration) (registers : Regs) (queue : ℕ → Bool) (c port : ℕ) (o : Option Start)
     → IsSomeAnd o (λ s. s.row.port ≡ port) → ends_row_at e config c (option_map (row_with registers queue) o) ≡ false → is_on_port e port ≡ false
 port_stays e config registers queue c port None there h = absurd there
-port_stays (ending.Port id) config registers queue c port (Some s) there h = ap (λ (p : ℕ). id == p) (sym there) ∙ h
+port_stays (ending.Port id) config registers queue c port (Some s) there h =
+    ap (λ (p : ℕ). id == p) (sym there) ∙ (neither (id == s.row.port) (is_barred config s.row.host s.row.subsystem s.row.port) h).0
 port_stays ending.Nothing config registers queue c port (Some s) there h = refl
 port_stays ending.Permission config registers queue c port (Some s) there h = refl
 port_stays (ending.Controller d) config registers queue c port (Some s) there h = refl

@@ -34,6 +34,10 @@ pub either_true : (a b : Bool) → a ≡ true → (a || b) ≡ true
 either_true true b h = refl
 either_true false b h = cc
 
+pub other_true : (a b : Bool) → b ≡ true → (a || b) ≡ true
+other_true true b h = refl
+other_true false b h = h
+
 pub or_false_is : (b : Bool) → (b || false) ≡ true → b ≡ true
 or_false_is true h = refl
 or_false_is false h = cc

@@ -22,7 +22,7 @@ use Rattle.target_history.specs.declared.ending.Ending.TheVariants as ending
 
 -- ---- the causes
 
--- an edit that deletes a port, and any other, which may take permissions away
+-- an edit that deletes a port, and any other; each may take permissions away
 abbrev pub ending_edited : Edit → Ending
 ending_edited (PortDel id) = ending.Port id
 ending_edited _ = ending.Permission
@@ -71,7 +71,7 @@ is_barred config host None port = false
 is_barred config host (Some nqn) port = not (may_use config host nqn port)
 
 abbrev pub ends_row : Ending → Configuration → ℕ → Row → Bool
-ends_row (ending.Port id) config cntlid row = id == row.port
+ends_row (ending.Port id) config cntlid row = (id == row.port) || is_barred config row.host row.subsystem row.port
 ends_row ending.Permission config cntlid row = is_barred config row.host row.subsystem row.port
 ends_row (ending.Controller ended) config cntlid row = cntlid == ended
 ends_row ending.Nothing config cntlid row = false

@@ -4,10 +4,12 @@ use Rattle.std.specs.Option.{option_map}
 use Rattle.config_edits.specs.declared.fault.EditFault.{EditFault}
 use Rattle.config_rules.specs.Accept.{accept}
 use Rattle.config_rules.specs.Configuration.{Configuration}
+use Rattle.block_store.specs.Stored.{Stored}
 use Rattle.fabrics_connect.specs.declared.row.Row.{Row}
 use Rattle.fabrics_connect.specs.Row.{joined, left, left_all, row_begun, with_ready}
 use Rattle.io_queue.specs.Act.{Medium}
-use Rattle.io_queue.specs.Execution.{Act}
+use Rattle.io_queue.specs.declared.operation.Operation.{Operation}
+use Rattle.io_queue.specs.Execution.{Act, DisksDid}
 use Rattle.pdu_cut.specs.Front.{Front}
 use Rattle.property_regs.specs.Regs.{is_ready, regs_after}
 use Rattle.target_decision.specs.declared.controller.Controller.{Controller}
@@ -22,7 +24,7 @@ use Rattle.target_decision.specs.declared.session.Session.{Session}
 use Rattle.target_decision.specs.declared.session.Session.TheVariants.{Ended}
 use Rattle.target_decision.specs.Begin.{bytes_at, entry_at, row_by}
 use Rattle.target_decision.specs.Controller.{new_controller, with_property, with_timer}
-use Rattle.target_decision.specs.Decision.{act_by, decide, is_end, sent_by}
+use Rattle.target_decision.specs.Decision.{act_by, decide, is_end, operation_of, sent_by}
 use Rattle.target_decision.specs.Session.{is_ended, opened_on, session_after}
 use Rattle.target_decision.specs.World.{World}
 use Rattle.target_history.specs.declared.ending.Ending.{Ending}
@@ -173,7 +175,19 @@ sends_on w blocks m (Some v) (Some d) front = sent_by w blocks m v.session d fro
 abbrev pub sends : Happening → ℕ → List ℕ
 sends x k = sends_on x.world x.blocks (medium_in x.event) (x.conversation k) (decided x k) (front_in x.event)
 
--- ---- what it writes
+-- ---- what it asks of a disk, and writes
+
+abbrev pub operation_decided : Option Decision → Option Operation
+operation_decided None = None
+operation_decided (Some d) = operation_of d
+
+-- the operation that it performs, where it performs one
+abbrev pub operation_asked : Happening → Option Operation
+operation_asked x = operation_decided (decision_of x)
+
+-- the disks did what the event says, and that is what they may do at it
+abbrev pub DisksAct : Happening → List Stored → List Stored → Type 0
+DisksAct x old new = DisksDid (operation_asked x) (bytes_at (front_in x.event)) (medium_in x.event) old new
 
 abbrev pub act_decided : Option Decision → Front → Medium → Option Act
 act_decided None front m = None

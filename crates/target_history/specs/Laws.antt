@@ -10,6 +10,7 @@ use Rattle.fabrics_connect.specs.declared.row.Row.{Row}
 use Rattle.fabrics_connect.specs.Command.{Parameters, parameters_of}
 use Rattle.fabrics_connect.specs.Connect.{is_served}
 use Rattle.fabrics_connect.specs.Controllers.{free_cntlid}
+use Rattle.fabrics_connect.specs.Permitted.{is_permitted}
 use Rattle.fabrics_connect.specs.Row.{has_queue as has_qid}
 use Rattle.io_queue.specs.declared.operation.Operation.{Operation}
 use Rattle.io_queue.specs.Laws.{SeenAlike}
@@ -33,11 +34,10 @@ use Rattle.target_decision.specs.declared.session.Session.TheVariants.{Opened, I
 use Rattle.target_decision.specs.Begin.{bytes_at, entry_at}
 use Rattle.target_decision.specs.Capsule.{connect_type, fabrics_opcode, is_ready_at}
 use Rattle.target_decision.specs.Controller.{registers_at}
-use Rattle.target_decision.specs.Decision.{operation_of}
 use Rattle.target_decision.specs.World.{World, admin_controller}
 use Rattle.target_history.specs.Ending.{ends_timer}
 use Rattle.target_history.specs.Event.{Event, edited, front_in, gives_up, opened, opens, steps, stepped, given_up, ticked}
-use Rattle.target_history.specs.Happening.{Happening, change_of, decided, ending_of, ends, ends_live, responses}
+use Rattle.target_history.specs.Happening.{Happening, change_of, decided, ending_of, ends, ends_live, operation_decided, responses}
 use Rattle.target_history.specs.History.{Admission, active_of, Opening, admission_of, clock_of, config_of, controller_of, conversation_of, happened, has_ended, is_known, is_live, mark_of, meets_after, page_of, port_of, responses_since, row_of, sent}
 
 -- ---- what connections are sent
@@ -183,10 +183,6 @@ abbrev pub DiskAlike : Option Operation → (ℕ → List (List ℕ)) → (ℕ �
 DiskAlike None b c = Unit {0}
 DiskAlike (Some op) b c = b (disk_of op) ≡ c (disk_of op)
 
-abbrev pub operation_decided : Option Decision → Option Operation
-operation_decided None = None
-operation_decided (Some d) = operation_of d
-
 -- the same event twice, which met connection k as the same, and where it is its step in worlds that showed it
 -- the same, with the same blocks on the disk of its operation
 pub record SameFor (k : ℕ) (x y : Happening) : Type 0 where
@@ -232,15 +228,6 @@ abbrev pub deletes : Edit → ℕ → Bool
 deletes (PortDel id) port = id == port
 deletes _ port = false
 
--- whether the host of a controller may use its subsystem through its port; any host may use a discovery
--- controller
-abbrev pub may_use_named : Configuration → List ℕ → Option (List ℕ) → ℕ → Bool
-may_use_named config host None port = true
-may_use_named config host (Some nqn) port = may_use config host nqn port
-
-abbrev pub is_permitted : Configuration → Row → Bool
-is_permitted config row = may_use_named config row.host row.subsystem row.port
-
 -- whether a connection is a queue of this controller
 abbrev pub is_role_of : ℕ → Role → Bool
 is_role_of c (Admin cntlid) = c == cntlid
@@ -269,18 +256,19 @@ pub record PermittedOutliveEdits : Type 0 where
       → is_queue_of c v.session ≡ true → deletes edit v.port ≡ false
       → conversation_of (happened disks (edited edit ∷ events)) k ≡ Some v
 
-abbrev pub is_deletion : Edit → Bool
-is_deletion (PortDel id) = true
-is_deletion _ = false
-
--- an edit that deletes the port of a controller ends it, and so does another after which its host may not use
--- its subsystem through its port
+-- an edit that deletes the port of a controller ends it, and so does any edit after which its host may not use its
+-- subsystem through its port
 pub record EditsEndControllers : Type 0 where
   pub deleted : (disks : Opening) (events : List Event) (edit : Edit) (c : ℕ) (row : Row) → row_of (happened disks events) c ≡ Some row
       → deletes edit row.port ≡ true → row_of (happened disks (edited edit ∷ events)) c ≡ None
   pub barred : (disks : Opening) (events : List Event) (edit : Edit) (c : ℕ) (row : Row) → row_of (happened disks events) c ≡ Some row
-      → is_deletion edit ≡ false → is_permitted (config_of disks (happened disks (edited edit ∷ events))) row ≡ false
+      → is_permitted (config_of disks (happened disks (edited edit ∷ events))) row ≡ false
       → row_of (happened disks (edited edit ∷ events)) c ≡ None
+
+-- the host of each controller that lives may use its subsystem through its port, whatever edits took away
+pub record LiveArePermitted : Type 0 where
+  pub permitted : (disks : Opening) (events : List Event) (c : ℕ) (row : Row) → row_of (happened disks events) c ≡ Some row
+      → is_permitted (config_of disks (happened disks events)) row ≡ true
 
 abbrev pub is_tick : Event → Bool
 is_tick (ticked now) = true

@@ -14,9 +14,10 @@ use target_decision::{Change, Controller, Conversation, Decision, Role, Session}
 #[derive(Clone, Copy)]
 pub enum Ending {
     Nothing,
-    /// The port of this number is deleted: the connections on it end, and the controllers on it.
+    /// An edit that deletes the port of this number: the connections and the controllers on it end, and
+    /// each I/O controller whose host may no longer use its subsystem on its port.
     Port(u64),
-    /// An edit: each I/O controller ends whose host may no longer use its subsystem on its port.
+    /// Another edit: each I/O controller ends whose host may no longer use its subsystem on its port.
     Permission,
     /// The admin connection of this controller is ended or given up: the controller ends.
     Controller(u16),
@@ -102,7 +103,7 @@ impl Ending {
         ensures { result ≡ ends_row self.now config.now cntlid row.now }
     {
         match self {
-            Ending::Port(id) => *id == u64::from(row.port),
+            Ending::Port(id) => *id == u64::from(row.port) || is_barred(config, row),
             Ending::Permission => is_barred(config, row),
             Ending::Controller(ended) => cntlid == *ended,
             Ending::Nothing | Ending::Queue { .. } | Ending::Reset(_) | Ending::Clock(_) => false,

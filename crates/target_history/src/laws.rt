@@ -2,7 +2,7 @@
 //! contract is the law, for whatever events there are.
 ghost use Rattle.target_history.specs.Laws.{ControllersLiveByTheirAdmins, DeletedPortsEnd};
 ghost use Rattle.target_history.specs.Laws.{EditsEndControllers, EndedAreSentNothing};
-ghost use Rattle.target_history.specs.Laws.{HeadsCountResponses};
+ghost use Rattle.target_history.specs.Laws.{HeadsCountResponses, LiveArePermitted};
 ghost use Rattle.target_history.specs.Laws.{NothingExpiresWithoutTicks, PagesChangeByEdits};
 ghost use Rattle.target_history.specs.Laws.{PermittedOutliveEdits, QueueIdsAreOfConnections};
 ghost use Rattle.target_history.specs.Laws.{QueuesAreOfOneConnection, QueuesAreOnTheirPort};
@@ -59,11 +59,17 @@ pub fn permitted_outlive_edits()
     ensures { PermittedOutliveEdits }
 {}
 
-/// An edit that deletes the port of a controller ends it, and so does another after which its host
+/// An edit that deletes the port of a controller ends it, and so does any edit after which its host
 /// may not use its subsystem.
 #[tactic(auto, using(crate::proofs::Endings::edits_end_controllers))]
 pub fn edits_end_controllers()
     ensures { EditsEndControllers }
+{}
+
+/// The host of each controller that lives may use its subsystem on its port.
+#[tactic(auto, using(crate::proofs::Permissions::live_are_permitted))]
+pub fn live_are_permitted()
+    ensures { LiveArePermitted }
 {}
 
 /// Where the clock is never set, no controller ends by its Keep Alive Timer.

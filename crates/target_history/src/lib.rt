@@ -5,5 +5,6 @@
 
 mod ending;
 pub mod laws;
+pub mod own_laws;
 
 pub use ending::Ending;

@@ -19,6 +19,7 @@ pub enum Script {
     RecordsCounted,
     RecordTold,
     OutputWaits,
+    AllWait,
 }
 
 /// Whether all that a script expects of a target holds.
@@ -75,6 +76,7 @@ impl Driver {
             Script::RecordsCounted => pages::counts_each_change(self),
             Script::RecordTold => pages::tells_a_record(self),
             Script::OutputWaits => waiting::goes_on(self),
+            Script::AllWait => waiting::waits_on_all(self),
         }
     }
 
@@ -83,6 +85,11 @@ impl Driver {
             Ok(edit) => self.failed |= self.target.edit(&edit).is_err(),
             Err(_) => self.failed = true,
         }
+    }
+
+    /// Opens a connection, which gets this number.
+    pub fn open(&mut self, k: usize) {
+        self.failed |= self.target.open(1) != Ok(k);
     }
 
     /// Brings a whole PDU, and takes it.

@@ -59,3 +59,39 @@ pub fn log_part(alloc: Global, cid: u8, offset: u16, dwords: u16) -> Result<Vec<
 pub fn log_read(alloc: Global, cid: u8, offset: u16) -> Result<Vec<u8>, AllocError> {
     log_part(alloc, cid, offset, 256)
 }
+
+/// A Connect of CID 1 to subsystem A, with SQSIZE 31: an admin queue of a new controller, or an I/O
+/// queue of this one.
+pub fn connect_to(alloc: Global, qid: u8, cntlid: u16) -> Result<Vec<u8>, AllocError> {
+    let mut entry = [0u8; 64];
+    entry[..5].copy_from_slice(&[0x7F, 0x40, 1, 0, 1]);
+    entry[33] = 4;
+    entry[39] = 1;
+    entry[42] = qid;
+    entry[44] = 31;
+    let mut data = [0u8; 1024];
+    data[16..18].copy_from_slice(&cntlid.to_le_bytes());
+    data[256..274].copy_from_slice(A);
+    data[512..531].copy_from_slice(H1);
+    capsule(alloc, &entry, &data)
+}
+
+/// An Identify of the controller.
+pub fn identify(alloc: Global, cid: u8) -> Result<Vec<u8>, AllocError> {
+    let mut entry = [0u8; 64];
+    entry[..3].copy_from_slice(&[6, 0x40, cid]);
+    entry[33] = 0x10;
+    entry[39] = 0x5A;
+    entry[40] = 1;
+    capsule(alloc, &entry, &[])
+}
+
+/// A Read of the first 64 blocks of namespace 1.
+pub fn read(alloc: Global, cid: u8) -> Result<Vec<u8>, AllocError> {
+    let mut entry = [0u8; 64];
+    entry[..5].copy_from_slice(&[2, 0x40, cid, 0, 1]);
+    entry[33] = 0x80;
+    entry[39] = 0x5A;
+    entry[48] = 63;
+    capsule(alloc, &entry, &[])
+}

@@ -12,7 +12,10 @@ const TOO_LARGE: &[u64] = &[(1 << 40) + 1];
 
 // What the replay of two faulty lines comes to, and whether nothing is written.
 fn judged(alloc: Global, units: &[u64]) -> (Result<(), ReplayFault>, bool) {
-    let mut out = Narrow { left: 100 };
+    let mut out = Narrow {
+        left: 100,
+        has_failed: false,
+    };
     let outcome = replay(alloc, b"port", b"x", units, &mut out);
     (outcome, out.left == 100)
 }
@@ -36,15 +39,17 @@ fn the_fault_of_disks_has_a_text(rt: HostRuntime) -> Result<(), Fail> {
     Ok(())
 }
 
-// A writer that takes this many more bytes.
+// A writer that takes this many more bytes, and knows whether it was asked for one more.
 #[derive(Drop)]
 struct Narrow {
     left: usize,
+    has_failed: bool,
 }
 
 impl Write for Narrow {
     fn write(&mut self, buf: &[u8]) -> io::Result<usize> {
         if self.left == 0 && !buf.is_empty() {
+            self.has_failed = true;
             return Err(io::Error::from(io::ErrorKind::BrokenPipe));
         }
         let len = buf.len().min(self.left);
@@ -57,23 +62,28 @@ impl Write for Narrow {
     }
 }
 
-fn outcome(alloc: Global, left: usize) -> Result<(), ReplayFault> {
-    let mut out = Narrow { left };
-    replay(
+// What a replay comes to, and whether a write failed.
+fn outcome(alloc: Global, left: usize) -> (Result<(), ReplayFault>, bool) {
+    let mut out = Narrow {
+        left,
+        has_failed: false,
+    };
+    let outcome = replay(
         alloc,
         PORT,
         b"open 1\nend 0\nopen 1\nend 0\n",
         UNITS,
         &mut out,
-    )
+    );
+    (outcome, out.has_failed)
 }
 
 // Two lines of seven bytes are printed.
 #[test]
 fn a_write_that_fails_ends_the_replay(rt: HostRuntime) {
     for left in 0..14 {
-        assert!(rt; outcome(rt.alloc(), left) == Err(ReplayFault::Io));
+        assert!(rt; outcome(rt.alloc(), left) == (Err(ReplayFault::Io), true));
     }
-    assert!(rt; outcome(rt.alloc(), 14).is_ok());
-    assert!(rt; outcome(rt.alloc(), 15).is_ok());
+    assert!(rt; outcome(rt.alloc(), 14) == (Ok(()), false));
+    assert!(rt; outcome(rt.alloc(), 15) == (Ok(()), false));
 }

@@ -1,6 +1,7 @@
 use Rattle.std.proofs.Common.{All}
 use Rattle.std.proofs.lemmas.Result.{on_ok_weaker}
 use Rattle.line_words.specs.Lines.{lines_of}
+use Rattle.nvt_replay.proofs.Faulting.{edits_before, script_before}
 use Rattle.nvt_replay.specs.Played.{PlaysAll, Prints}
 use Rattle.replay_lines.specs.StreamLine.{IsStreamLine}
 use Rattle.nvt_replay.proofs.playback.replay.Goals as goal
@@ -18,3 +19,12 @@ returns-in-Ok-clause-played g c =
     on_ok_weaker
     {P = Prints (g.W.Write.contents c.args.out.now) (g.W.Write.contents c.run.new.out) (λ text. PlaysAll (lines_of c.args.stream.now) first text last)}
     c.run.result (λ printed. (printed.0, printed.1, (first, last, c.in-Ok.ensures.configured, printed.2))) c.run.ensures.played
+
+pub returns-in-Ok-clause-before : goal.returns-in-Ok-clause-before
+returns-in-Ok-clause-before g c =
+    script_before c.run.result c.args.edits.now c.args.stream.now c.args.units.now c.in-Ok.playback.connections
+    (g.W.Write.contents c.args.out.now) (g.W.Write.contents c.run.new.out) c.in-Ok.ensures.configured c.run.ensures.before
+
+pub returns-in-Err-clause-before : goal.returns-in-Err-clause-before
+returns-in-Err-clause-before g c =
+    edits_before c.in-Err.fault c.args.edits.now c.args.stream.now c.args.units.now (g.W.Write.contents c.args.out.now) c.in-Err.ensures.fault

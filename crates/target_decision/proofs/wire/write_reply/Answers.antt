@@ -8,4 +8,5 @@ returns-in-Performed g c =
     operation_done c.args.reply.now c.in-Performed.operation (front_shown c.args.front.now) (bytes_in c.args.returned.now)
     c.args.stores.now c.perform-status.new.stores c.args.output.now.items c.perform-status.new.output.items
     c.write_response-in-Performed.new.output.items c.perform-status.result c.in-Performed.is
-    (rw c.bytes_at.ensures at c.perform-status.ensures.performs) c.write_response-in-Performed.ensures
+    (rw c.bytes_at.ensures at c.perform-status.ensures.performs) c.perform-status.ensures.synced
+    c.write_response-in-Performed.ensures

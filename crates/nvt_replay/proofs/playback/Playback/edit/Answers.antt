@@ -1,3 +1,5 @@
+use Rattle.std.proofs.lemmas.Result.{err_from_is_err_and}
+use Rattle.nvt_replay.proofs.Cutting.{editing_cut, refusing_cut, replying_cut}
 use Rattle.nvt_replay.proofs.Replying.{made_and_settled, refused_and_told}
 use Rattle.nvt_replay.proofs.playback.Playback.edit.Goals as goal
 
@@ -12,3 +14,21 @@ returns-in-Err-Refused-clause-played g c =
     refused_and_told c.refused_edit.result c.args.line.now c.args.self.now.connections c.edit.new.self c.in-Err-Refused.reply
     (g.W.Write.contents c.args.out.now) (g.W.Write.contents c.refused_edit.new.out)
     (rw c.in-Err-Refused.field-0-is at c.in-Err-Refused.ensures.refused) c.in-Err-Refused.ensures.err c.refused_edit.ensures.printed
+
+pub returns-in_err-edit_made-in-Ok-clause-begun : goal.returns-in_err-edit_made-in-Ok-clause-begun
+returns-in_err-edit_made-in-Ok-clause-begun g c =
+    let p = err_from_is_err_and c.from_residual.result c.from_residual.ensures.1 in
+    rw p.1 (replying_cut c.args.line.now c.args.self.now.connections c.edit.new.self
+    (g.W.Write.contents c.args.out.now) (g.W.Write.contents c.edit_made.new.out) c.in-Ok.ensures.made c.in_err-edit_made-in-Ok.ensures.begun)
+
+pub returns-in_ok-edit_made-in-Ok-clause-begun : goal.returns-in_ok-edit_made-in-Ok-clause-begun
+returns-in_ok-edit_made-in-Ok-clause-begun g c =
+    editing_cut c.settle.result c.args.line.now c.args.self.now.connections c.edit.new.self c.settle.new.connections
+    (g.W.Write.contents c.args.out.now) (g.W.Write.contents c.edit_made.new.out) (g.W.Write.contents c.settle.new.out)
+    c.in-Ok.ensures.made c.in_ok-edit_made-in-Ok.ensures.printed c.settle.ensures.begun
+
+pub returns-in-Err-Refused-clause-begun : goal.returns-in-Err-Refused-clause-begun
+returns-in-Err-Refused-clause-begun g c =
+    refusing_cut c.refused_edit.result c.args.line.now c.args.self.now.connections c.edit.new.self c.in-Err-Refused.reply
+    (g.W.Write.contents c.args.out.now) (g.W.Write.contents c.refused_edit.new.out)
+    (rw c.in-Err-Refused.field-0-is at c.in-Err-Refused.ensures.refused) c.in-Err-Refused.ensures.err c.refused_edit.ensures.begun

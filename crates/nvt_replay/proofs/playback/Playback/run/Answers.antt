@@ -1,9 +1,12 @@
 use Rattle.std.proofs.Common.{◌≡◌, ℕ, List, ◌∷◌, drop, subst, ◌∙◌, arith}
+use Rattle.std.proofs.lemmas.Result.{err_from_is_err_and}
 use Rattle.std.specs.List.{All}
 use Rattle.line_words.specs.Lines.{lines_of}
 use Rattle.replay_lines.specs.StreamLine.{IsStreamLine}
 use Rattle.line_words.proofs.LineLemmas.{length-lines_of}
 use Rattle.nvt_replay.specs.Played.{PlaysAll, Prints}
+use Rattle.nvt_replay.proofs.Cutting.{script_cut}
+use Rattle.nvt_replay.proofs.Faulting.{ends_script, plays_before}
 use Rattle.nvt_replay.proofs.Playing.{played_before, played_more}
 use Rattle.nvt_replay.proofs.ReplayLemmas.{IsNext, all_taken, is_stream_line, malformed_at, next_line, well_formed_more}
 use Rattle.nvt_replay.proofs.playback.Playback.run.Goals as goal
@@ -48,3 +51,19 @@ pub returns-clause-ok : goal.returns-clause-ok
 returns-clause-ok g c =
     let all = all_taken (lines_of c.args.stream.now) c.loop-line.number (c.loop-line.invariant.rest ∙ c.in-None.ensures.steps.0) in
     subst (All IsStreamLine) all c.loop-line.invariant.before
+
+pub returns-in_err-play-in-Some-read_stream_line-clause-fault : goal.returns-in_err-play-in-Some-read_stream_line-clause-fault
+returns-in_err-play-in-Some-read_stream_line-clause-fault g c =
+    let p = err_from_is_err_and c.from_residual.result c.from_residual.ensures.1 in
+    rw (p.1, p.2) (ends_script _ c.play.new.self.printer.writes.has_failed (lines_of c.args.stream.now) c.in_err-play-in-Some-read_stream_line.ensures.fault)
+
+pub returns-in_err-play-in-Some-read_stream_line-clause-before : goal.returns-in_err-play-in-Some-read_stream_line-clause-before
+returns-in_err-play-in-Some-read_stream_line-clause-before g c =
+    let left : drop c.loop-line.number (lines_of c.args.stream.now) ≡ c.in-Some.line.now ∷ c.next.new.self = c.loop-line.invariant.rest ∙ c.in-Some.ensures.steps in
+    let p = err_from_is_err_and c.from_residual.result c.from_residual.ensures.1 in
+    rw (p.1, p.2) (plays_before _ c.play.new.self.printer.writes.has_failed (lines_of c.args.stream.now) c.args.self.now.connections
+    (g.W.Write.contents c.args.out.now) (g.W.Write.contents c.play.new.out) c.in_err-play-in-Some-read_stream_line.ensures.fault
+    (script_cut (lines_of c.args.stream.now) c.loop-line.number c.in-Some.line.now c.next.new.self c.in-Some-read_stream_line.line
+    c.args.self.now.connections c.loop-line.self.connections c.play.new.self.connections
+    (g.W.Write.contents c.args.out.now) (g.W.Write.contents c.loop-line.out) (g.W.Write.contents c.play.new.out)
+    left c.in-Some-read_stream_line.ensures.some c.loop-line.invariant.played c.in_err-play-in-Some-read_stream_line.ensures.begun))

@@ -1,4 +1,5 @@
-use Rattle.std.proofs.Common.{◌≡◌, ℕ, ◌≤◌, ◌==◌, not, List, length, take, get_or, sym, ap, ◌∙◌, inl, arith}
+use Rattle.std.specs.Io.KnownBytes.{Appends}
+use Rattle.std.proofs.Common.{subst, ◌≡◌, ℕ, ◌≤◌, ◌==◌, not, List, length, take, ap, ◌∙◌, inl, arith}
 use Rattle.std.specs.List.{AllPass, position_or_len}
 use Rattle.std.proofs.lemmas.List.{get_or-take, length-take-le, take-take}
 use Rattle.std.proofs.lemmas.List.Sums.{prefix_len_passes}
@@ -25,4 +26,5 @@ returns-then-len-gt0-clause-passed g c =
       no_end = no_end_in buf n (omega (arith, fits, c.find_byte-len.ensures.place)) (omega (arith, fits, c.find_byte-len.ensures.within));
       kept = c.in_ok-keep.ensures.line ∙ ap (kept c.args.self.now.line.items) passed;
       same = c.in_ok-keep.ensures.notes;
+      passed_on = rw c.keep.ensures.out (subst (λ (bytes : List ℕ). Appends (g.W.Write.contents c.args.self.now.out.now) (g.W.Write.contents c.write.new.self) bytes) (ap (take n) c.split_at.ensures.front ∙ take-take n len buf fits) c.in_ok-taken.ensures.bytes);
     })

@@ -19,7 +19,7 @@ performed : {E : Type 0} (w : World) (d : Decision) (front : Front) (old : Conne
     (record { conversation = record { port = old.conversation.port; session = session }; output = output }) disks after)
 performed w d front old session output disks after (Ok done) turned does = record {
   medium = does.medium;
-  tells = does.tells;
+  did = does.did;
   connection = rw (turned, does.sends) refl;
   contents = does.contents;
   sizes = does.sizes;

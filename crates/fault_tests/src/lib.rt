@@ -1,0 +1,5 @@
+//! Tests of the texts of errors, each by its type.
+#![tactic(auto)]
+
+#[cfg(test)]
+mod texts;

@@ -1,0 +1,7 @@
+use Rattle.nvt_replay.proofs.Cutting.{ticking_cut}
+use Rattle.nvt_replay.proofs.playback.Playback.tick.Goals as goal
+
+pub returns-clause-begun : goal.returns-clause-begun
+returns-clause-begun g c =
+    ticking_cut c.settle.result c.args.ms c.args.self.now.connections c.tick.new.self (g.W.Write.contents c.args.out.now)
+    (g.W.Write.contents c.settle.new.out) c.tick.ensures c.settle.ensures.begun
