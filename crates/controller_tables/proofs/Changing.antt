@@ -11,15 +11,15 @@ use Rattle.number_table.proofs.Tables.{place_within, place-replicate, place-with
 use Rattle.pdu_cut.specs.Front.{Front}
 use Rattle.controller_tables.specs.Controllers.{AreTables, CanChange, TablesState, controller_places}
 use Rattle.target_decision.specs.declared.controller.Controller.{Controller}
-use Rattle.target_decision.specs.declared.decision.Change.{Change}
-use Rattle.target_decision.specs.declared.decision.Change.TheVariants as change
+use Rattle.target_decision.specs.declared.consequence.Consequence.{Consequence}
+use Rattle.target_decision.specs.declared.consequence.Consequence.TheVariants as consequence
 use Rattle.target_decision.specs.declared.decision.Decision.{Decision}
 use Rattle.target_decision.specs.declared.decision.Decision.TheVariants as decision
 use Rattle.target_decision.specs.declared.decision.Setting.{Setting}
 use Rattle.target_decision.specs.Begin.{BeginsFree, FreeBy, row_by, row_decided}
 use Rattle.target_decision.specs.Controller.{with_property}
 use Rattle.target_history.specs.declared.ending.Ending.{Ending}
-use Rattle.target_history.specs.Happening.{change_decided, controller_changed, ready_after, row_changed, row_kept}
+use Rattle.target_history.specs.Happening.{consequence_decided, controller_changed, ready_after, row_changed, row_kept}
 
 -- what stands at each place after the change of one
 changed_place : (c : ℕ) (f : Row → Row) (o : Option Row) (old new : List (Option Row)) → place old c ≡ o → ChangedAt c f o old new → (n : ℕ)
@@ -43,7 +43,7 @@ changed_none false f o = refl
 -- ---- a Property Set
 
 pub configured_tables : (t : TablesState) (s : Setting) (ready : Bool) (rows : List (Option Row)) (own : List (Option Controller)) → AreTables t
-    → ((n : ℕ) → place own n ≡ controller_changed (change.Configure s) 0 n (place t.own n)) → length own ≡ length t.own
+    → ((n : ℕ) → place own n ≡ controller_changed (consequence.Configure s) 0 n (place t.own n)) → length own ≡ length t.own
     → ChangedAt s.cntlid (with_ready ready) (place t.rows s.cntlid) t.rows rows → AreTables (record { rows = rows; own = own })
 configured_tables t s ready rows own are each places changes = record {
   places = places ∙ are.places;
@@ -52,12 +52,12 @@ configured_tables t s ready rows own are each places changes = record {
       ∙ sym (ap is_none (each n) ∙ changed_none (n == s.cntlid) (with_property s.property) (place t.own n));
 }
 
-pub configured_rows : (t : TablesState) (s : Setting) (ch : Change) (begun : Option Row) (rows : List (Option Row)) → ch ≡ change.Configure s
+pub configured_rows : (t : TablesState) (s : Setting) (ch : Consequence) (begun : Option Row) (rows : List (Option Row)) → ch ≡ consequence.Configure s
     → ChangedAt s.cntlid (with_ready (ready_after (place t.own s.cntlid) s)) (place t.rows s.cntlid) t.rows rows
     → (n : ℕ) → place rows n ≡ row_changed ch begun (place t.own n) n (place t.rows n)
 configured_rows t s ch begun rows is changes n =
     changed_place s.cntlid (with_ready (ready_after (place t.own s.cntlid) s)) (place t.rows s.cntlid) t.rows rows refl changes n
-    ∙ by (n == s.cntlid) refl ∙ ap (λ (b : Change). row_changed b begun (place t.own n) n (place t.rows n)) (sym is)
+    ∙ by (n == s.cntlid) refl ∙ ap (λ (b : Consequence). row_changed b begun (place t.own n) n (place t.rows n)) (sym is)
   where
     by : (same : Bool) → (n == s.cntlid) ≡ same
         → (if same then option_map (with_ready (ready_after (place t.own s.cntlid) s)) (place t.rows n) else place t.rows n)
@@ -73,9 +73,9 @@ left_none false f None none = refl
 left_none false f (Some a) none = cc
 
 -- what ended does not hinder what begins
-can_change_by : (ch : Change) (port : ℕ) (found : Front) (old : List (Option Row)) (t : TablesState) (gone : ℕ → Bool) (e : Ending) → FreeBy (λ c. place old c) ch
+can_change_by : (ch : Consequence) (port : ℕ) (found : Front) (old : List (Option Row)) (t : TablesState) (gone : ℕ → Bool) (e : Ending) → FreeBy (λ c. place old c) ch
     → ((n : ℕ) → place t.rows n ≡ (if gone n then None else option_map (row_kept e n) (place old n))) → CanChange ch (row_by ch port found) t
-can_change_by (change.Begin b) port found old t gone e free rows = record {
+can_change_by (consequence.Begin b) port found old t gone e free rows = record {
   row = refl;
   begins = record {
     least = free.least;
@@ -83,21 +83,21 @@ can_change_by (change.Begin b) port found old t gone e free rows = record {
     free = rows b.controller.cntlid ∙ left_none (gone b.controller.cntlid) (row_kept e b.controller.cntlid) (place old b.controller.cntlid) free.free;
   };
 }
-can_change_by change.Stay port found old t gone e free rows = tt
-can_change_by (change.Join j) port found old t gone e free rows = tt
-can_change_by (change.Configure s) port found old t gone e free rows = tt
-can_change_by (change.KeepAlive c) port found old t gone e free rows = tt
+can_change_by consequence.Nothing port found old t gone e free rows = tt
+can_change_by (consequence.Join j) port found old t gone e free rows = tt
+can_change_by (consequence.Configure s) port found old t gone e free rows = tt
+can_change_by (consequence.KeepAlive c) port found old t gone e free rows = tt
 
 can_change_so : (d : Decision) (port : ℕ) (found : Front) (old : List (Option Row)) (t : TablesState) (gone : ℕ → Bool) (e : Ending) → BeginsFree (λ c. place old c) d
     → ((n : ℕ) → place t.rows n ≡ (if gone n then None else option_map (row_kept e n) (place old n)))
-    → CanChange (change_decided (Some d)) (row_decided d port found) t
-can_change_so (decision.Reply r) port found old t gone e free rows = can_change_by r.change port found old t gone e free rows
+    → CanChange (consequence_decided (Some d)) (row_decided d port found) t
+can_change_so (decision.Reply r) port found old t gone e free rows = can_change_by r.consequence port found old t gone e free rows
 can_change_so decision.Initialize port found old t gone e free rows = tt
 can_change_so (decision.Terminate x) port found old t gone e free rows = tt
 can_change_so decision.Close port found old t gone e free rows = tt
 
-pub can_change : (d : Decision) (ch : Change) (begun : Option Row) (port : ℕ) (found : Front) (old : List (Option Row)) (t : TablesState) (gone : ℕ → Bool) (e : Ending)
-    → ch ≡ change_decided (Some d) → begun ≡ row_decided d port found → BeginsFree (λ c. place old c) d
+pub can_change : (d : Decision) (ch : Consequence) (begun : Option Row) (port : ℕ) (found : Front) (old : List (Option Row)) (t : TablesState) (gone : ℕ → Bool) (e : Ending)
+    → ch ≡ consequence_decided (Some d) → begun ≡ row_decided d port found → BeginsFree (λ c. place old c) d
     → ((n : ℕ) → place t.rows n ≡ (if gone n then None else option_map (row_kept e n) (place old n))) → CanChange ch begun t
 can_change d ch begun port found old t gone e is made free rows = rw (is, made) (can_change_so d port found old t gone e free rows)
 
@@ -107,14 +107,14 @@ abbrev no_row : Option Row
 no_row = None
 
 -- a Property Set of a controller that is gone makes nothing of its row
-pub changed_alike : (ch : Change) (begun : Option Row) (gone : Bool) (c : ℕ) (own : Option Controller) (o : Option Row)
+pub changed_alike : (ch : Consequence) (begun : Option Row) (gone : Bool) (c : ℕ) (own : Option Controller) (o : Option Row)
     → row_changed ch begun (if gone then None else own) c (if gone then None else o) ≡ row_changed ch begun own c (if gone then None else o)
 changed_alike ch begun false c own o = refl
-changed_alike change.Stay begun true c own o = refl
-changed_alike (change.Begin b) begun true c own o = refl
-changed_alike (change.Join j) begun true c own o = refl
-changed_alike (change.KeepAlive d) begun true c own o = refl
-changed_alike (change.Configure s) begun true c own o = by (c == s.cntlid) where
+changed_alike consequence.Nothing begun true c own o = refl
+changed_alike (consequence.Begin b) begun true c own o = refl
+changed_alike (consequence.Join j) begun true c own o = refl
+changed_alike (consequence.KeepAlive d) begun true c own o = refl
+changed_alike (consequence.Configure s) begun true c own o = by (c == s.cntlid) where
   by : (same : Bool)
       → (if same then option_map (with_ready (ready_after None s)) no_row else no_row)
       ≡ (if same then option_map (with_ready (ready_after own s)) no_row else no_row)

@@ -6,8 +6,8 @@ use Rattle.fabrics_connect.specs.declared.row.Row.{Row}
 use Rattle.fabrics_connect.specs.Controllers.{CanBegin, no_controllers}
 use Rattle.number_table.specs.Table.{place}
 use Rattle.target_decision.specs.declared.controller.Controller.{Controller}
-use Rattle.target_decision.specs.declared.decision.Change.{Change}
-use Rattle.target_decision.specs.declared.decision.Change.TheVariants as change
+use Rattle.target_decision.specs.declared.consequence.Consequence.{Consequence}
+use Rattle.target_decision.specs.declared.consequence.Consequence.TheVariants as consequence
 use Rattle.target_decision.specs.World.{World}
 use Rattle.target_history.specs.declared.ending.Ending.{Ending}
 use Rattle.target_history.specs.Ending.{ends_controller}
@@ -57,9 +57,9 @@ pub record CanStart (cntlid : ℕ) (begun : Option Row) (t : TablesState) : Type
   pub row : IsSomeAnd begun (λ row. row.cntlid ≡ cntlid)
   pub begins : CanBegin t.rows cntlid
 
-abbrev pub CanChange : Change → Option Row → TablesState → Type 0
-CanChange (change.Begin b) row t = CanStart b.controller.cntlid row t
-CanChange change.Stay row t = Unit {0}
-CanChange (change.Join j) row t = Unit {0}
-CanChange (change.Configure s) row t = Unit {0}
-CanChange (change.KeepAlive start) row t = Unit {0}
+abbrev pub CanChange : Consequence → Option Row → TablesState → Type 0
+CanChange (consequence.Begin b) row t = CanStart b.controller.cntlid row t
+CanChange consequence.Nothing row t = Unit {0}
+CanChange (consequence.Join j) row t = Unit {0}
+CanChange (consequence.Configure s) row t = Unit {0}
+CanChange (consequence.KeepAlive start) row t = Unit {0}

@@ -4,10 +4,10 @@ ghost use Rattle.std.specs.Prelude.{◌≡◌, ℕ, IfOk, None, Some, if◌then�
 ghost use Rattle.std.specs.Option.{option_map};
 ghost use Rattle.number_table.specs.Table.{place};
 ghost use Rattle.controller_tables.specs.Controllers.{AreTables, CanChange, IsNewTables, gone_by, is_gone, world_with};
-ghost use Rattle.target_decision.specs.declared.decision.Change.TheVariants as change;
+ghost use Rattle.target_decision.specs.declared.consequence.Consequence.TheVariants as consequence;
 ghost use Rattle.admin_queue.specs.Pages.{pages_in};
 ghost use Rattle.target_decision.specs.World.{world_in};
-ghost use Rattle.target_history.specs.Happening.{change_decided, controller_changed, ready_after, row_changed, row_kept};
+ghost use Rattle.target_history.specs.Happening.{consequence_decided, controller_changed, ready_after, row_changed, row_kept};
 
 use admin_queue::Pages;
 use fabrics_connect::{Controllers, Row};
@@ -178,7 +178,7 @@ fn leave(rows: &mut Controllers, ending: &Ending)
 fn configure(own: &mut NumberTable<Controller>, setting: &Setting) -> bool
     ensures ready { result ≡ ready_after (place own.old setting.now.cntlid) setting.now }
     ensures each { (c : ℕ) → place own.new c
-        ≡ controller_changed (change.Configure setting.now) 0 c (place own.old c) }
+        ≡ controller_changed (consequence.Configure setting.now) 0 c (place own.old c) }
     ensures places { length own.new ≡ length own.old }
 {
     match own.get_mut(usize::from(setting.cntlid)) {
@@ -193,7 +193,7 @@ fn configure(own: &mut NumberTable<Controller>, setting: &Setting) -> bool
 // Starts the Keep Alive Timer of a controller again, if it is there.
 fn keep_alive(own: &mut NumberTable<Controller>, start: &TimerStart, now: u64)
     ensures each { (c : ℕ) → place own.new c
-        ≡ controller_changed (change.KeepAlive start.now) now c (place own.old c) }
+        ≡ controller_changed (consequence.KeepAlive start.now) now c (place own.old c) }
     ensures places { length own.new ≡ length own.old }
 {
     if let Some(controller) = own.get_mut(usize::from(start.cntlid)) {
@@ -202,11 +202,11 @@ fn keep_alive(own: &mut NumberTable<Controller>, start: &TimerStart, now: u64)
 }
 
 /// What a decision changes of the controllers: what its reply says, and nothing where it is none.
-pub fn change_of(decision: &Decision) -> Change
-    ensures { result ≡ change_decided (Some decision.now) }
+pub fn consequence_of(decision: &Decision) -> Change
+    ensures { result ≡ consequence_decided (Some decision.now) }
 {
     match decision {
-        Decision::Reply(reply) => reply.change,
+        Decision::Reply(reply) => reply.consequence,
         _ => Change::Stay,
     }
 }

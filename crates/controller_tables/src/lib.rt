@@ -5,4 +5,4 @@
 
 mod controllers;
 
-pub use controllers::{ControllerTables, PLACES, change_of};
+pub use controllers::{ControllerTables, PLACES, consequence_of};

@@ -84,6 +84,10 @@ change_by r cc =
 abbrev pub is_settable : ℕ → ℕ → Bool
 is_settable offset attrib = (offset == cc_at) && is_named_by attrib FourBytes
 
+-- the value that a Property Set gives to Controller Configuration
+abbrev pub configuration_set : ℕ → ℕ → ℕ → Result ℕ InvalidField
+configuration_set offset attrib value = if is_settable offset attrib then Ok (value % 2 ^ 32) else Err invalid_field
+
 -- what a Property Set is answered
 abbrev pub property_set : Regs → ℕ → ℕ → ℕ → Result Change InvalidField
 property_set r offset attrib value = if is_settable offset attrib then Ok (change_by r (value % 2 ^ 32)) else Err invalid_field

@@ -12,4 +12,4 @@ pub mod status;
 
 pub use kind::ControllerKind;
 pub use laws::{changes_tell_of_readiness, readiness_is_as_set};
-pub use regs::{Change, InvalidField, Regs};
+pub use regs::{Change, InvalidField, Regs, configuration_set};

@@ -1,5 +1,6 @@
 //! The properties of one controller, and how they change.
 ghost use Rattle.std.specs.Prelude.{◌≡◌};
+ghost use Rattle.property_regs.specs.Regs.{configuration_set};
 
 use crate::configuration::{asks_shutdown, enabling_by, is_enabled};
 use crate::kind::ControllerKind;
@@ -103,13 +104,33 @@ impl Regs {
         ensures result { result ≡ property_set self.old offset attrib value }
         ensures after { self.new ≡ regs_after self.old offset attrib value }
     {
-        if offset != CC_AT || !PropertySize::FourBytes.is_named_by(attrib) {
-            return Err(InvalidField);
-        }
-        let cc = (value % 0x1_0000_0000) as u32;
+        let cc = configuration_set(offset, attrib, value)?;
         let change = self.change_by(cc);
-        *self = self.configured(cc);
+        self.configure(cc);
         Ok(change)
+    }
+
+    /// Sets Controller Configuration to this value.
+    pub fn configure(&mut self, cc: u32)
+        ensures { self.new ≡ configured self.old cc }
+    {
+        *self = self.configured(cc);
+    }
+
+    /// What setting Controller Configuration to this value would do to the controller.
+    pub fn change_by(&self, cc: u32) -> Change
+        ensures { result ≡ change_by self.now cc }
+    {
+        let after = self.configured(cc);
+        if is_enabled(self.cc) && !is_enabled(cc) {
+            Change::Reset
+        } else if self.enabling != Enabling::Ready && after.enabling == Enabling::Ready {
+            Change::Enable
+        } else if self.shutdown != after.shutdown && after.shutdown == ShutdownStatus::Complete {
+            Change::Shutdown
+        } else {
+            Change::Stay
+        }
     }
 
     // The property at an offset: its size and its value.
@@ -154,20 +175,15 @@ impl Regs {
             shutdown,
         }
     }
+}
 
-    // What setting this value does to the controller.
-    fn change_by(&self, cc: u32) -> Change
-        ensures { result ≡ change_by self.now cc }
-    {
-        let after = self.configured(cc);
-        if is_enabled(self.cc) && !is_enabled(cc) {
-            Change::Reset
-        } else if self.enabling != Enabling::Ready && after.enabling == Enabling::Ready {
-            Change::Enable
-        } else if self.shutdown != after.shutdown && after.shutdown == ShutdownStatus::Complete {
-            Change::Shutdown
-        } else {
-            Change::Stay
-        }
+/// The value that a Property Set gives to Controller Configuration: the low 32 bits of its own. Fails
+/// at each other offset, and where bits 2:0 of the attributes do not name 4 bytes.
+pub fn configuration_set(offset: u32, attrib: u8, value: u64) -> Result<u32, InvalidField>
+    ensures { result ≡ configuration_set offset attrib value }
+{
+    if offset != CC_AT || !PropertySize::FourBytes.is_named_by(attrib) {
+        return Err(InvalidField);
     }
+    Ok((value % 0x1_0000_0000) as u32)
 }

@@ -3,8 +3,8 @@ use Rattle.std.proofs.Common.{◌≡◌, ℕ, Bool, true, false, ◌||◌, List,
 use Rattle.std.specs.Prelude.{if◌then◌else◌}
 use Rattle.std.specs.Option.{option_map}
 use Rattle.target_core.specs.Connection.{ConnectionState, settled}
-use Rattle.target_decision.specs.declared.decision.Change.{Change}
-use Rattle.target_decision.specs.declared.decision.Change.TheVariants as change
+use Rattle.target_decision.specs.declared.consequence.Consequence.{Consequence}
+use Rattle.target_decision.specs.declared.consequence.Consequence.TheVariants as consequence
 use Rattle.target_decision.specs.declared.decision.Decision.{Decision}
 use Rattle.target_decision.specs.declared.decision.Decision.TheVariants as decision
 use Rattle.target_decision.specs.declared.session.Role.TheVariants.{Admin, Io}
@@ -48,8 +48,8 @@ abbrev ends_in : Ending → (ℕ → Bool) → ℕ → Session → Bool
 ends_in e gone port s = ends_by e gone (record { port = port; session = s })
 
 responds : (e : Ending) (gone : ℕ → Bool) (port : ℕ) (s : Session)
-    → (if ends_in e gone port (replied change.Stay s) then Ended else replied change.Stay s)
-    ≡ (if ends_in e gone port s then Ended else replied change.Stay s)
+    → (if ends_in e gone port (replied consequence.Nothing s) then Ended else replied consequence.Nothing s)
+    ≡ (if ends_in e gone port s then Ended else replied consequence.Nothing s)
 responds e gone port Opened = refl
 responds e gone port Initialized = refl
 responds e gone port (Connected role q) = refl
@@ -62,21 +62,21 @@ nothing_in gone port none s t = rw (nothing_ends gone none s, nothing_ends gone 
 abbrev pub QuietWhere : Ending → (ℕ → Bool) → Type 0
 QuietWhere e gone = e ≡ ending.Nothing → (c : ℕ) → gone c ≡ false
 
-replies : (ch : Change) (gone : ℕ → Bool) (port : ℕ) (s : Session) → QuietWhere (ending_changed ch) gone
+replies : (ch : Consequence) (gone : ℕ → Bool) (port : ℕ) (s : Session) → QuietWhere (ending_changed ch) gone
     → (if ends_in (ending_changed ch) gone port (replied ch s) then Ended else replied ch s)
     ≡ (if ends_in (ending_changed ch) gone port s then Ended else replied ch s)
-replies change.Stay gone port s quiet = responds ending.Nothing gone port s
-replies (change.KeepAlive c) gone port s quiet = responds ending.Nothing gone port s
-replies (change.Configure st) gone port s quiet = responds (ending_changed (change.Configure st)) gone port s
-replies (change.Begin b) gone port s quiet = nothing_in gone port (quiet refl) s (replied (change.Begin b) s)
-replies (change.Join j) gone port s quiet = nothing_in gone port (quiet refl) s (replied (change.Join j) s)
+replies consequence.Nothing gone port s quiet = responds ending.Nothing gone port s
+replies (consequence.KeepAlive c) gone port s quiet = responds ending.Nothing gone port s
+replies (consequence.Configure st) gone port s quiet = responds (ending_changed (consequence.Configure st)) gone port s
+replies (consequence.Begin b) gone port s quiet = nothing_in gone port (quiet refl) s (replied (consequence.Begin b) s)
+replies (consequence.Join j) gone port s quiet = nothing_in gone port (quiet refl) s (replied (consequence.Join j) s)
 
 -- whether what a decision ends is looked for before it is done or after, its own session is the same
 pub decision_settles : (d : Decision) (gone : ℕ → Bool) (port : ℕ) (s : Session) → QuietWhere (ending_decided s d) gone
     → (if ends_in (ending_decided s d) gone port (session_after s d) then Ended else session_after s d)
     ≡ (if ends_in (ending_decided s d) gone port s then Ended else session_after s d)
 decision_settles decision.Initialize gone port s quiet = nothing_in gone port (quiet refl) s Initialized
-decision_settles (decision.Reply r) gone port s quiet = replies r.change gone port s quiet
+decision_settles (decision.Reply r) gone port s quiet = replies r.consequence gone port s quiet
 decision_settles (decision.Terminate t) gone port s quiet =
     either_ended (ends_in (ending_decided s (decision.Terminate t)) gone port Ended) (ends_in (ending_decided s (decision.Terminate t)) gone port s)
 decision_settles decision.Close gone port s quiet =

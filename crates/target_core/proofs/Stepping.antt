@@ -19,7 +19,7 @@ use Rattle.target_core.specs.declared.fault.Stepped.{Stepped}
 use Rattle.target_core.specs.Connection.{ConnectionState, acted, settled}
 use Rattle.target_core.specs.Moves.{ActedAt, ActsAt, ActsOn, Moves, StepsBy, StepsOn, connection_moved, stepped_by}
 use Rattle.target_core.specs.Target.{IsTarget, TargetState, is_idle, is_incomplete, meets, world_at}
-use Rattle.target_decision.specs.declared.decision.Change.{Change}
+use Rattle.target_decision.specs.declared.consequence.Consequence.{Consequence}
 use Rattle.target_decision.specs.declared.decision.Decision.{Decision}
 use Rattle.target_decision.specs.declared.decision.Decision.TheVariants as decision
 use Rattle.target_decision.specs.declared.session.Session.{Session}
@@ -31,7 +31,7 @@ use Rattle.target_decision.specs.World.{World}
 use Rattle.target_history.specs.declared.ending.Ending.{Ending}
 use Rattle.target_history.specs.Ending.{ending_decided, ends_by}
 use Rattle.target_history.specs.Event.{stepped}
-use Rattle.target_history.specs.Happening.{DisksAct, act_decided, change_decided, change_of, controller_changed, decided, decision_of, ending_of, ends_live, is_end_decided, operation_decided, port_met, row_changed, row_kept, terminates}
+use Rattle.target_history.specs.Happening.{DisksAct, act_decided, consequence_decided, consequence_of, controller_changed, decided, decision_of, ending_of, ends_live, is_end_decided, operation_decided, port_met, row_changed, row_kept, terminates}
 use Rattle.target_core.proofs.Moving.{moved_is, silent_at, stream_stays, tables_of, turned}
 use Rattle.target_core.proofs.Places.{connection_is_target, map_is_target, stream_is_target}
 use Rattle.target_core.proofs.Settling.{QuietWhere, decision_settles}
@@ -119,17 +119,17 @@ stream_at found held o false here = stream_stays o
 -- ---- the target
 
 -- the row that a decision makes is the one that its event makes
-row_so : (d : Decision) (port : ℕ) (found : Front) → row_decided d port found ≡ row_by (change_decided (Some d)) port found
+row_so : (d : Decision) (port : ℕ) (found : Front) → row_decided d port found ≡ row_by (consequence_decided (Some d)) port found
 row_so (decision.Reply r) port found = refl
 row_so decision.Initialize port found = refl
 row_so (decision.Terminate t) port found = refl
 row_so decision.Close port found = refl
 
-pub step_moves : (old new : TargetState) (k : ℕ) (held : List ℕ) (c : ConnectionState) (d : Decision) (e : Ending) (ch : Change) (begun : Option Row) (m : Medium)
+pub step_moves : (old new : TargetState) (k : ℕ) (held : List ℕ) (c : ConnectionState) (d : Decision) (e : Ending) (ch : Consequence) (begun : Option Row) (m : Medium)
     → place old.streams k ≡ Some held → place old.connections k ≡ Some c
     → is_ended c.conversation.session ≡ false → is_incomplete (front Target held) ≡ false
     → d ≡ decide (world_at old) c.conversation (front Target held)
-    → e ≡ ending_decided c.conversation.session d → ch ≡ change_decided (Some d)
+    → e ≡ ending_decided c.conversation.session d → ch ≡ consequence_decided (Some d)
     → begun ≡ row_decided d c.conversation.port (front Target held)
     → new.config ≡ old.config → new.shown ≡ old.shown → new.clock ≡ old.clock
     → new.connections ≡ map (option_map (settled e (gone_by e old.config (tables_of old)))) (with_value old.connections k (acted (world_at old) (contents_at old.disks) m d (front Target held) c))
@@ -145,11 +145,11 @@ step_moves old new k held c d e ch begun m stream known lasts complete decides e
     let within : k < length old.connections = place_within old.connections k c known in
     let stream_within : k < length old.streams = place_within old.streams k held stream in
     let met : ending_of x ≡ e = ends_so old k found m c d known lasts decides ∙ sym ends in
-    let so : change_of x ≡ ch = ap change_decided (decides_so old k found m c d known lasts decides) ∙ sym changes in
+    let so : consequence_of x ≡ ch = ap consequence_decided (decides_so old k found m c d known lasts decides) ∙ sym changes in
     let port : port_met x ≡ c.conversation.port = rw known refl in
-    let row : row_by (change_of x) (port_met x) found ≡ begun =
-    ap (λ (b : Change). row_by b (port_met x) found) (so ∙ changes)
-    ∙ ap (λ (p : ℕ). row_by (change_decided (Some d)) p found) port ∙ sym (row_so d c.conversation.port found) ∙ sym begins in
+    let row : row_by (consequence_of x) (port_met x) found ≡ begun =
+    ap (λ (b : Consequence). row_by b (port_met x) found) (so ∙ changes)
+    ∙ ap (λ (p : ℕ). row_by (consequence_decided (Some d)) p found) port ∙ sym (row_so d c.conversation.port found) ∙ sym begins in
     record {
       stands = rw stream (refl, complete);
       config = config;
@@ -164,13 +164,13 @@ step_moves old new k held c d e ch begun m stream known lasts complete decides e
       row = λ n. rows n ∙ changed_alike ch begun (gone_by e old.config (tables_of old) n) n (place old.controllers n) (option_map (row_kept e n) (place old.rows n))
           ∙ ap (λ (f : Ending). row_changed ch begun (place old.controllers n) n
           (if gone_by f old.config (tables_of old) n then None else option_map (row_kept f n) (place old.rows n))) (sym met)
-          ∙ ap (λ (b : Change). row_changed b begun (place old.controllers n) n
+          ∙ ap (λ (b : Consequence). row_changed b begun (place old.controllers n) n
           (if ends_live x n then None else option_map (row_kept (ending_of x) n) (place old.rows n))) (sym so)
-          ∙ ap (λ (r : Option Row). row_changed (change_of x) r (place old.controllers n) n
+          ∙ ap (λ (r : Option Row). row_changed (consequence_of x) r (place old.controllers n) n
           (if ends_live x n then None else option_map (row_kept (ending_of x) n) (place old.rows n))) (sym row);
       controller = λ n. controllers n
           ∙ ap (λ (f : Ending). controller_changed ch old.clock n (if gone_by f old.config (tables_of old) n then None else place old.controllers n)) (sym met)
-          ∙ ap (λ (b : Change). controller_changed b old.clock n (if ends_live x n then None else place old.controllers n)) (sym so);
+          ∙ ap (λ (b : Consequence). controller_changed b old.clock n (if ends_live x n then None else place old.controllers n)) (sym so);
       blocks = λ disk. blocks disk
           ∙ ap (λ (o : Option Decision). written (write_on disk (act_decided o found m)) (contents_at old.disks disk))
           (sym (decides_so old k found m c d known lasts decides));
@@ -243,11 +243,11 @@ acts_known k w d found (Some b) c old new disks after known acts =
     let same : b ≡ c = cc in
     rw same at acts
 
-pub step_done : (old new : TargetState) (k : ℕ) (held : List ℕ) (c : ConnectionState) (found : Front) (d : Decision) (e : Ending) (ch : Change) (begun : Option Row) (s : Stepped)
+pub step_done : (old new : TargetState) (k : ℕ) (held : List ℕ) (c : ConnectionState) (found : Front) (d : Decision) (e : Ending) (ch : Consequence) (begun : Option Row) (s : Stepped)
     (turned : List (Option ConnectionState)) → place old.streams k ≡ Some held → place old.connections k ≡ Some c
     → is_ended c.conversation.session ≡ false → found ≡ front Target held → is_incomplete found ≡ false
     → d ≡ decide (world_at old) c.conversation found
-    → e ≡ ending_decided c.conversation.session d → ch ≡ change_decided (Some d) → begun ≡ row_decided d c.conversation.port found
+    → e ≡ ending_decided c.conversation.session d → ch ≡ consequence_decided (Some d) → begun ≡ row_decided d c.conversation.port found
     → new.config ≡ old.config → new.shown ≡ old.shown → new.clock ≡ old.clock
     → ActsOn k (world_at old) d found c old.connections turned old.disks new.disks
     → new.connections ≡ map (option_map (settled e (gone_by e old.config (tables_of old)))) turned

@@ -24,7 +24,7 @@ use crate::fault::{NoConn, OpenFault, StepFault, Stepped};
 use crate::settle::settle;
 use crate::stream::Stream;
 use block_store::{Disk, Store};
-use controller_tables::{ControllerTables, change_of};
+use controller_tables::{ControllerTables, consequence_of};
 use fabrics_connect::Row;
 use number_table::NumberTable;
 use nvt_config::{Config, Edit, EditFault, NewFault};
@@ -350,7 +350,7 @@ impl<D: Disk + Drop> Target<D> {
                     &Ending::of_decision(&before.session, &decision),
                 );
                 self.controllers
-                    .change(self.clock, &change_of(&decision), row);
+                    .change(self.clock, &consequence_of(&decision), row);
                 Ok(stepped(&decision))
             }
             Err(AllocError) => Err(StepFault::Memory),

@@ -1,3 +1,4 @@
 pub mod Begins
+pub mod Deciding
 pub mod Performing
 pub mod Within

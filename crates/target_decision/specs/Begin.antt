@@ -7,8 +7,8 @@ use Rattle.fabrics_connect.specs.Row.{row_begun}
 use Rattle.nvt_fields.specs.declared.pdu_type.PduType.TheVariants.{CapsuleCmd}
 use Rattle.pdu_cut.specs.Front.{Front, incomplete, whole, faulty}
 use Rattle.pdu_cut.specs.Pdu.{data_part}
-use Rattle.target_decision.specs.declared.decision.Change.{Change}
-use Rattle.target_decision.specs.declared.decision.Change.TheVariants as change
+use Rattle.target_decision.specs.declared.consequence.Consequence.{Consequence}
+use Rattle.target_decision.specs.declared.consequence.Consequence.TheVariants as consequence
 use Rattle.target_decision.specs.declared.decision.Decision.{Decision}
 use Rattle.target_decision.specs.declared.decision.Decision.TheVariants as decision
 pub use Rattle.target_decision.specs.Decision.{bytes_at}
@@ -22,19 +22,14 @@ entry_at (faulty fault head) = []
 
 -- ---- the row of the controller that it begins
 
-abbrev pub row_by : Change → ℕ → Front → Option Row
-row_by (change.Begin b) port front = Some (row_begun b.controller port (entry_at front) (bytes_at front))
-row_by change.Stay port front = None
-row_by (change.Join j) port front = None
-row_by (change.Configure s) port front = None
-row_by (change.KeepAlive start) port front = None
+abbrev pub row_by : Consequence → ℕ → Front → Option Row
+row_by (consequence.Begin b) port front = Some (row_begun b.controller port (entry_at front) (bytes_at front))
+row_by _ port front = None
 
 -- .. of a decision on this front of a connection on this port
 abbrev pub row_decided : Decision → ℕ → Front → Option Row
-row_decided (decision.Reply r) port front = row_by r.change port front
-row_decided decision.Initialize port front = None
-row_decided (decision.Terminate t) port front = None
-row_decided decision.Close port front = None
+row_decided (decision.Reply r) port front = row_by r.consequence port front
+row_decided _ port front = None
 
 -- ---- what holds of it
 
@@ -44,30 +39,20 @@ NamesIn (whole pdu) = (pdu.kind ≡ CapsuleCmd) × HasNames (entry_of pdu) (data
 NamesIn incomplete = ⊥
 NamesIn (faulty fault head) = ⊥
 
-abbrev pub NamesBy : Change → Front → Type 0
-NamesBy (change.Begin b) front = NamesIn front
-NamesBy change.Stay front = Unit {0}
-NamesBy (change.Join j) front = Unit {0}
-NamesBy (change.Configure s) front = Unit {0}
-NamesBy (change.KeepAlive start) front = Unit {0}
+abbrev pub NamesBy : Consequence → Front → Type 0
+NamesBy (consequence.Begin b) front = NamesIn front
+NamesBy _ front = Unit {0}
 
 -- a controller begins by a capsule with the names of a row; of another decision any front will do
 abbrev pub NamesWell : Decision → Front → Type 0
-NamesWell (decision.Reply r) front = NamesBy r.change front
-NamesWell decision.Initialize front = Unit {0}
-NamesWell (decision.Terminate t) front = Unit {0}
-NamesWell decision.Close front = Unit {0}
+NamesWell (decision.Reply r) front = NamesBy r.consequence front
+NamesWell _ front = Unit {0}
 
-abbrev pub FreeBy : (ℕ → Option Row) → Change → Type 0
-FreeBy row (change.Begin b) = IsLeastFree row b.controller.cntlid
-FreeBy row change.Stay = Unit {0}
-FreeBy row (change.Join j) = Unit {0}
-FreeBy row (change.Configure s) = Unit {0}
-FreeBy row (change.KeepAlive start) = Unit {0}
+abbrev pub FreeBy : (ℕ → Option Row) → Consequence → Type 0
+FreeBy row (consequence.Begin b) = IsLeastFree row b.controller.cntlid
+FreeBy row _ = Unit {0}
 
 -- a controller begins under the least identifier that is free
 abbrev pub BeginsFree : (ℕ → Option Row) → Decision → Type 0
-BeginsFree row (decision.Reply r) = FreeBy row r.change
-BeginsFree row decision.Initialize = Unit {0}
-BeginsFree row (decision.Terminate t) = Unit {0}
-BeginsFree row decision.Close = Unit {0}
+BeginsFree row (decision.Reply r) = FreeBy row r.consequence
+BeginsFree row _ = Unit {0}

@@ -1,8 +1,6 @@
 -- A command capsule, by its submission queue entry and the data that it brings (Base 2.0, sections 5
 -- and 6).
 use Rattle.std.specs.Prelude.{ℕ, Bool, false, not, ◌==◌, ◌&&◌, List, length, Option, Some, None, Result, Ok, Err, if◌then◌else◌}
-use Rattle.admin_queue.specs.declared.outcome.Effect.{Effect}
-use Rattle.admin_queue.specs.declared.outcome.Effect.TheVariants as effect
 use Rattle.admin_queue.specs.Commands.{admin}
 use Rattle.admin_queue.specs.Controller.{AdminController}
 use Rattle.admin_queue.specs.Outcome.{Outcome as AdminOutcome}
@@ -15,11 +13,11 @@ use Rattle.pdu_codec.specs.declared.command.Property.{Property}
 use Rattle.pdu_codec.specs.Sqe.{opcode_of, fuse_of, fctype_of, property_of}
 use Rattle.property_regs.specs.declared.regs.InvalidField.{InvalidField}
 use Rattle.property_regs.specs.declared.regs.Regs.{Regs}
-use Rattle.property_regs.specs.declared.regs.Change.{Change as RegsChange}
-use Rattle.property_regs.specs.Regs.{property_get, property_set}
+use Rattle.property_regs.specs.Regs.{change_by, configuration_set, property_get}
 use Rattle.target_decision.specs.declared.decision.Answer.TheVariants as answer
-use Rattle.target_decision.specs.declared.decision.Change.{Change}
-use Rattle.target_decision.specs.declared.decision.Change.TheVariants as change
+use Rattle.target_decision.specs.declared.consequence.Consequence.{Consequence}
+use Rattle.target_decision.specs.declared.consequence.Consequence.TheVariants as consequence
+use Rattle.target_decision.specs.declared.consequence.Update.TheVariants as update
 use Rattle.target_decision.specs.declared.decision.Reply.{Reply}
 use Rattle.target_decision.specs.declared.session.Conversation.{Conversation}
 use Rattle.target_decision.specs.declared.session.Role.{Role}
@@ -54,19 +52,20 @@ is_ready_at (Some row) = row.ready
 
 -- what a Property Get comes to that gives this value, or is refused
 abbrev pub given_by : Result ℕ InvalidField → Outcome
-given_by (Ok value) = done value change.Stay
+given_by (Ok value) = done value consequence.Nothing
 given_by (Err fault) = refused invalid_field
 
--- .. and a Property Set that has this effect
-abbrev pub set_by : Result RegsChange InvalidField → ℕ → Property → Outcome
-set_by (Ok effect) cntlid property = done 0 (change.Configure (record { cntlid = cntlid; property = property; effect = effect }))
-set_by (Err fault) cntlid property = refused invalid_field
+-- .. and a Property Set that sets Controller Configuration to this value, or is refused
+abbrev pub set_by : Result ℕ InvalidField → Regs → ℕ → Outcome
+set_by (Ok cc) registers cntlid =
+    done 0 (consequence.Update cntlid (update.Configuration (record { cc = cc; change = change_by registers cc })))
+set_by (Err fault) registers cntlid = refused invalid_field
 
 abbrev pub property_get_of : Regs → Property → Outcome
 property_get_of registers p = given_by (property_get registers p.ofst p.attrib)
 
 abbrev pub property_set_of : Regs → ℕ → Property → Outcome
-property_set_of registers cntlid p = set_by (property_set registers p.ofst p.attrib p.value) cntlid p
+property_set_of registers cntlid p = set_by (configuration_set p.ofst p.attrib p.value) registers cntlid
 
 -- Fabrics commands on the admin queue of a controller with these properties, by their type: a second
 -- Connect is out of sequence
@@ -77,14 +76,8 @@ fabrics_command registers cntlid entry =
     if fctype_of entry == property_get_type then property_get_of registers (property_of entry) else
     refused invalid_field
 
--- what the effect of an admin command changes
-abbrev pub change_by : ℕ → Effect → Change
-change_by cntlid effect.Nothing = change.Stay
-change_by cntlid effect.KeepAlive = change.KeepAlive (record { cntlid = cntlid; kato = None })
-change_by cntlid (effect.KeepAliveTimeout kato) = change.KeepAlive (record { cntlid = cntlid; kato = Some kato })
-
 abbrev pub admin_answered : ℕ → AdminOutcome → Outcome
-admin_answered cntlid (Ok s) = given s.result s.payload (change_by cntlid s.effect)
+admin_answered cntlid (Ok s) = given s.result s.payload (consequence.Update cntlid (update.Command s.effect))
 admin_answered cntlid (Err status) = refused status
 
 -- an admin command of a controller that is ready, or not
@@ -106,7 +99,7 @@ on_admin_queue w cntlid entry =
 
 -- an operation that is to be performed, or a status
 abbrev pub io_answered : Result Operation Status → Outcome
-io_answered (Ok op) = Ok (record { answer = answer.Performed op; change = change.Stay })
+io_answered (Ok op) = Ok (record { answer = answer.Performed op; consequence = consequence.Nothing })
 io_answered (Err status) = refused status
 
 -- a command of a controller of this subsystem that was made through this port; a discovery controller has no I/O queue
@@ -159,18 +152,21 @@ head_counted (Connected role queue) = next_head_of queue
 head_counted Ended = 0
 
 -- the submission queue head that a response carries: a connection without a queue has none, and 0 is sent
-abbrev pub head_after : Session → Change → ℕ
-head_after session (change.Begin b) = next_head b.sqsize 0
-head_after session (change.Join j) = next_head j.sqsize 0
-head_after session change.Stay = head_counted session
-head_after session (change.Configure s) = head_counted session
-head_after session (change.KeepAlive start) = head_counted session
+abbrev pub head_after : Session → Consequence → ℕ
+head_after session (consequence.Begin b) = next_head b.sqsize 0
+head_after session (consequence.Join j) = next_head j.sqsize 0
+head_after session _ = head_counted session
 
 abbrev pub reply_of : Session → ℕ → Outcome → Reply
-reply_of session cid (Ok s) = record { cid = cid; sqhd = head_after session s.change; answer = s.answer; change = s.change }
+reply_of session cid (Ok s) = record {
+  cid = cid;
+  sqhd = head_after session s.consequence;
+  answer = s.answer;
+  consequence = s.consequence;
+}
 reply_of session cid (Err r) = record {
   cid = cid;
-  sqhd = head_after session change.Stay;
+  sqhd = head_after session consequence.Nothing;
   answer = answer.Given (record { status = r.status; result = r.result; «data» = None });
-  change = change.Stay;
+  consequence = consequence.Nothing;
 }

@@ -6,16 +6,16 @@ use Rattle.fabrics_connect.specs.declared.decision.AdmitAs.TheVariants as admit
 use Rattle.fabrics_connect.specs.declared.decision.Decision.{Decision}
 use Rattle.fabrics_connect.specs.declared.decision.Decision.TheVariants.{Admit, Deny}
 use Rattle.pdu_codec.specs.Sqe.{connect_of}
-use Rattle.target_decision.specs.declared.decision.Change.TheVariants as change
+use Rattle.target_decision.specs.declared.consequence.Consequence.TheVariants as consequence
 use Rattle.target_decision.specs.Outcome.{Outcome, done}
 use Rattle.target_decision.specs.World.{World}
 
 -- the controller or the queue that is admitted for this entry; its result is the controller's identifier
 abbrev pub admitted : AdmitAs → List ℕ → Outcome
 admitted (admit.Controller new) entry =
-    done new.cntlid (change.Begin (record { controller = new; sqsize = (connect_of entry).sqsize; kato = (connect_of entry).kato }))
+    done new.cntlid (consequence.Begin (record { controller = new; sqsize = (connect_of entry).sqsize; kato = (connect_of entry).kato }))
 admitted (admit.Queue cntlid qid) entry =
-    done cntlid (change.Join (record { cntlid = cntlid; qid = qid; sqsize = (connect_of entry).sqsize }))
+    done cntlid (consequence.Join (record { cntlid = cntlid; qid = qid; sqsize = (connect_of entry).sqsize }))
 
 abbrev pub answered : Decision → List ℕ → Outcome
 answered (Admit admission) entry = admitted admission entry

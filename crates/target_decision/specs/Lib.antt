@@ -2,6 +2,7 @@ pub mod Act
 pub mod Begin
 pub mod Capsule
 pub mod Connect
+pub mod Consequence
 pub mod Controller
 pub mod Data
 pub mod Decision

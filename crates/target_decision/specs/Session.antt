@@ -1,11 +1,12 @@
 -- How far target and host have come on a connection.
-use Rattle.std.specs.Prelude.{ℕ, Bool, true, false}
+use Rattle.std.specs.Prelude.{ℕ, Bool, true, false, Option, Some, None}
 use Rattle.target_decision.specs.declared.session.Conversation.{Conversation}
+use Rattle.target_decision.specs.declared.session.Role.{Role}
 use Rattle.target_decision.specs.declared.session.Role.TheVariants.{Admin, Io}
 use Rattle.target_decision.specs.declared.session.Session.{Session}
 use Rattle.target_decision.specs.declared.session.Session.TheVariants.{Opened, Initialized, Connected, Ended}
-use Rattle.target_decision.specs.declared.decision.Change.{Change}
-use Rattle.target_decision.specs.declared.decision.Change.TheVariants as change
+use Rattle.target_decision.specs.declared.consequence.Consequence.{Consequence}
+use Rattle.target_decision.specs.declared.consequence.Consequence.TheVariants as consequence
 use Rattle.target_decision.specs.declared.decision.Decision.{Decision}
 use Rattle.target_decision.specs.declared.decision.Decision.TheVariants as decision
 use Rattle.target_decision.specs.Queue.{new_queue, responded}
@@ -21,6 +22,11 @@ is_ended Initialized = false
 is_ended (Connected role queue) = false
 is_ended Ended = true
 
+-- which queue it is, where it is one
+abbrev pub role_in : Session → Option Role
+role_in (Connected role queue) = Some role
+role_in _ = None
+
 -- ---- where a decision leads it
 
 -- a response is counted on a connection that has a queue
@@ -30,17 +36,15 @@ responded_in Opened = Opened
 responded_in Initialized = Initialized
 responded_in Ended = Ended
 
--- a reply, by what it changes: after a Connect the connection is the queue that it asked for, the response
+-- a reply, by what follows from it: after a Connect the connection is the queue that it asked for, the response
 -- counted
-abbrev pub replied : Change → Session → Session
-replied (change.Begin b) session = Connected (Admin b.controller.cntlid) (responded (new_queue b.sqsize))
-replied (change.Join j) session = Connected (Io j.cntlid j.qid) (responded (new_queue j.sqsize))
-replied change.Stay session = responded_in session
-replied (change.Configure s) session = responded_in session
-replied (change.KeepAlive start) session = responded_in session
+abbrev pub replied : Consequence → Session → Session
+replied (consequence.Begin b) session = Connected (Admin b.controller.cntlid) (responded (new_queue b.sqsize))
+replied (consequence.Join j) session = Connected (Io j.cntlid j.qid) (responded (new_queue j.sqsize))
+replied _ session = responded_in session
 
 abbrev pub session_after : Session → Decision → Session
 session_after session decision.Initialize = Initialized
-session_after session (decision.Reply r) = replied r.change session
+session_after session (decision.Reply r) = replied r.consequence session
 session_after session (decision.Terminate t) = Ended
 session_after session decision.Close = Ended

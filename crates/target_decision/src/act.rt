@@ -12,8 +12,9 @@ ghost use Rattle.target_decision.specs.Decision.{PerformsWithin, consumed_of, da
 ghost use Rattle.target_decision.specs.Session.{session_after};
 ghost use Rattle.target_decision.specs.World.{world_in};
 
+use crate::consequence::Consequence;
 use crate::data::{Data, len_in};
-use crate::decision::{Answer, Change, Decision, Reply};
+use crate::decision::{Answer, Decision, Reply};
 use crate::session::Session;
 use crate::wire::{self, WIRE_MAX, head_of};
 use crate::world::World;
@@ -81,8 +82,8 @@ pub fn new_row(
     let Decision::Reply(reply) = decision else {
         return Ok(None);
     };
-    match (&reply.change, front) {
-        (Change::Begin(beginning), Cut::Pdu(pdu)) => {
+    match (&reply.consequence, front) {
+        (Consequence::Begin(beginning), Cut::Pdu(pdu)) => {
             let row = row_in(alloc, port, &beginning.controller, pdu)?;
             Ok(Some(row))
         }

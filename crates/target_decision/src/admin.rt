@@ -1,12 +1,12 @@
 //! Admin commands of a controller that is ready.
 ghost use Rattle.std.specs.Prelude.{◌≡◌};
-ghost use Rattle.target_decision.specs.Capsule.{admin_answered, admin_at, change_by};
+ghost use Rattle.target_decision.specs.Capsule.{admin_answered, admin_at};
 ghost use Rattle.target_decision.specs.World.{world_in};
 
 use crate::capsule::{Outcome, given, is_ready, refused};
-use crate::decision::{Change, TimerStart};
+use crate::consequence::{Consequence, Update};
 use crate::world::World;
-use admin_queue::{Effect, admin};
+use admin_queue::admin;
 use nvt_fields::Status;
 use pdu_codec::Sqe;
 
@@ -22,7 +22,7 @@ pub(crate) fn command(world: &World<'_>, cntlid: u16, sqe: &Sqe<'_>) -> Outcome
     }
 }
 
-// The outcome of a command of this controller, with what it changes.
+// The outcome of a command of this controller, with what it changes of it.
 fn answered(cntlid: u16, outcome: admin_queue::Outcome) -> Outcome
     ensures { result ≡ admin_answered cntlid outcome }
 {
@@ -30,21 +30,11 @@ fn answered(cntlid: u16, outcome: admin_queue::Outcome) -> Outcome
         Ok(success) => given(
             success.result,
             success.payload,
-            change_by(cntlid, &success.effect),
+            Consequence::Update {
+                cntlid,
+                update: Update::Command(success.effect),
+            },
         ),
         Err(status) => refused(status),
-    }
-}
-
-fn change_by(cntlid: u16, effect: &Effect) -> Change
-    ensures { result ≡ change_by cntlid effect.now }
-{
-    match *effect {
-        Effect::Nothing => Change::Stay,
-        Effect::KeepAlive => Change::KeepAlive(TimerStart { cntlid, kato: None }),
-        Effect::KeepAliveTimeout(kato) => Change::KeepAlive(TimerStart {
-            cntlid,
-            kato: Some(kato),
-        }),
     }
 }

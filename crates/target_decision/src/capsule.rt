@@ -8,7 +8,8 @@ ghost use Rattle.target_decision.specs.Decision.{capsule};
 ghost use Rattle.target_decision.specs.Outcome.{done, given, refused};
 ghost use Rattle.target_decision.specs.World.{world_in};
 
-use crate::decision::{Answer, Change, Decision, Given, Reply, terminate};
+use crate::consequence::Consequence;
+use crate::decision::{Answer, Decision, Given, Reply, terminate};
 use crate::fabrics::{CONNECT, FABRICS};
 use crate::queue::next_head;
 use crate::session::{Conversation, Role, Session};
@@ -23,14 +24,14 @@ use pdu_cut::PduView;
 /// The most bytes of data that a capsule may bring.
 const IN_CAPSULE_MAX: usize = 8_192;
 
-/// A command's outcome: what it is answered and what it changes, or its refusal.
+/// A command's outcome: what it is answered and what follows from it, or its refusal.
 pub(crate) type Outcome = Result<Success, Refusal>;
 
 /// What a command that is not refused gives.
 #[derive(Clone, Copy)]
 pub(crate) struct Success {
     pub answer: Answer,
-    pub change: Change,
+    pub consequence: Consequence,
 }
 
 /// A command's status, other than success, and its result.
@@ -123,30 +124,30 @@ fn reply(session: &Session, cid: u16, outcome: Outcome) -> Reply
     match outcome {
         Ok(success) => Reply {
             cid,
-            sqhd: head_after(session, &success.change),
+            sqhd: head_after(session, &success.consequence),
             answer: success.answer,
-            change: success.change,
+            consequence: success.consequence,
         },
         Err(refusal) => Reply {
             cid,
-            sqhd: head_after(session, &Change::Stay),
+            sqhd: head_after(session, &Consequence::Nothing),
             answer: Answer::Given(Given {
                 status: refusal.status,
                 result: refusal.result,
                 data: None,
             }),
-            change: Change::Stay,
+            consequence: Consequence::Nothing,
         },
     }
 }
 
 // A connection without a queue has no head: 0 is sent.
-fn head_after(session: &Session, change: &Change) -> u16
-    ensures { result ≡ head_after session.now change.now }
+fn head_after(session: &Session, consequence: &Consequence) -> u16
+    ensures { result ≡ head_after session.now consequence.now }
 {
-    match (session, change) {
-        (_, Change::Begin(beginning)) => next_head(beginning.sqsize, 0),
-        (_, Change::Join(joining)) => next_head(joining.sqsize, 0),
+    match (session, consequence) {
+        (_, Consequence::Begin(beginning)) => next_head(beginning.sqsize, 0),
+        (_, Consequence::Join(joining)) => next_head(joining.sqsize, 0),
         (Session::Connected { queue, .. }, _) => queue.next_head(),
         _ => 0,
     }
@@ -158,15 +159,15 @@ pub(crate) fn refused(status: Status) -> Outcome
     Err(Refusal { status, result: 0 })
 }
 
-pub(crate) fn done(value: u64, change: Change) -> Outcome
-    ensures { result ≡ done value change }
+pub(crate) fn done(value: u64, consequence: Consequence) -> Outcome
+    ensures { result ≡ done value consequence }
 {
-    given(value, None, change)
+    given(value, None, consequence)
 }
 
 /// What succeeds with this result and this data.
-pub(crate) fn given(value: u64, payload: Option<Payload>, change: Change) -> Outcome
-    ensures { result ≡ given value payload change }
+pub(crate) fn given(value: u64, payload: Option<Payload>, consequence: Consequence) -> Outcome
+    ensures { result ≡ given value payload consequence }
 {
     Ok(Success {
         answer: Answer::Given(Given {
@@ -174,6 +175,6 @@ pub(crate) fn given(value: u64, payload: Option<Payload>, change: Change) -> Out
             result: value,
             data: payload,
         }),
-        change,
+        consequence,
     })
 }

@@ -4,7 +4,7 @@ ghost use Rattle.target_decision.specs.Connect.{admitted, connect_on};
 ghost use Rattle.target_decision.specs.World.{world_in};
 
 use crate::capsule::{Outcome, Refusal, done};
-use crate::decision::{Beginning, Change, Joining};
+use crate::consequence::{Beginning, Consequence, Joining};
 use crate::world::World;
 use fabrics_connect::{AdmitAs, Connect, Decision, decide};
 use pdu_codec::Sqe;
@@ -28,7 +28,7 @@ fn admitted(admission: &AdmitAs, sqe: &Sqe<'_>) -> Outcome
     match *admission {
         AdmitAs::Controller(controller) => done(
             u64::from(controller.cntlid),
-            Change::Begin(Beginning {
+            Consequence::Begin(Beginning {
                 controller,
                 sqsize,
                 kato,
@@ -36,7 +36,7 @@ fn admitted(admission: &AdmitAs, sqe: &Sqe<'_>) -> Outcome
         ),
         AdmitAs::Queue { cntlid, qid } => done(
             u64::from(cntlid),
-            Change::Join(Joining {
+            Consequence::Join(Joining {
                 cntlid,
                 qid,
                 sqsize,

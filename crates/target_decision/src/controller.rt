@@ -1,8 +1,9 @@
 //! A controller, as far as its own admin queue alone uses it.
 ghost use Rattle.std.specs.Prelude.{◌≡◌};
-ghost use Rattle.target_decision.specs.Controller.{new_controller, with_property, with_timer};
+ghost use Rattle.target_decision.specs.Controller.{new_controller, updated};
 
-use pdu_codec::Property;
+use crate::consequence::Update;
+use admin_queue::Effect;
 use property_regs::{ControllerKind, Regs};
 
 /// What a controller has beside what other connections may see of it.
@@ -27,20 +28,26 @@ impl Controller {
         }
     }
 
-    /// Sets a property.
-    pub fn set(&mut self, property: &Property)
-        ensures { self.new ≡ with_property property.now self.old }
+    /// Changes as a command on its admin queue says, when the clock shows `now`.
+    pub fn update(&mut self, update: &Update, now: u64)
+        ensures { self.new ≡ updated update.now now self.old }
     {
-        let _ = self
-            .registers
-            .set(property.ofst, property.attrib, property.value);
+        match update {
+            Update::Configuration(set) => self.registers.configure(set.cc),
+            Update::Command(effect) => self.follow(effect, now),
+        }
     }
 
-    /// Starts its Keep Alive Timer again, with this timeout, in ms, where one is set.
-    pub fn keep_alive(&mut self, kato: Option<u32>, now: u64)
-        ensures { self.new ≡ with_timer kato now self.old }
+    fn follow(&mut self, effect: &Effect, now: u64)
+        ensures { self.new ≡ updated (Update.Command effect.now) now self.old }
     {
-        self.kato = kato.unwrap_or(self.kato);
-        self.mark = now;
+        match effect {
+            Effect::Nothing => {}
+            Effect::KeepAlive => self.mark = now,
+            Effect::KeepAliveTimeout(kato) => {
+                self.kato = *kato;
+                self.mark = now;
+            }
+        }
     }
 }

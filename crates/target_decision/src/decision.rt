@@ -7,13 +7,13 @@ ghost use Rattle.target_decision.specs.Decision.{PerformsWithin, is_end, next_by
 ghost use Rattle.target_decision.specs.World.{world_in};
 
 use crate::capsule;
+use crate::consequence::Consequence;
 use crate::session::{Conversation, Session};
 use crate::world::World;
 use admin_queue::Payload;
-use fabrics_connect::NewController;
 use io_queue::Operation;
 use nvt_fields::{FatalErrorStatus, PduType, Status};
-use pdu_codec::{IcReq, Property};
+use pdu_codec::IcReq;
 use pdu_cut::{Cut, PduView};
 
 /// The offset of the transfer tag in an H2CData.
@@ -49,14 +49,14 @@ pub struct Termination {
     pub fei: u32,
 }
 
-/// The answer to a command, and what it changes.
+/// The answer to a command, and what follows from it.
 #[derive(Clone, Copy)]
 pub struct Reply {
     pub cid: u16,
     /// Submission queue head.
     pub sqhd: u16,
     pub answer: Answer,
-    pub change: Change,
+    pub consequence: Consequence,
 }
 
 /// What a reply says.
@@ -73,58 +73,6 @@ pub struct Given {
     pub status: Status,
     pub result: u64,
     pub data: Option<Payload>,
-}
-
-/// What a reply changes beside the count of responses.
-#[derive(Clone, Copy)]
-pub enum Change {
-    Stay,
-    /// A Connect makes a controller, and the connection its admin queue.
-    Begin(Beginning),
-    /// A Connect makes the connection an I/O queue.
-    Join(Joining),
-    /// A Property Set sets Controller Configuration.
-    Configure(Setting),
-    /// A Keep Alive, or a Set Features, starts the Keep Alive Timer of a controller again.
-    KeepAlive(TimerStart),
-}
-
-/// The controller that a Connect makes, and its admin queue.
-#[derive(Clone, Copy)]
-pub struct Beginning {
-    pub controller: NewController,
-    /// The size of the submission queue, 0's based: 1 to 63.
-    pub sqsize: u16,
-    /// Keep alive timeout, in ms.
-    pub kato: u32,
-}
-
-/// The I/O queue that a Connect makes.
-#[derive(Clone, Copy)]
-pub struct Joining {
-    pub cntlid: u16,
-    /// The queue's identifier, 1 to 8.
-    pub qid: u16,
-    /// The size of the submission queue, 0's based: 1 to 63.
-    pub sqsize: u16,
-}
-
-/// What a Property Set does to a controller.
-#[derive(Clone, Copy)]
-pub struct Setting {
-    pub cntlid: u16,
-    /// The property that it sets.
-    pub property: Property,
-    /// What that does to the controller.
-    pub effect: property_regs::Change,
-}
-
-/// A start of a controller's Keep Alive Timer.
-#[derive(Clone, Copy)]
-pub struct TimerStart {
-    pub cntlid: u16,
-    /// The keep alive timeout, in ms, where it is set anew.
-    pub kato: Option<u32>,
 }
 
 /// What is owed to what stands at the front of a connection's stream.

@@ -3,10 +3,10 @@ ghost use Rattle.std.specs.Prelude.{◌≡◌};
 ghost use Rattle.target_decision.specs.Capsule.{fabrics_command, property_get_of, property_set_of};
 
 use crate::capsule::{Outcome, done, refused};
-use crate::decision::{Change, Setting};
+use crate::consequence::{ConfigurationSet, Consequence, Update};
 use nvt_fields::Status;
 use pdu_codec::{Property, Sqe};
-use property_regs::{InvalidField, Regs};
+use property_regs::{InvalidField, Regs, configuration_set};
 
 /// The opcode of all Fabrics commands.
 pub(crate) const FABRICS: u8 = 0x7F;
@@ -34,7 +34,7 @@ fn property_get(registers: &Regs, property: &Property) -> Outcome
     ensures { result ≡ property_get_of registers.now property.now }
 {
     match registers.get(property.ofst, property.attrib) {
-        Ok(value) => done(value, Change::Stay),
+        Ok(value) => done(value, Consequence::Nothing),
         Err(InvalidField) => refused(Status::INVALID_FIELD),
     }
 }
@@ -42,16 +42,12 @@ fn property_get(registers: &Regs, property: &Property) -> Outcome
 fn property_set(registers: &Regs, cntlid: u16, property: &Property) -> Outcome
     ensures { result ≡ property_set_of registers.now cntlid property.now }
 {
-    let mut after = *registers;
-    match after.set(property.ofst, property.attrib, property.value) {
-        Ok(effect) => done(
-            0,
-            Change::Configure(Setting {
-                cntlid,
-                property: *property,
-                effect,
-            }),
-        ),
+    match configuration_set(property.ofst, property.attrib, property.value) {
+        Ok(cc) => {
+            let change = registers.change_by(cc);
+            let update = Update::Configuration(ConfigurationSet { cc, change });
+            done(0, Consequence::Update { cntlid, update })
+        }
         Err(InvalidField) => refused(Status::INVALID_FIELD),
     }
 }

@@ -5,7 +5,8 @@ ghost use Rattle.target_decision.specs.Capsule.{io_answered, io_at, io_by};
 ghost use Rattle.target_decision.specs.World.{world_in};
 
 use crate::capsule::{Outcome, Success, refused};
-use crate::decision::{Answer, Change};
+use crate::consequence::Consequence;
+use crate::decision::Answer;
 use crate::world::World;
 use fabrics_connect::Row;
 use io_queue::{IoController, Operation, decide};
@@ -50,7 +51,7 @@ fn answered(decided: Result<Operation, Status>) -> Outcome
     match decided {
         Ok(operation) => Ok(Success {
             answer: Answer::Performed(operation),
-            change: Change::Stay,
+            consequence: Consequence::Nothing,
         }),
         Err(status) => refused(status),
     }

@@ -3,7 +3,8 @@ ghost use Rattle.std.specs.Prelude.{◌≡◌};
 ghost use Rattle.target_decision.specs.Queue.{new_queue, responded};
 ghost use Rattle.target_decision.specs.Session.{is_ended, opened_on, replied, session_after};
 
-use crate::decision::{Change, Decision};
+use crate::consequence::Consequence;
+use crate::decision::Decision;
 use crate::queue::Queue;
 
 /// A connection, as far as a decision may look at it.
@@ -55,25 +56,26 @@ impl Session {
     {
         match decision {
             Decision::Initialize => *self = Session::Initialized,
-            Decision::Reply(reply) => self.reply(&reply.change),
+            Decision::Reply(reply) => self.reply(&reply.consequence),
             Decision::Terminate(_) | Decision::Close => *self = Session::Ended,
         }
     }
 
-    // Counts a response, and changes as it says. On a connection that has no queue nothing counts it.
-    fn reply(&mut self, change: &Change)
-        ensures { self.new ≡ replied change.now self.old }
+    // Counts a response, and becomes the queue that it makes. On a connection that has no queue nothing
+    // counts it.
+    fn reply(&mut self, consequence: &Consequence)
+        ensures { self.new ≡ replied consequence.now self.old }
     {
-        match change {
-            Change::Begin(beginning) => {
+        match consequence {
+            Consequence::Begin(beginning) => {
                 let cntlid = beginning.controller.cntlid;
                 self.connect(Role::Admin { cntlid }, beginning.sqsize);
             }
-            Change::Join(joining) => {
+            Consequence::Join(joining) => {
                 let (cntlid, qid) = (joining.cntlid, joining.qid);
                 self.connect(Role::Io { cntlid, qid }, joining.sqsize);
             }
-            Change::Stay | Change::Configure(_) | Change::KeepAlive(_) => {
+            Consequence::Nothing | Consequence::Update { .. } => {
                 if let Session::Connected { queue, .. } = self {
                     queue.responded();
                 }

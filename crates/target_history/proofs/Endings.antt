@@ -7,25 +7,29 @@ use Rattle.config_rules.specs.Configuration.{Configuration}
 use Rattle.fabrics_connect.specs.declared.row.Row.{Row}
 use Rattle.fabrics_connect.specs.Permitted.{is_permitted, may_use_named}
 use Rattle.pdu_cut.specs.Front.{Front}
-use Rattle.property_regs.specs.declared.regs.Change.TheVariants as effect
+use Rattle.property_regs.specs.declared.regs.Change.TheVariants as change
+use Rattle.property_regs.specs.declared.regs.Change.{Change}
 use Rattle.target_decision.specs.declared.controller.Controller.{Controller}
-use Rattle.target_decision.specs.declared.decision.Change.{Change}
-use Rattle.target_decision.specs.declared.decision.Change.TheVariants as change
+use Rattle.target_decision.specs.declared.consequence.Consequence.{Consequence}
+use Rattle.target_decision.specs.declared.consequence.ConfigurationSet.{ConfigurationSet}
+use Rattle.target_decision.specs.declared.consequence.Consequence.TheVariants as consequence
+use Rattle.target_decision.specs.declared.consequence.Update.{Update}
+use Rattle.target_decision.specs.declared.consequence.Update.TheVariants as update
 use Rattle.target_decision.specs.declared.decision.Decision.{Decision}
 use Rattle.target_decision.specs.declared.decision.Decision.TheVariants as decision
-use Rattle.target_decision.specs.declared.decision.Setting.{Setting}
 use Rattle.target_decision.specs.declared.session.Conversation.{Conversation}
 use Rattle.target_decision.specs.declared.session.Role.{Role}
 use Rattle.target_decision.specs.declared.session.Role.TheVariants.{Admin, Io}
 use Rattle.target_decision.specs.declared.session.Session.{Session}
 use Rattle.target_decision.specs.declared.session.Session.TheVariants.{Opened, Initialized, Connected, Ended}
+use Rattle.target_decision.specs.Controller.{restarts}
 use Rattle.target_decision.specs.World.{World}
 use Rattle.target_history.specs.declared.ending.Ending.{Ending}
 use Rattle.target_history.specs.declared.ending.Ending.TheVariants as ending
-use Rattle.target_history.specs.Ending.{ending_changed, ending_edited, ending_lost, ending_set, ends_by, ends_role, ends_row, ends_row_at, ends_session, ends_timer, is_barred, is_on_port}
+use Rattle.target_history.specs.Ending.{ending_edited, ending_lost, ending_replied, ending_set, ends_by, ends_role, ends_row, ends_row_at, ends_session, ends_timer, is_barred, is_on_port}
 use Rattle.target_history.specs.Event.{Event, edited, front_in, opened, stepped, steps, given_up, ticked}
-use Rattle.target_history.specs.Happening.{Happening, change_decided, change_of, decided, decided_on, decision_of, ending_by, ending_given_up, ending_of, ending_taken, ends_live, is_end_decided, row_kept, stepping}
-use Rattle.target_history.specs.History.{Opening, beats_by, clock_of, config_of, controller_of, conversation_of, happened, mark_of, meets_after, row_of}
+use Rattle.target_history.specs.Happening.{Happening, Start, begins, begins_by, consequence_decided, consequence_of, decided, decided_on, decision_of, ending_by, ending_given_up, ending_of, ending_taken, ends_live, is_end_decided, row_kept, started, stepping, updates}
+use Rattle.target_history.specs.History.{Opening, clock_of, config_of, controller_of, conversation_of, happened, mark_of, meets_after, part_after, row_of}
 use Rattle.target_history.specs.Laws.{EditsEndControllers, NothingExpiresWithoutTicks, PermittedOutliveEdits, ResetsEndTheirQueuesAlone, StaysPermitted, deletes, has_ticks, is_io_queue_of, is_queue_of, is_role_of, is_tick}
 use Rattle.target_history.proofs.Lives.{controller_step, row_step}
 use Rattle.target_history.proofs.Steps.{conversation_step}
@@ -43,18 +47,18 @@ decided_is (stepped n front m) w conversation k h = ap (λ (j : ℕ). decided_on
 
 -- ---- a reset
 
-taken_is : (o : Option Conversation) (w : World) (front : Front) (d : Option Decision) (ch : Change) → decided_on w o front ≡ d
-    → change_decided d ≡ ch → (ch ≡ change.Stay → ⊥) → ending_taken o d ≡ ending_changed ch
-taken_is None w front d ch is h changes = absurd (changes (sym h ∙ ap change_decided (sym is)))
+taken_is : (o : Option Conversation) (w : World) (front : Front) (d : Option Decision) (ch : Consequence) → decided_on w o front ≡ d
+    → consequence_decided d ≡ ch → (ch ≡ consequence.Nothing → ⊥) → ending_taken o d ≡ ending_replied ch
+taken_is None w front d ch is h changes = absurd (changes (sym h ∙ ap consequence_decided (sym is)))
 taken_is (Some v) w front None ch is h changes = absurd (changes (sym h))
 taken_is (Some v) w front (Some decision.Initialize) ch is h changes = absurd (changes (sym h))
-taken_is (Some v) w front (Some (decision.Reply r)) ch is h changes = ap ending_changed h
+taken_is (Some v) w front (Some (decision.Reply r)) ch is h changes = ap ending_replied h
 taken_is (Some v) w front (Some (decision.Terminate t)) ch is h changes = absurd (changes (sym h))
 taken_is (Some v) w front (Some decision.Close) ch is h changes = absurd (changes (sym h))
 
-ending_by_is : (event : Event) (w : World) (conversation : ℕ → Option Conversation) (clock : ℕ) (ch : Change)
-    → change_decided (decided_on w (stepping event conversation) (front_in event)) ≡ ch → (ch ≡ change.Stay → ⊥)
-    → ending_by event conversation (decided_on w (stepping event conversation) (front_in event)) clock ≡ ending_changed ch
+ending_by_is : (event : Event) (w : World) (conversation : ℕ → Option Conversation) (clock : ℕ) (ch : Consequence)
+    → consequence_decided (decided_on w (stepping event conversation) (front_in event)) ≡ ch → (ch ≡ consequence.Nothing → ⊥)
+    → ending_by event conversation (decided_on w (stepping event conversation) (front_in event)) clock ≡ ending_replied ch
 ending_by_is (edited edit) w conversation clock ch h changes = absurd (changes (sym h))
 ending_by_is (opened port n) w conversation clock ch h changes = absurd (changes (sym h))
 ending_by_is (given_up n) w conversation clock ch h changes = absurd (changes (sym h))
@@ -62,26 +66,25 @@ ending_by_is (ticked now) w conversation clock ch h changes = absurd (changes (s
 ending_by_is (stepped n front m) w conversation clock ch h changes =
     taken_is (conversation n) w front (decided_on w (conversation n) front) ch refl h changes
 
--- what an event ends that changes something, by the change alone
-pub change_ends : (x : Happening) (ch : Change) → change_of x ≡ ch → (ch ≡ change.Stay → ⊥) → ending_of x ≡ ending_changed ch
-change_ends x ch h changes = ending_by_is x.event x.world x.conversation x.clock ch h changes
+-- what an event ends where something follows from its reply, by that alone
+pub reply_ends : (x : Happening) (ch : Consequence) → consequence_of x ≡ ch → (ch ≡ consequence.Nothing → ⊥) → ending_of x ≡ ending_replied ch
+reply_ends x ch h changes = ending_by_is x.event x.world x.conversation x.clock ch h changes
 
-reset_ends : (x : Happening) (s : Setting) → change_of x ≡ change.Configure s → s.effect ≡ effect.Reset → ending_of x ≡ ending.Reset s.cntlid
-reset_ends x s h resets = change_ends x (change.Configure s) h (λ is. cc) ∙ ap (λ (e : _). ending_set e s.cntlid) resets
+reset_ends : (x : Happening) (d : ℕ) (s : ConfigurationSet) → consequence_of x ≡ consequence.Update d (update.Configuration s) → s.change ≡ change.Reset
+    → ending_of x ≡ ending.Reset d
+reset_ends x d s h resets = reply_ends x (consequence.Update d (update.Configuration s)) h (λ is. cc) ∙ ap (λ (e : Change). ending_set e d) resets
 
-no_end : (d : Option Decision) (s : Setting) → change_decided d ≡ change.Configure s → is_end_decided d ≡ false
-no_end None s h = refl
-no_end (Some decision.Initialize) s h = refl
-no_end (Some (decision.Reply r)) s h = refl
-no_end (Some (decision.Terminate t)) s h = cc
-no_end (Some decision.Close) s h = cc
+no_end : (d : Option Decision) (c : ℕ) (u : Update) → consequence_decided d ≡ consequence.Update c u → is_end_decided d ≡ false
+no_end (Some (decision.Terminate t)) c u h = cc
+no_end (Some decision.Close) c u h = cc
+no_end _ c u h = refl
 
--- no step that resets ends its own connection
-goes_on : (x : Happening) (k : ℕ) (s : Setting) → change_of x ≡ change.Configure s → is_end_decided (decided x k) ≡ false
-goes_on x k s h = by (steps x.event k) refl where
+-- no step that changes a controller ends its own connection
+goes_on : (x : Happening) (k c : ℕ) (u : Update) → consequence_of x ≡ consequence.Update c u → is_end_decided (decided x k) ≡ false
+goes_on x k c u h = by (steps x.event k) refl where
   by : (stepping : Bool) → steps x.event k ≡ stepping
       → is_end_decided (if stepping then decided_on x.world (x.conversation k) (front_in x.event) else None) ≡ false
-  by true is = ap is_end_decided (decided_is x.event x.world x.conversation k is) ∙ no_end (decision_of x) s h
+  by true is = ap is_end_decided (decided_is x.event x.world x.conversation k is) ∙ no_end (decision_of x) c u h
   by false is = refl
 
 no_row_reset : (c d : ℕ) (config : Configuration) (o : Option Row) → ends_row_at (ending.Reset c) config d o ≡ false
@@ -93,20 +96,18 @@ none_reset x c d is = rw (is, no_row_reset c d) refl
 
 session_reset : (c : ℕ) (gone : ℕ → Bool) (session : Session) → ((d : ℕ) → gone d ≡ false)
     → ends_session (ending.Reset c) gone session ≡ is_io_queue_of c session
-session_reset c gone Opened none = refl
-session_reset c gone Initialized none = refl
 session_reset c gone (Connected (Admin d) queue) none = none d
 session_reset c gone (Connected (Io d q) queue) none = rw (none d) refl
-session_reset c gone Ended none = refl
+session_reset c gone _ none = refl
 
 pub resets_end_their_queues_alone : ResetsEndTheirQueuesAlone
 resets_end_their_queues_alone = record {
-  connections = λ x s k v sets resets met.
-      let is : ending_of x ≡ ending.Reset s.cntlid = reset_ends x s sets resets in
-      let here : ends_by (ending.Reset s.cntlid) (ends_live x) v ≡ is_io_queue_of s.cntlid v.session =
-      session_reset s.cntlid (ends_live x) v.session (λ d. none_reset x s.cntlid d is) in
-      rw (goes_on x k s sets, met) (ap (λ (e : Ending). ends_by e (ends_live x) v) is ∙ here);
-  controllers = λ x s c sets resets. none_reset x s.cntlid c (reset_ends x s sets resets);
+  connections = λ x d s k v sets resets met.
+      let is : ending_of x ≡ ending.Reset d = reset_ends x d s sets resets in
+      let here : ends_by (ending.Reset d) (ends_live x) v ≡ is_io_queue_of d v.session =
+      session_reset d (ends_live x) v.session (λ c. none_reset x d c is) in
+      rw (goes_on x k d (update.Configuration s) sets, met) (ap (λ (e : Ending). ends_by e (ends_live x) v) is ∙ here);
+  controllers = λ x d s c sets resets. none_reset x d c (reset_ends x d s sets resets);
 }
 
 -- ---- an edit
@@ -237,46 +238,59 @@ tickless event events h = neither (is_tick event) (has_ticks events) h
 
 clock_stays : (disks : Opening) (events : List Event) → has_ticks events ≡ false → clock_of (happened disks events) ≡ 0
 clock_stays disks [] h = refl
-clock_stays disks (edited edit ∷ events) h = clock_stays disks events h
-clock_stays disks (opened port n ∷ events) h = clock_stays disks events h
-clock_stays disks (stepped n front m ∷ events) h = clock_stays disks events h
-clock_stays disks (given_up n ∷ events) h = clock_stays disks events h
 clock_stays disks (ticked now ∷ events) h = cc
+clock_stays disks (_ ∷ events) h = clock_stays disks events h
+
+-- what begins has the clock of then
+begun_now : (x : Happening) (ch : Consequence) (c : ℕ) (s : Start) → begins_by x ch c ≡ Some s → s.clock ≡ x.clock
+begun_now x (consequence.Begin b) c s h = by (c == b.controller.cntlid) h where
+  by : (same : Bool) → (if same then Some (started x b) else None) ≡ Some s → s.clock ≡ x.clock
+  by true is =
+      let here : started x b ≡ s = cc in
+      ap (λ (t : Start). t.clock) (sym here)
+  by false is = cc
+begun_now x _ c s h = cc
 
 mark_stays : (disks : Opening) (events : List Event) (c : ℕ) → has_ticks events ≡ false → mark_of (happened disks events) c ≡ 0
 mark_stays disks [] c h = refl
 mark_stays disks (event ∷ events) c h =
     let earlier = (tickless event events h).1 in
-    by (beats_by (change_of (meets_after disks (happened disks events) event)) c) (clock_stays disks events earlier) (mark_stays disks events c earlier) where
-      by : (beats : Bool) → clock_of (happened disks events) ≡ 0 → mark_of (happened disks events) c ≡ 0
-          → (if beats then clock_of (happened disks events) else mark_of (happened disks events) c) ≡ 0
-      by true clock mark = clock
-      by false clock mark = mark
+    let x = meets_after disks (happened disks events) event in
+    by (begins x c) (updates x c) refl (clock_stays disks events earlier) (mark_stays disks events c earlier) where
+      now : ℕ
+      now = clock_of (happened disks events)
+
+      restarted : (starts : Bool) (mark : ℕ) → now ≡ 0 → mark ≡ 0 → (if starts then now else mark) ≡ 0
+      restarted true mark clock is = clock
+      restarted false mark clock is = is
+
+      by : (b : Option Start) (u : Option Update) → begins (meets_after disks (happened disks events) event) c ≡ b → now ≡ 0
+          → mark_of (happened disks events) c ≡ 0
+          → part_after (λ (s : Start). s.clock) (λ (u : Update) (m : ℕ). if restarts u then now else m) b u (mark_of (happened disks events) c) ≡ 0
+      by (Some s) u is clock mark =
+          begun_now (meets_after disks (happened disks events) event) (consequence_of (meets_after disks (happened disks events) event)) c s is ∙ clock
+      by None (Some u) is clock mark = restarted (restarts u) (mark_of (happened disks events) c) clock mark
+      by None None is clock mark = mark
 
 lost_no_timer : (s : Session) (o : Option Controller) → ends_timer (ending_lost s) o ≡ false
-lost_no_timer Opened o = refl
-lost_no_timer Initialized o = refl
 lost_no_timer (Connected (Admin c) queue) o = refl
 lost_no_timer (Connected (Io c q) queue) o = refl
-lost_no_timer Ended o = refl
+lost_no_timer _ o = refl
 
-changed_no_timer : (ch : Change) (o : Option Controller) → ends_timer (ending_changed ch) o ≡ false
-changed_no_timer change.Stay o = refl
-changed_no_timer (change.Begin b) o = refl
-changed_no_timer (change.Join j) o = refl
-changed_no_timer (change.KeepAlive c) o = refl
-changed_no_timer (change.Configure s) o = by s.effect where
-  by : (e : _) → ends_timer (ending_set e s.cntlid) o ≡ false
-  by effect.Reset = refl
-  by effect.Enable = refl
-  by effect.Shutdown = refl
-  by effect.Stay = refl
+set_no_timer : (c : ℕ) (e : Change) (o : Option Controller) → ends_timer (ending_set e c) o ≡ false
+set_no_timer c change.Reset o = refl
+set_no_timer c _ o = refl
+
+reply_no_timer : (ch : Consequence) (o : Option Controller) → ends_timer (ending_replied ch) o ≡ false
+reply_no_timer (consequence.Update c (update.Configuration s)) o = set_no_timer c s.change o
+reply_no_timer (consequence.Update c (update.Command e)) o = refl
+reply_no_timer _ o = refl
 
 taken_no_timer : (v : Option Conversation) (d : Option Decision) (o : Option Controller) → ends_timer (ending_taken v d) o ≡ false
 taken_no_timer None d o = refl
 taken_no_timer (Some v) None o = refl
 taken_no_timer (Some v) (Some decision.Initialize) o = refl
-taken_no_timer (Some v) (Some (decision.Reply r)) o = changed_no_timer r.change o
+taken_no_timer (Some v) (Some (decision.Reply r)) o = reply_no_timer r.consequence o
 taken_no_timer (Some v) (Some (decision.Terminate t)) o = lost_no_timer v.session o
 taken_no_timer (Some v) (Some decision.Close) o = lost_no_timer v.session o
 

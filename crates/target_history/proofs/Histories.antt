@@ -1,28 +1,23 @@
 -- Laws of histories.
 use Rattle.std.proofs.Common.{◌≡◌, ◌≤◌, ℕ, ◌+◌, ◌%◌, ◌^◌, Bool, true, false, ◌&&◌, List, [], ◌∷◌, Option, Some, None, refl, append-nil, arith}
-use Rattle.std.specs.Prelude.{if◌then◌else◌, not, ◌==◌}
+use Rattle.std.specs.Prelude.{if◌then◌else◌}
 use Rattle.config_rules.specs.Configuration.{Configuration}
-use Rattle.nvt_fields.specs.declared.pdu_type.PduType.{PduType}
-use Rattle.nvt_fields.specs.declared.pdu_type.PduType.TheVariants.{IcReq, IcResp, H2cTermReq, C2hTermReq, CapsuleCmd, CapsuleResp, H2cData, C2hData, R2t}
-use Rattle.nvt_fields.specs.declared.termination.FatalErrorStatus.TheVariants.{InvalidHeaderField, UnsupportedParameter}
 use Rattle.discovery_view.specs.Page.{discovery_page}
 use Rattle.discovery_view.specs.Records.{records_of}
-use Rattle.pdu_cut.specs.Front.{Front, incomplete, whole, faulty}
-use Rattle.pdu_cut.specs.Pdu.{Pdu, header_part}
-use Rattle.pdu_codec.specs.Initialize.{ic_req_of}
+use Rattle.pdu_cut.specs.Front.{Front}
 use Rattle.target_decision.specs.declared.decision.Decision.{Decision}
-use Rattle.target_decision.specs.declared.decision.Decision.TheVariants as decision
 use Rattle.target_decision.specs.declared.session.Conversation.{Conversation}
 use Rattle.target_decision.specs.declared.session.Session.{Session}
-use Rattle.target_decision.specs.declared.session.Session.TheVariants.{Opened, Initialized, Connected, Ended}
-use Rattle.target_decision.specs.Decision.{decide, decide_in, first_by, next_by, terminate}
+use Rattle.target_decision.specs.declared.session.Session.TheVariants.{Ended}
+use Rattle.target_decision.specs.Decision.{decide}
 use Rattle.target_decision.specs.Session.{is_ended}
 use Rattle.io_queue.specs.Act.{Medium}
 use Rattle.target_decision.specs.World.{World}
-use Rattle.target_history.specs.Event.{Event, edited, front_in, medium_in, opened, opens, steps, stepped, given_up, ticked}
+use Rattle.target_decision.proofs.Deciding.{decision_is}
+use Rattle.target_history.specs.Event.{Event, edited, front_in, medium_in, opens, steps}
 use Rattle.target_history.specs.Happening.{Happening, config_after, decided_on, responses, responses_decided, sends, sends_on}
 use Rattle.target_history.specs.History.{Opening, blocks_of, config_of, generation_after, generation_of, happened, has_ended, is_known, port_of, meets_after, sent, session_of, world_of}
-use Rattle.target_history.specs.Laws.{DeletedPortsEnd, EndedAreSentNothing, PagesChangeByEdits, ResponsesAnswerCapsules, capsules_of, is_capsule, is_command, is_edit, responses_of}
+use Rattle.target_history.specs.Laws.{DeletedPortsEnd, EndedAreSentNothing, PagesChangeByEdits, ResponsesAnswerCapsules, capsules_of, is_capsule, is_edit, responses_of}
 use Rattle.target_history.proofs.Tests.{same_here}
 
 -- ---- an ended connection
@@ -66,49 +61,13 @@ nothing_responds : (capsule : Bool) → 0 ≤ counted capsule
 nothing_responds true = omega arith
 nothing_responds false = omega arith
 
-first_responds : (kind : PduType) (pdu : Pdu) (capsule : Bool) → responses_decided (Some (first_by kind pdu)) ≤ counted capsule
-first_responds IcReq pdu capsule = by (not ((ic_req_of (header_part pdu)).pfv == 0)) (not ((ic_req_of (header_part pdu)).hpda == 0)) where
-  by : (a b : Bool) → responses_decided (Some (if a then terminate UnsupportedParameter 8 else if b then terminate InvalidHeaderField 10 else decision.Initialize)) ≤ counted capsule
-  by true b = omega arith
-  by false true = omega arith
-  by false false = omega arith
-first_responds IcResp pdu capsule = omega arith
-first_responds H2cTermReq pdu capsule = omega arith
-first_responds C2hTermReq pdu capsule = omega arith
-first_responds CapsuleCmd pdu capsule = omega arith
-first_responds CapsuleResp pdu capsule = omega arith
-first_responds H2cData pdu capsule = omega arith
-first_responds C2hData pdu capsule = omega arith
-first_responds R2t pdu capsule = omega arith
-
-one_at_most : (d : Option Decision) → responses_decided d ≤ 1
-one_at_most None = omega arith
-one_at_most (Some decision.Initialize) = omega arith
-one_at_most (Some (decision.Reply r)) = omega arith
-one_at_most (Some (decision.Terminate t)) = omega arith
-one_at_most (Some decision.Close) = omega arith
-
-next_responds : (kind : PduType) (w : World) (v : Conversation) (pdu : Pdu) → responses_decided (Some (next_by kind w v pdu)) ≤ counted (is_command kind)
-next_responds CapsuleCmd w v pdu = one_at_most (Some (next_by CapsuleCmd w v pdu))
-next_responds IcReq w v pdu = omega arith
-next_responds IcResp w v pdu = omega arith
-next_responds H2cTermReq w v pdu = omega arith
-next_responds C2hTermReq w v pdu = omega arith
-next_responds CapsuleResp w v pdu = omega arith
-next_responds H2cData w v pdu = omega arith
-next_responds C2hData w v pdu = omega arith
-next_responds R2t w v pdu = omega arith
-
-in_responds : (s : Session) (w : World) (v : Conversation) (pdu : Pdu) → responses_decided (Some (decide_in s w v pdu)) ≤ counted (is_command pdu.kind)
-in_responds Opened w v pdu = first_responds pdu.kind pdu (is_command pdu.kind)
-in_responds Initialized w v pdu = next_responds pdu.kind w v pdu
-in_responds (Connected role queue) w v pdu = next_responds pdu.kind w v pdu
-in_responds Ended w v pdu = nothing_responds (is_command pdu.kind)
-
 front_responds : (w : World) (v : Conversation) (front : Front) → responses_decided (Some (decide w v front)) ≤ counted (is_capsule front)
-front_responds w v incomplete = omega arith
-front_responds w v (whole pdu) = in_responds v.session w v pdu
-front_responds w v (faulty fault head) = omega arith
+front_responds w v front = decision_is w v front (λ d. responses_decided (Some d) ≤ counted (is_capsule front)) (record {
+  closes = nothing_responds (is_capsule front);
+  terminates = λ t. nothing_responds (is_capsule front);
+  initializes = λ opened. nothing_responds (is_capsule front);
+  replies = λ pdu is kind. rw (is, kind) (omega arith);
+})
 
 decided_responds : (stepping : Bool) (w : World) (o : Option Conversation) (front : Front)
     → responses_decided (if stepping then decided_on w o front else None) ≤ counted (stepping && is_capsule front)
@@ -138,17 +97,11 @@ page_stays : (event : Event) (c : Configuration) (n : ℕ) (host : List ℕ) →
     → discovery_page (generation_after event c host n % 2 ^ 64) (records_of (config_after event c) host)
     ≡ discovery_page (n % 2 ^ 64) (records_of c host)
 page_stays (edited edit) c n host h = cc
-page_stays (opened port k) c n host h = refl
-page_stays (stepped k front m) c n host h = refl
-page_stays (given_up k) c n host h = refl
-page_stays (ticked now) c n host h = refl
+page_stays _ c n host h = refl
 
 config_stays : (event : Event) (c : Configuration) → is_edit event ≡ false → config_after event c ≡ c
 config_stays (edited edit) c h = cc
-config_stays (opened port k) c h = refl
-config_stays (stepped k front m) c h = refl
-config_stays (given_up k) c h = refl
-config_stays (ticked now) c h = refl
+config_stays _ c h = refl
 
 pub pages_change_by_edits : PagesChangeByEdits
 pages_change_by_edits = record {

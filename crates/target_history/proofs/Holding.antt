@@ -4,22 +4,23 @@ use Rattle.std.specs.Prelude.{if◌then◌else◌, ◌==◌, is_some, IsSomeAnd}
 use Rattle.std.specs.Option.{option_map}
 use Rattle.std.proofs.lemmas.List.FromFn.{get_or-map-range_with_len}
 use Rattle.property_regs.specs.declared.regs.Regs.{Regs}
-use Rattle.target_decision.specs.declared.decision.Beginning.{Beginning}
-use Rattle.target_decision.specs.declared.decision.Change.{Change}
-use Rattle.target_decision.specs.declared.decision.Change.TheVariants as change
-use Rattle.target_decision.specs.declared.decision.Joining.{Joining}
+use Rattle.target_decision.specs.declared.consequence.Beginning.{Beginning}
+use Rattle.target_decision.specs.declared.consequence.Consequence.{Consequence}
+use Rattle.target_decision.specs.declared.consequence.Consequence.TheVariants as consequence
+use Rattle.target_decision.specs.declared.consequence.Joining.{Joining}
 use Rattle.target_decision.specs.declared.session.Role.{Role}
 use Rattle.target_decision.specs.declared.session.Role.TheVariants.{Admin, Io}
+use Rattle.target_decision.specs.Consequence.{role_by}
 use Rattle.target_history.specs.declared.ending.Ending.{Ending}
 use Rattle.target_history.specs.declared.ending.Ending.TheVariants as ending
 use Rattle.target_history.specs.Ending.{resets}
 use Rattle.target_history.specs.Event.{Event, edited, opened, stepped, steps, given_up, ticked}
-use Rattle.target_history.specs.Happening.{Happening, Start, begins, begins_by, change_of, conversation_after, ending_of, ends_live, port_at, port_met, started, stepping}
+use Rattle.target_history.specs.Happening.{Happening, Start, begins, begins_by, consequence_of, conversation_after, ending_of, ends_live, port_at, port_met, started, stepping}
 use Rattle.target_history.specs.History.{Opening, conversation_of, drops_by, happened, has_queue, joins_by, meets_after, registers_of, row_of, row_with, start_of, start_or}
 use Rattle.target_history.specs.Laws.{QueuesAreOfOneConnection, role_at, role_of}
 use Rattle.target_history.proofs.Admissions.{AdmitsBy, CanTake, event_admits}
-use Rattle.target_history.proofs.Endings.{change_ends}
-use Rattle.target_history.proofs.Roles.{Comes, LostFrom, Stays, after_is, leaves, loses, nothing_ends, role_by}
+use Rattle.target_history.proofs.Endings.{reply_ends}
+use Rattle.target_history.proofs.Roles.{Comes, LostFrom, Stays, after_is, leaves, loses, nothing_ends}
 use Rattle.target_history.proofs.Steps.{conversation_step}
 use Rattle.target_history.proofs.Tests.{both_same, either_true, flipped, neither, same_here, same_number}
 
@@ -103,27 +104,24 @@ module _ (disks : Opening) (before : List Happening) (event : Event) (earlier : 
   abbrev x : Happening
   x = meets_after disks before event
 
-  abbrev Admitted : Change → Type 0
+  abbrev Admitted : Consequence → Type 0
   Admitted ch = AdmitsBy (row_of before) (role_at (stepping event (conversation_of before))) (port_met x) ch
 
-  admitted : Admitted (change_of x)
+  admitted : Admitted (consequence_of x)
   admitted = event_admits x
 
   -- a controller that lives is not begun again
-  not_begun_by : (ch : Change) (c port : ℕ) → Admitted ch → LivesOn before c port → begins_by x ch c ≡ None
-  not_begun_by (change.Begin b) c port h lives = by (c == b.controller.cntlid) refl where
+  not_begun_by : (ch : Consequence) (c port : ℕ) → Admitted ch → LivesOn before c port → begins_by x ch c ≡ None
+  not_begun_by (consequence.Begin b) c port h lives = by (c == b.controller.cntlid) refl where
     by : (same : Bool) → (c == b.controller.cntlid) ≡ same → (if same then Some (started x b) else None) ≡ None
     by true is =
         let none : row_of before c ≡ None = ap (row_of before) (same_number c b.controller.cntlid is) ∙ h.1 in
         absurd (no_row before c port none lives)
     by false is = refl
-  not_begun_by change.Stay c port h lives = refl
-  not_begun_by (change.Join j) c port h lives = refl
-  not_begun_by (change.Configure s) c port h lives = refl
-  not_begun_by (change.KeepAlive d) c port h lives = refl
+  not_begun_by _ c port h lives = refl
 
   not_begun : (c port : ℕ) → LivesOn before c port → begins x c ≡ None
-  not_begun c port lives = not_begun_by (change_of x) c port admitted lives
+  not_begun c port lives = not_begun_by (consequence_of x) c port admitted lives
 
   lives_on : (c port : ℕ) → LivesOn before c port → ends_live x c ≡ false → LivesOn (x ∷ before) c port
   lives_on c port lives goes =
@@ -143,11 +141,7 @@ module _ (disks : Opening) (before : List Happening) (event : Event) (earlier : 
         let clash : true ≡ false = sym lost.2 ∙ ap (leaves x) one ∙ stays in
         cc
   not_dropped k c q (ending.Reset d) is stays lost kept = flipped c d (neither (ends_live x c) (d == c) kept).1
-  not_dropped k c q ending.Nothing is stays lost kept = refl
-  not_dropped k c q (ending.Port id) is stays lost kept = refl
-  not_dropped k c q ending.Permission is stays lost kept = refl
-  not_dropped k c q (ending.Controller d) is stays lost kept = refl
-  not_dropped k c q (ending.Clock now) is stays lost kept = refl
+  not_dropped k c q _ is stays lost kept = refl
 
   stays_holding : (k : ℕ) (role : Role) → Stays x k role → Holds before (port_at (conversation_of before k)) role
       → Holds (x ∷ before) (port_at (conversation_of before k)) role
@@ -156,48 +150,44 @@ module _ (disks : Opening) (before : List Happening) (event : Event) (earlier : 
       let dropped : drops_by (ending_of x) c q ≡ false = not_dropped k c q (ending_of x) stays.before stays.remains (loses x) stays.kept in (
         lives_on c (port_at (conversation_of before k)) h.0 (neither (ends_live x c) (resets (ending_of x) c) stays.kept).0,
         h.1,
-        queue_kept (joins_by (change_of x) c q) (drops_by (ending_of x) c q) (has_queue before c q) (begins x c) (not_begun c (port_at (conversation_of before k)) h.0) dropped h.2,
+        queue_kept (joins_by (consequence_of x) c q) (drops_by (ending_of x) c q) (has_queue before c q) (begins x c) (not_begun c (port_at (conversation_of before k)) h.0) dropped h.2,
       )
 
-  begins_holding : (b : Beginning) → change_of x ≡ change.Begin b → LivesOn (x ∷ before) b.controller.cntlid (port_met x)
+  begins_holding : (b : Beginning) → consequence_of x ≡ consequence.Begin b → LivesOn (x ∷ before) b.controller.cntlid (port_met x)
   begins_holding b is =
       let c = b.controller.cntlid in
-      let begun : begins x c ≡ Some (started x b) = ap (λ (ch : Change). begins_by x ch c) is ∙ rw (same_here c) refl in
+      let begun : begins x c ≡ Some (started x b) = ap (λ (ch : Consequence). begins_by x ch c) is ∙ rw (same_here c) refl in
       start_begun (begins x c) (if ends_live x c then None else start_of before c) (started x b) (port_met x) begun refl
 
-  joins_holding : (j : Joining) → change_of x ≡ change.Join j → Admitted (change.Join j) → Holds (x ∷ before) (port_met x) (Io j.cntlid j.qid)
+  joins_holding : (j : Joining) → consequence_of x ≡ consequence.Join j → Admitted (consequence.Join j) → Holds (x ∷ before) (port_met x) (Io j.cntlid j.qid)
   joins_holding j is h =
-      let joined : joins_by (change_of x) j.cntlid j.qid ≡ true = ap (λ (ch : Change). joins_by ch j.cntlid j.qid) is ∙ both_same j.cntlid j.qid in (
-        lives_on j.cntlid (port_met x) (may_join before j.cntlid (port_met x) j.qid h.2) (nothing_ends x j.cntlid (change_ends x (change.Join j) is (λ e. cc))),
+      let joined : joins_by (consequence_of x) j.cntlid j.qid ≡ true = ap (λ (ch : Consequence). joins_by ch j.cntlid j.qid) is ∙ both_same j.cntlid j.qid in (
+        lives_on j.cntlid (port_met x) (may_join before j.cntlid (port_met x) j.qid h.2) (nothing_ends x j.cntlid (reply_ends x (consequence.Join j) is (λ e. cc))),
         h.1,
-        either_true (joins_by (change_of x) j.cntlid j.qid) _ joined,
+        either_true (joins_by (consequence_of x) j.cntlid j.qid) _ joined,
       )
 
-  comes_holding : (ch : Change) (role : Role) → change_of x ≡ ch → Admitted ch → role_by ch ≡ Some role → Holds (x ∷ before) (port_met x) role
-  comes_holding (change.Begin b) role is h made =
+  comes_holding : (ch : Consequence) (role : Role) → consequence_of x ≡ ch → Admitted ch → role_by ch ≡ Some role → Holds (x ∷ before) (port_met x) role
+  comes_holding (consequence.Begin b) role is h made =
       let same : Admin b.controller.cntlid ≡ role = cc in
       subst (Holds (x ∷ before) (port_met x)) same (begins_holding b is)
-  comes_holding (change.Join j) role is h made =
+  comes_holding (consequence.Join j) role is h made =
       let same : Io j.cntlid j.qid ≡ role = cc in
       subst (Holds (x ∷ before) (port_met x)) same (joins_holding j is h)
-  comes_holding change.Stay role is h made = cc
-  comes_holding (change.Configure s) role is h made = cc
-  comes_holding (change.KeepAlive c) role is h made = cc
+  comes_holding _ role is h made = cc
 
   -- no connection becomes what another one is
-  not_made : (ch : Change) (port : ℕ) (role : Role) → Admitted ch → role_by ch ≡ Some role → Holds before port role → ⊥
-  not_made (change.Begin b) port role h made held =
+  not_made : (ch : Consequence) (port : ℕ) (role : Role) → Admitted ch → role_by ch ≡ Some role → Holds before port role → ⊥
+  not_made (consequence.Begin b) port role h made held =
       let same : role ≡ Admin b.controller.cntlid = cc in
       no_row before b.controller.cntlid port h.1 (subst (Holds before port) same held)
-  not_made (change.Join j) port role h made held =
+  not_made (consequence.Join j) port role h made held =
       let same : role ≡ Io j.cntlid j.qid = cc in
       let has : has_queue before j.cntlid j.qid ≡ true = (subst (Holds before port) same held).2 in
       let new : has_queue before j.cntlid j.qid ≡ false = has_none before j.cntlid (port_met x) j.qid h.1 h.2 in
       let clash : true ≡ false = sym has ∙ new in
       cc
-  not_made change.Stay port role h made held = cc
-  not_made (change.Configure s) port role h made held = cc
-  not_made (change.KeepAlive c) port role h made held = cc
+  not_made _ port role h made held = cc
 
   after_of : (k : ℕ) (role : Role) → role_of (x ∷ before) k ≡ Some role → Stays x k role ⊎ Comes x k role
   after_of k role h = after_is x k role (ap role_at (sym (conversation_step x before k refl)) ∙ h)
@@ -210,7 +200,7 @@ module _ (disks : Opening) (before : List Happening) (event : Event) (earlier : 
         | inl stays ↦
             subst (λ (p : ℕ). Holds (x ∷ before) p role) (sym (port ∙ stays.same_port)) (stays_holding k role stays (earlier.there k role stays.before))
         | inr comes ↦
-            subst (λ (p : ℕ). Holds (x ∷ before) p role) (sym (port ∙ comes.same_port)) (comes_holding (change_of x) role refl admitted comes.made)
+            subst (λ (p : ℕ). Holds (x ∷ before) p role) (sym (port ∙ comes.same_port)) (comes_holding (consequence_of x) role refl admitted comes.made)
       ]
 
   one_after : (j k : ℕ) (role : Role) → role_of (x ∷ before) j ≡ Some role → role_of (x ∷ before) k ≡ Some role → j ≡ k
@@ -219,11 +209,11 @@ module _ (disks : Opening) (before : List Happening) (event : Event) (earlier : 
         | inl stays ↦
             elim (after_of k role hk) [
               | inl too ↦ earlier.one j k role stays.before too.before
-              | inr comes ↦ absurd (not_made (change_of x) (port_at (conversation_of before j)) role admitted comes.made (earlier.there j role stays.before))
+              | inr comes ↦ absurd (not_made (consequence_of x) (port_at (conversation_of before j)) role admitted comes.made (earlier.there j role stays.before))
             ]
         | inr comes ↦
             elim (after_of k role hk) [
-              | inl stays ↦ absurd (not_made (change_of x) (port_at (conversation_of before k)) role admitted comes.made (earlier.there k role stays.before))
+              | inl stays ↦ absurd (not_made (consequence_of x) (port_at (conversation_of before k)) role admitted comes.made (earlier.there k role stays.before))
               | inr too ↦ stepped_one event j k comes.stepped too.stepped
             ]
       ]

@@ -4,25 +4,22 @@ use Rattle.std.specs.Prelude.{if◌then◌else◌, ◌==◌}
 use Rattle.std.specs.Option.{option_map}
 use Rattle.fabrics_connect.specs.declared.row.Row.{Row}
 use Rattle.property_regs.specs.declared.regs.Regs.{Regs}
-use Rattle.target_decision.specs.declared.decision.Change.{Change}
-use Rattle.target_decision.specs.declared.decision.Change.TheVariants as change
-use Rattle.target_history.specs.Happening.{Happening, Start, begins, begins_by, change_of, ends_live, started}
+use Rattle.target_decision.specs.declared.consequence.Consequence.{Consequence}
+use Rattle.target_decision.specs.declared.consequence.Consequence.TheVariants as consequence
+use Rattle.target_history.specs.Happening.{Happening, Start, begins, begins_by, consequence_of, ends_live, started}
 use Rattle.target_history.specs.History.{has_queue, registers_of, row_with, start_of, start_or}
 use Rattle.target_history.specs.Identifiers.{RowsHaveTheirIdentifiers}
 use Rattle.target_history.proofs.Tests.{same_number}
 
 -- what an event begins
-begun : (x : Happening) (ch : Change) (c : ℕ) (s : Start) → begins_by x ch c ≡ Some s → s.row.cntlid ≡ c
-begun x (change.Begin b) c s h = by (c == b.controller.cntlid) refl h where
+begun : (x : Happening) (ch : Consequence) (c : ℕ) (s : Start) → begins_by x ch c ≡ Some s → s.row.cntlid ≡ c
+begun x (consequence.Begin b) c s h = by (c == b.controller.cntlid) refl h where
   by : (same : Bool) → (c == b.controller.cntlid) ≡ same → (if same then Some (started x b) else None) ≡ Some s → s.row.cntlid ≡ c
   by true same is =
       let here : started x b ≡ s = cc in
       ap (λ (t : Start). t.row.cntlid) (sym here) ∙ sym (same_number c b.controller.cntlid same)
   by false same is = cc
-begun x change.Stay c s h = cc
-begun x (change.Join j) c s h = cc
-begun x (change.Configure t) c s h = cc
-begun x (change.KeepAlive k) c s h = cc
+begun x _ c s h = cc
 
 -- .. or what began before
 begun_or : (first before : Option Start) (over : Bool) (c : ℕ) (s : Start) → ((t : Start) → first ≡ Some t → t.row.cntlid ≡ c)
@@ -33,7 +30,7 @@ begun_or None before false c s one other h = other s h
 
 start_own : (happened : List Happening) (c : ℕ) (s : Start) → start_of happened c ≡ Some s → s.row.cntlid ≡ c
 start_own [] c s h = cc
-start_own (x ∷ before) c s h = begun_or (begins x c) (start_of before c) (ends_live x c) c s (begun x (change_of x) c) (start_own before c) h
+start_own (x ∷ before) c s h = begun_or (begins x c) (start_of before c) (ends_live x c) c s (begun x (consequence_of x) c) (start_own before c) h
 
 row_own : (registers : Regs) (queue : ℕ → Bool) (o : Option Start) (c : ℕ) (row : Row) → ((s : Start) → o ≡ Some s → s.row.cntlid ≡ c)
     → option_map (row_with registers queue) o ≡ Some row → row.cntlid ≡ c

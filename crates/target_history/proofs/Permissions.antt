@@ -12,15 +12,15 @@ use Rattle.fabrics_connect.specs.Row.{joined, left, left_all, with_ready}
 use Rattle.fabrics_connect.proofs.Consequences.{beginnings_are_permitted}
 use Rattle.pdu_cut.specs.Front.{Front}
 use Rattle.target_decision.specs.declared.controller.Controller.{Controller}
-use Rattle.target_decision.specs.declared.decision.Change.{Change}
-use Rattle.target_decision.specs.declared.decision.Change.TheVariants as change
+use Rattle.target_decision.specs.declared.consequence.Consequence.{Consequence}
+use Rattle.target_decision.specs.declared.consequence.Consequence.TheVariants as consequence
 use Rattle.target_decision.specs.Begin.{bytes_at, entry_at, row_by}
 use Rattle.target_decision.specs.World.{World}
 use Rattle.target_history.specs.declared.ending.Ending.{Ending}
 use Rattle.target_history.specs.declared.ending.Ending.TheVariants as ending
 use Rattle.target_history.specs.Ending.{ending_edited, ends_controller, ends_row, ends_timer, is_barred}
 use Rattle.target_history.specs.Event.{Event, edited, opened, stepped, given_up, ticked}
-use Rattle.target_history.specs.Happening.{Happening, change_of, config_after, ending_of, ends_live, port_met, ready_after, row_after, row_changed, row_kept, row_left}
+use Rattle.target_history.specs.Happening.{Happening, consequence_of, config_after, ending_of, ends_live, port_met, ready_after, row_after, row_changed, row_kept, row_left}
 use Rattle.target_history.specs.History.{Opening, config_of, controller_of, happened, meets_after, row_of}
 use Rattle.target_history.specs.Laws.{LiveArePermitted}
 use Rattle.target_history.proofs.Begun.{BegunBy, event_begun}
@@ -35,11 +35,6 @@ Permitted config (Some row) = is_permitted config row ≡ true
 -- ---- what stays of a row
 
 kept_permitted : (e : Ending) (config : Configuration) (c : ℕ) (row : Row) → is_permitted config row ≡ true → is_permitted config (row_kept e c row) ≡ true
-kept_permitted ending.Nothing config c row h = h
-kept_permitted (ending.Port id) config c row h = h
-kept_permitted ending.Permission config c row h = h
-kept_permitted (ending.Controller d) config c row h = h
-kept_permitted (ending.Clock now) config c row h = h
 kept_permitted (ending.Queue d q) config c row h = by (c == d) where
   by : (same : Bool) → is_permitted config (if same then left q row else row) ≡ true
   by true = h
@@ -48,6 +43,7 @@ kept_permitted (ending.Reset d) config c row h = by (c == d) where
   by : (same : Bool) → is_permitted config (if same then left_all row else row) ≡ true
   by true = h
   by false = h
+kept_permitted _ config c row h = h
 
 left_permitted : (gone : Bool) (e : Ending) (config : Configuration) (c : ℕ) (o : Option Row) → (gone ≡ false → Permitted config o)
     → Permitted config (if gone then None else option_map (row_kept e c) o)
@@ -66,16 +62,15 @@ either_permitted : (test : Bool) (config : Configuration) (o p : Option Row) →
 either_permitted true config o p h k = h
 either_permitted false config o p h k = k
 
-changed_permitted : (ch : Change) (begun : Option Row) (own : Option Controller) (config : Configuration) (c : ℕ) (o : Option Row)
+changed_permitted : (ch : Consequence) (begun : Option Row) (own : Option Controller) (config : Configuration) (c : ℕ) (o : Option Row)
     → Permitted config begun → Permitted config o → Permitted config (row_changed ch begun own c o)
-changed_permitted (change.Begin b) begun own config c o new h = either_permitted (c == b.controller.cntlid) config begun o new h
-changed_permitted (change.Join j) begun own config c o new h =
+changed_permitted (consequence.Begin b) begun own config c o new h = either_permitted (c == b.controller.cntlid) config begun o new h
+changed_permitted (consequence.Join j) begun own config c o new h =
     either_permitted (c == j.cntlid) config (option_map (joined j.qid) o) o (same_permitted (joined j.qid) config o (λ row k. k) h) h
-changed_permitted (change.Configure s) begun own config c o new h =
-    either_permitted (c == s.cntlid) config (option_map (with_ready (ready_after own s)) o) o
-    (same_permitted (with_ready (ready_after own s)) config o (λ row k. k) h) h
-changed_permitted (change.KeepAlive d) begun own config c o new h = h
-changed_permitted change.Stay begun own config c o new h = h
+changed_permitted (consequence.Update d u) begun own config c o new h =
+    either_permitted (c == d) config (option_map (with_ready (ready_after u own)) o) o
+    (same_permitted (with_ready (ready_after u own)) config o (λ row k. k) h) h
+changed_permitted _ begun own config c o new h = h
 
 -- ---- what an edit leaves
 
@@ -101,13 +96,10 @@ edit_leaves edit config c (Some row) own h =
 
 -- ---- what a Connect begins
 
-begun_permitted : (ch : Change) (w : World) (port : ℕ) (front : Front) → BegunBy w port (entry_at front) (bytes_at front) ch
+begun_permitted : (ch : Consequence) (w : World) (port : ℕ) (front : Front) → BegunBy w port (entry_at front) (bytes_at front) ch
     → Permitted w.config (row_by ch port front)
-begun_permitted (change.Begin b) w port front h = beginnings_are_permitted.permitted w.config w.row port (entry_at front) (bytes_at front) b.controller h
-begun_permitted (change.Join j) w port front h = tt
-begun_permitted change.Stay w port front h = tt
-begun_permitted (change.Configure s) w port front h = tt
-begun_permitted (change.KeepAlive c) w port front h = tt
+begun_permitted (consequence.Begin b) w port front h = beginnings_are_permitted.permitted w.config w.row port (entry_at front) (bytes_at front) b.controller h
+begun_permitted _ w port front h = tt
 
 -- ---- one more event
 
@@ -128,9 +120,9 @@ event_permitted disks before (ticked now) c h =
     left_permitted (ends_live x c) (ending_of x) (config_of disks before) c (row_of before c) (λ stays. h)
 event_permitted disks before (stepped n front m) c h =
     let x = meets_after disks before (stepped n front m) in
-    changed_permitted (change_of x) (row_by (change_of x) (port_met x) front) (controller_of before c) (config_of disks before) c
+    changed_permitted (consequence_of x) (row_by (consequence_of x) (port_met x) front) (controller_of before c) (config_of disks before) c
     (row_left x c (row_of before c))
-    (begun_permitted (change_of x) x.world (port_met x) front (event_begun x))
+    (begun_permitted (consequence_of x) x.world (port_met x) front (event_begun x))
     (left_permitted (ends_live x c) (ending_of x) (config_of disks before) c (row_of before c) (λ stays. h))
 
 all_permitted : (disks : Opening) (events : List Event) (c : ℕ) → Permitted (config_of disks (happened disks events)) (row_of (happened disks events) c)

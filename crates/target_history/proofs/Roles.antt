@@ -6,9 +6,11 @@ use Rattle.config_edits.specs.declared.edit.Edit.{Edit}
 use Rattle.config_edits.specs.declared.edit.Edit.TheVariants.{PortDel}
 use Rattle.config_rules.specs.Configuration.{Configuration}
 use Rattle.fabrics_connect.specs.declared.row.Row.{Row}
-use Rattle.property_regs.specs.declared.regs.Change.TheVariants as effect
-use Rattle.target_decision.specs.declared.decision.Change.{Change}
-use Rattle.target_decision.specs.declared.decision.Change.TheVariants as change
+use Rattle.property_regs.specs.declared.regs.Change.TheVariants as change
+use Rattle.property_regs.specs.declared.regs.Change.{Change}
+use Rattle.target_decision.specs.declared.consequence.Consequence.{Consequence}
+use Rattle.target_decision.specs.declared.consequence.Consequence.TheVariants as consequence
+use Rattle.target_decision.specs.declared.consequence.Update.TheVariants as update
 use Rattle.target_decision.specs.declared.decision.Decision.{Decision}
 use Rattle.target_decision.specs.declared.decision.Decision.TheVariants as decision
 use Rattle.target_decision.specs.declared.decision.Reply.{Reply}
@@ -17,29 +19,22 @@ use Rattle.target_decision.specs.declared.session.Role.{Role}
 use Rattle.target_decision.specs.declared.session.Role.TheVariants.{Admin, Io}
 use Rattle.target_decision.specs.declared.session.Session.{Session}
 use Rattle.target_decision.specs.declared.session.Session.TheVariants.{Opened, Initialized, Connected, Ended}
-use Rattle.target_decision.specs.Session.{replied, responded_in}
+use Rattle.target_decision.specs.Consequence.{role_by}
+use Rattle.target_decision.specs.Session.{replied, responded_in, role_in}
 use Rattle.target_decision.specs.World.{World}
 use Rattle.target_history.specs.declared.ending.Ending.{Ending}
 use Rattle.target_history.specs.declared.ending.Ending.TheVariants as ending
-use Rattle.target_history.specs.Ending.{ending_changed, ending_edited, ending_lost, ending_set, ends_by, ends_role, ends_row_at, ends_session, is_on_port}
+use Rattle.target_history.specs.Ending.{ending_edited, ending_lost, ending_replied, ending_set, ends_by, ends_role, ends_row_at, ends_session, is_on_port}
 use Rattle.target_history.specs.Event.{Event, edited, front_in, gives_up, opened, opens, port_in, stepped, steps, given_up, ticked}
-use Rattle.target_history.specs.Happening.{Happening, change_decided, change_of, conversation_after, conversation_moved, decided, decided_on, decision_of, ending_given_up, ending_of, ending_taken, ends_live, is_end_decided, port_at, port_met, session_decided, stepping, terminates}
-use Rattle.target_history.specs.Laws.{role_at, role_in}
+use Rattle.target_history.specs.Happening.{Happening, consequence_decided, consequence_of, conversation_after, conversation_moved, decided, decided_on, decision_of, ending_given_up, ending_of, ending_taken, ends_live, is_end_decided, port_at, port_met, session_decided, stepping, terminates}
+use Rattle.target_history.specs.Laws.{role_at}
 use Rattle.target_history.proofs.Admissions.{AdmitsAt, AdmitsBy, own_admits}
-use Rattle.target_history.proofs.Endings.{change_ends, decided_is}
+use Rattle.target_history.proofs.Endings.{decided_is, reply_ends}
 use Rattle.target_history.proofs.Tests.{either_true, neither, or_false_is, same_here, same_number}
 
 -- whether the connection's own step, or its giving up, ends it
 abbrev pub leaves : Happening → ℕ → Bool
 leaves x k = terminates x k || gives_up x.event k
-
--- the queue that a change makes of the connection
-abbrev pub role_by : Change → Option Role
-role_by (change.Begin b) = Some (Admin b.controller.cntlid)
-role_by (change.Join j) = Some (Io j.cntlid j.qid)
-role_by change.Stay = None
-role_by (change.Configure s) = None
-role_by (change.KeepAlive c) = None
 
 -- a connection that is this queue after an event was it before
 pub record Stays (x : Happening) (k : ℕ) (role : Role) : Type 0 where
@@ -51,7 +46,7 @@ pub record Stays (x : Happening) (k : ℕ) (role : Role) : Type 0 where
 -- .. or becomes it by its own Connect
 pub record Comes (x : Happening) (k : ℕ) (role : Role) : Type 0 where
   pub stepped : steps x.event k ≡ true
-  pub made : role_by (change_of x) ≡ Some role
+  pub made : role_by (consequence_of x) ≡ Some role
   pub same_port : port_at (conversation_after x k (x.conversation k)) ≡ port_met x
 
 some_none : (role : Role) → Some role ≡ None → ⊥
@@ -112,28 +107,26 @@ module _ (x : Happening) (k : ℕ) (role : Role) (v : Conversation) (met : x.con
     same_port = after_port ∙ ap port_at (sym met);
   }
 
-  comes_by : (r : Reply) (ch : Change) → decided x k ≡ Some (decision.Reply r) → r.change ≡ ch → role_by ch ≡ Some role → Comes x k role
+  comes_by : (r : Reply) (ch : Consequence) → decided x k ≡ Some (decision.Reply r) → r.consequence ≡ ch → role_by ch ≡ Some role → Comes x k role
   comes_by r ch is same h =
       let stepping : steps x.event k ≡ true = steps_if (steps x.event k) (decided_on x.world (x.conversation k) (front_in x.event)) (decision.Reply r) is in
-      let made : change_of x ≡ ch = ap change_decided (sym (own_is x k stepping) ∙ is) ∙ same in
+      let made : consequence_of x ≡ ch = ap consequence_decided (sym (own_is x k stepping) ∙ is) ∙ same in
       record {
         stepped = stepping;
         made = ap role_by made ∙ h;
         same_port = after_port ∙ ap port_at (sym met ∙ met_is x.event x.conversation k stepping);
       }
 
-  replied_is : (r : Reply) (ch : Change) → decided x k ≡ Some (decision.Reply r) → r.change ≡ ch → role_in (replied ch v.session) ≡ Some role
+  replied_is : (r : Reply) (ch : Consequence) → decided x k ≡ Some (decision.Reply r) → r.consequence ≡ ch → role_in (replied ch v.session) ≡ Some role
       → Stays x k role ⊎ Comes x k role
-  replied_is r (change.Begin b) is same h = inr (comes_by r (change.Begin b) is same h)
-  replied_is r (change.Join j) is same h = inr (comes_by r (change.Join j) is same h)
-  replied_is r change.Stay is same h = inl (stays_by (Some (decision.Reply r)) is refl (sym (responded_role v.session) ∙ h))
-  replied_is r (change.Configure s) is same h = inl (stays_by (Some (decision.Reply r)) is refl (sym (responded_role v.session) ∙ h))
-  replied_is r (change.KeepAlive c) is same h = inl (stays_by (Some (decision.Reply r)) is refl (sym (responded_role v.session) ∙ h))
+  replied_is r (consequence.Begin b) is same h = inr (comes_by r (consequence.Begin b) is same h)
+  replied_is r (consequence.Join j) is same h = inr (comes_by r (consequence.Join j) is same h)
+  replied_is r _ is same h = inl (stays_by (Some (decision.Reply r)) is refl (sym (responded_role v.session) ∙ h))
 
   turned_is : (d : Option Decision) → decided x k ≡ d → role_in (session_decided v.session d) ≡ Some role → Stays x k role ⊎ Comes x k role
   turned_is None is h = inl (stays_by None is refl h)
   turned_is (Some decision.Initialize) is h = cc
-  turned_is (Some (decision.Reply r)) is h = replied_is r r.change is refl h
+  turned_is (Some (decision.Reply r)) is h = replied_is r r.consequence is refl h
   turned_is (Some (decision.Terminate t)) is h = cc
   turned_is (Some decision.Close) is h = cc
 
@@ -163,34 +156,25 @@ after_is x k role h = by (opens x.event k) (gives_up x.event k) (x.conversation 
 abbrev pub LostFrom : Happening → Ending → Type 0
 LostFrom x (ending.Controller c) = (n : ℕ) × (role_at (x.conversation n) ≡ Some (Admin c)) × (leaves x n ≡ true)
 LostFrom x (ending.Queue c q) = (n : ℕ) × (role_at (x.conversation n) ≡ Some (Io c q)) × (leaves x n ≡ true)
-LostFrom x ending.Nothing = Unit {0}
-LostFrom x (ending.Port id) = Unit {0}
-LostFrom x ending.Permission = Unit {0}
-LostFrom x (ending.Reset c) = Unit {0}
-LostFrom x (ending.Clock now) = Unit {0}
+LostFrom x _ = Unit {0}
 
 edit_loses : (x : Happening) (edit : Edit) → LostFrom x (ending_edited edit)
 edit_loses x (PortDel id) = tt
 edit_loses x _ = tt
 
 session_loses : (x : Happening) (n : ℕ) (s : Session) → role_at (x.conversation n) ≡ role_in s → leaves x n ≡ true → LostFrom x (ending_lost s)
-session_loses x n Opened is leaving = tt
-session_loses x n Initialized is leaving = tt
 session_loses x n (Connected (Admin c) queue) is leaving = (n, is, leaving)
 session_loses x n (Connected (Io c q) queue) is leaving = (n, is, leaving)
-session_loses x n Ended is leaving = tt
+session_loses x n _ is leaving = tt
 
-change_loses : (x : Happening) (ch : Change) → LostFrom x (ending_changed ch)
-change_loses x change.Stay = tt
-change_loses x (change.Begin b) = tt
-change_loses x (change.Join j) = tt
-change_loses x (change.KeepAlive c) = tt
-change_loses x (change.Configure s) = by s.effect where
-  by : (e : _) → LostFrom x (ending_set e s.cntlid)
-  by effect.Reset = tt
-  by effect.Enable = tt
-  by effect.Shutdown = tt
-  by effect.Stay = tt
+set_loses : (x : Happening) (c : ℕ) (e : Change) → LostFrom x (ending_set e c)
+set_loses x c change.Reset = tt
+set_loses x c _ = tt
+
+reply_loses : (x : Happening) (ch : Consequence) → LostFrom x (ending_replied ch)
+reply_loses x (consequence.Update c (update.Configuration s)) = set_loses x c s.change
+reply_loses x (consequence.Update c (update.Command e)) = tt
+reply_loses x _ = tt
 
 given_up_loses : (x : Happening) (n : ℕ) (o : Option Conversation) → x.conversation n ≡ o → leaves x n ≡ true → LostFrom x (ending_given_up o)
 given_up_loses x n None met leaving = tt
@@ -201,7 +185,7 @@ step_loses : (x : Happening) (n : ℕ) (o : Option Conversation) (d : Option Dec
 step_loses x n None d met leaving = tt
 step_loses x n (Some v) None met leaving = tt
 step_loses x n (Some v) (Some decision.Initialize) met leaving = tt
-step_loses x n (Some v) (Some (decision.Reply r)) met leaving = change_loses x r.change
+step_loses x n (Some v) (Some (decision.Reply r)) met leaving = reply_loses x r.consequence
 step_loses x n (Some v) (Some (decision.Terminate t)) met leaving = session_loses x n v.session (ap role_at met) (leaving refl)
 step_loses x n (Some v) (Some decision.Close) met leaving = session_loses x n v.session (ap role_at met) (leaving refl)
 
@@ -285,19 +269,17 @@ session_remains e gone (Connected r queue) role is h =
     ap (ends_role e gone) same ∙ h
 session_remains e gone Ended role is h = refl
 
-replied_remains : (row : ℕ → Option Row) (port : ℕ) (s : Session) (role : Role) (ch : Change) → role_in s ≡ Some role → AdmitsBy row (role_in s) port ch
+replied_remains : (row : ℕ → Option Row) (port : ℕ) (s : Session) (role : Role) (ch : Consequence) → role_in s ≡ Some role → AdmitsBy row (role_in s) port ch
     → role_in (replied ch s) ≡ Some role
-replied_remains row port s role (change.Begin b) is h = absurd (some_none role (sym is ∙ h.0))
-replied_remains row port s role (change.Join j) is h = absurd (some_none role (sym is ∙ h.0))
-replied_remains row port s role change.Stay is h = responded_role s ∙ is
-replied_remains row port s role (change.Configure t) is h = responded_role s ∙ is
-replied_remains row port s role (change.KeepAlive c) is h = responded_role s ∙ is
+replied_remains row port s role (consequence.Begin b) is h = absurd (some_none role (sym is ∙ h.0))
+replied_remains row port s role (consequence.Join j) is h = absurd (some_none role (sym is ∙ h.0))
+replied_remains row port s role _ is h = responded_role s ∙ is
 
 turned_remains : (row : ℕ → Option Row) (port : ℕ) (s : Session) (role : Role) (d : Option Decision) → role_in s ≡ Some role → AdmitsAt row (role_in s) port d
     → is_end_decided d ≡ false → role_in (session_decided s d) ≡ Some role
 turned_remains row port s role None is h goes = is
 turned_remains row port s role (Some decision.Initialize) is h goes = absurd (some_none role (sym is ∙ h))
-turned_remains row port s role (Some (decision.Reply r)) is h goes = replied_remains row port s role r.change is h
+turned_remains row port s role (Some (decision.Reply r)) is h goes = replied_remains row port s role r.consequence is h
 turned_remains row port s role (Some (decision.Terminate t)) is h goes = cc
 turned_remains row port s role (Some decision.Close) is h goes = cc
 
@@ -325,41 +307,37 @@ none_gone gone (Connected (Admin c) queue) lives = lives c
 none_gone gone (Connected (Io c q) queue) lives = rw (lives c) refl
 none_gone gone Ended lives = refl
 
-change_made : (ch : Change) (s : Session) (role : Role) → role_by ch ≡ Some role → role_in (replied ch s) ≡ Some role
-change_made (change.Begin b) s role h = h
-change_made (change.Join j) s role h = h
-change_made change.Stay s role h = cc
-change_made (change.Configure t) s role h = cc
-change_made (change.KeepAlive c) s role h = cc
+reply_made : (ch : Consequence) (s : Session) (role : Role) → role_by ch ≡ Some role → role_in (replied ch s) ≡ Some role
+reply_made (consequence.Begin b) s role h = h
+reply_made (consequence.Join j) s role h = h
+reply_made _ s role h = cc
 
-turn_made : (d : Option Decision) (s : Session) (role : Role) → role_by (change_decided d) ≡ Some role → role_in (session_decided s d) ≡ Some role
+turn_made : (d : Option Decision) (s : Session) (role : Role) → role_by (consequence_decided d) ≡ Some role → role_in (session_decided s d) ≡ Some role
 turn_made None s role h = cc
 turn_made (Some decision.Initialize) s role h = cc
-turn_made (Some (decision.Reply r)) s role h = change_made r.change s role h
+turn_made (Some (decision.Reply r)) s role h = reply_made r.consequence s role h
 turn_made (Some (decision.Terminate t)) s role h = cc
 turn_made (Some decision.Close) s role h = cc
 
--- a change that makes a queue ends nothing
-made_ends : (ch : Change) (role : Role) → role_by ch ≡ Some role → ending_changed ch ≡ ending.Nothing
-made_ends (change.Begin b) role h = refl
-made_ends (change.Join j) role h = refl
-made_ends change.Stay role h = cc
-made_ends (change.Configure t) role h = cc
-made_ends (change.KeepAlive c) role h = cc
+-- a reply that makes a queue ends nothing
+made_ends : (ch : Consequence) (role : Role) → role_by ch ≡ Some role → ending_replied ch ≡ ending.Nothing
+made_ends (consequence.Begin b) role h = refl
+made_ends (consequence.Join j) role h = refl
+made_ends _ role h = cc
 
 pub made_is : (x : Happening) (k : ℕ) (role : Role) → steps x.event k ≡ true → opens x.event k ≡ false → gives_up x.event k ≡ false
-    → role_by (change_of x) ≡ Some role → role_at (conversation_after x k (x.conversation k)) ≡ Some role
+    → role_by (consequence_of x) ≡ Some role → role_at (conversation_after x k (x.conversation k)) ≡ Some role
 made_is x k role stepping opening giving made = by (x.conversation k) refl where
-  own : role_by (change_decided (decided x k)) ≡ Some role
-  own = ap (λ (d : Option Decision). role_by (change_decided d)) (own_is x k stepping) ∙ made
+  own : role_by (consequence_decided (decided x k)) ≡ Some role
+  own = ap (λ (d : Option Decision). role_by (consequence_decided d)) (own_is x k stepping) ∙ made
 
   nothing : ending_of x ≡ ending.Nothing
-  nothing = change_ends x (change_of x) refl (λ stays. none_stays role (ap role_by (sym stays) ∙ made)) ∙ made_ends (change_of x) role made
+  nothing = reply_ends x (consequence_of x) refl (λ stays. none_stays role (ap role_by (sym stays) ∙ made)) ∙ made_ends (consequence_of x) role made
 
   by : (o : Option Conversation) → x.conversation k ≡ o → role_at (conversation_after x k o) ≡ Some role
   by None met =
       let none : decided x k ≡ None = rw (stepping, met) refl in
-      let clash : None ≡ Some role = ap (λ (d : Option Decision). role_by (change_decided d)) (sym none) ∙ own in
+      let clash : None ≡ Some role = ap (λ (d : Option Decision). role_by (consequence_decided d)) (sym none) ∙ own in
       cc
   by (Some v) met =
       let lives : ends_by (ending_of x) (ends_live x) v ≡ false = rw nothing (none_gone (ends_live x) v.session (λ c. nothing_ends x c nothing)) in

@@ -10,23 +10,25 @@ use Rattle.std.proofs.lemmas.List.FromFn.{get_or-map-range_with_len, length-map-
 use Rattle.config_rules.specs.Configuration.{Configuration}
 use Rattle.fabrics_connect.specs.Row.{has_queue as has_qid}
 use Rattle.property_regs.specs.declared.regs.Regs.{Regs}
-use Rattle.target_decision.specs.declared.decision.Change.{Change}
-use Rattle.target_decision.specs.declared.decision.Change.TheVariants as change
+use Rattle.target_decision.specs.declared.consequence.Consequence.{Consequence}
+use Rattle.target_decision.specs.declared.consequence.Consequence.TheVariants as consequence
 use Rattle.target_decision.specs.declared.session.Conversation.{Conversation}
 use Rattle.target_decision.specs.declared.session.Role.{Role}
 use Rattle.target_decision.specs.declared.session.Role.TheVariants.{Admin, Io}
 use Rattle.target_decision.specs.declared.session.Session.{Session}
 use Rattle.target_decision.specs.declared.session.Session.TheVariants.{Opened, Initialized, Connected, Ended}
+use Rattle.target_decision.specs.Consequence.{role_by}
+use Rattle.target_decision.specs.Session.{role_in}
 use Rattle.target_decision.specs.World.{World}
 use Rattle.target_history.specs.declared.ending.Ending.{Ending}
 use Rattle.target_history.specs.declared.ending.Ending.TheVariants as ending
 use Rattle.target_history.specs.Ending.{ends_role, ends_row_at, ends_timer, is_barred, is_on_port, resets}
 use Rattle.target_history.specs.Event.{Event, edited, opened, opens, stepped, given_up, ticked}
-use Rattle.target_history.specs.Happening.{Happening, Start, begins, begins_by, change_of, config_after, conversation_after, ending_of, ends_live, port_at, started}
+use Rattle.target_history.specs.Happening.{Happening, Start, begins, begins_by, consequence_of, config_after, conversation_after, ending_of, ends_live, port_at, started}
 use Rattle.target_history.specs.History.{Opening, config_of, controller_of, conversation_of, drops_by, happened, has_queue, is_known, joins_by, meets_after, registers_of, row_of, row_with, start_of, start_or}
-use Rattle.target_history.specs.Laws.{ControllersLiveByTheirAdmins, OpenVacant, QueueIdsAreOfConnections, QueuesAreOnTheirPort, is_queue_of, is_role_of, role_at, role_in, role_of}
+use Rattle.target_history.specs.Laws.{ControllersLiveByTheirAdmins, OpenVacant, QueueIdsAreOfConnections, QueuesAreOnTheirPort, is_queue_of, is_role_of, role_at, role_of}
 use Rattle.target_history.proofs.Holding.{AllHold, Holds, LivesOn, all_hold}
-use Rattle.target_history.proofs.Roles.{leaves, leaving_loses, lost_of, made_is, remains_is, role_by}
+use Rattle.target_history.proofs.Roles.{leaves, leaving_loses, lost_of, made_is, remains_is}
 use Rattle.target_history.proofs.Steps.{conversation_step}
 use Rattle.target_history.proofs.Tests.{bool_is, both_same, both_true, either_false, flipped, neither, same_here, same_number}
 
@@ -61,38 +63,29 @@ had false drops has (Some s) joined h = cc
 
 -- ---- what an event begins
 
-begun_by : (x : Happening) (ch : Change) (c : ℕ) (s : Start) → begins_by x ch c ≡ Some s → role_by ch ≡ Some (Admin c)
-begun_by x (change.Begin b) c s h = by (c == b.controller.cntlid) refl h where
+begun_by : (x : Happening) (ch : Consequence) (c : ℕ) (s : Start) → begins_by x ch c ≡ Some s → role_by ch ≡ Some (Admin c)
+begun_by x (consequence.Begin b) c s h = by (c == b.controller.cntlid) refl h where
   by : (same : Bool) → (c == b.controller.cntlid) ≡ same → (if same then Some (started x b) else None) ≡ Some s
-      → role_by (change.Begin b) ≡ Some (Admin c)
+      → role_by (consequence.Begin b) ≡ Some (Admin c)
   by true is h = ap (λ (d : ℕ). Some (Admin d)) (sym (same_number c b.controller.cntlid is))
   by false is h = cc
-begun_by x change.Stay c s h = cc
-begun_by x (change.Join j) c s h = cc
-begun_by x (change.Configure t) c s h = cc
-begun_by x (change.KeepAlive d) c s h = cc
+begun_by x _ c s h = cc
 
-joined_by : (ch : Change) (c q : ℕ) → joins_by ch c q ≡ true → role_by ch ≡ Some (Io c q)
-joined_by (change.Join j) c q h =
+joined_by : (ch : Consequence) (c q : ℕ) → joins_by ch c q ≡ true → role_by ch ≡ Some (Io c q)
+joined_by (consequence.Join j) c q h =
     let parts = both_true (c == j.cntlid) (q == j.qid) h in
     let same : Io j.cntlid j.qid ≡ Io c q = rw (same_number c j.cntlid parts.0, same_number q j.qid parts.1) refl in
     ap Some same
-joined_by change.Stay c q h = cc
-joined_by (change.Begin b) c q h = cc
-joined_by (change.Configure t) c q h = cc
-joined_by (change.KeepAlive d) c q h = cc
+joined_by _ c q h = cc
 
 -- what becomes a queue is the connection of the step
 event_makes : (event : Event) (w : World) (conversation : ℕ → Option Conversation) (clock : ℕ) (blocks : ℕ → List (List ℕ)) (role : Role)
     → let x : Happening = record { event = event; world = w; conversation = conversation; clock = clock; blocks = blocks } in
-    role_by (change_of x) ≡ Some role → (k : ℕ) × (role_at (conversation_after x k (conversation k)) ≡ Some role)
-event_makes (edited edit) w conversation clock blocks role made = cc
-event_makes (opened port n) w conversation clock blocks role made = cc
-event_makes (given_up n) w conversation clock blocks role made = cc
-event_makes (ticked now) w conversation clock blocks role made = cc
+    role_by (consequence_of x) ≡ Some role → (k : ℕ) × (role_at (conversation_after x k (conversation k)) ≡ Some role)
 event_makes (stepped n front m) w conversation clock blocks role made =
     let x : Happening = record { event = stepped n front m; world = w; conversation = conversation; clock = clock; blocks = blocks } in
     (n, made_is x n role (same_here n) refl refl made)
+event_makes _ w conversation clock blocks role made = cc
 
 -- ---- what ends a queue
 
@@ -102,12 +95,7 @@ port_stays : (e : Ending) (config : Configuration) (registers : Regs) (queue : �
 port_stays e config registers queue c port None there h = absurd there
 port_stays (ending.Port id) config registers queue c port (Some s) there h =
     ap (λ (p : ℕ). id == p) (sym there) ∙ (neither (id == s.row.port) (is_barred config s.row.host s.row.subsystem s.row.port) h).0
-port_stays ending.Nothing config registers queue c port (Some s) there h = refl
-port_stays ending.Permission config registers queue c port (Some s) there h = refl
-port_stays (ending.Controller d) config registers queue c port (Some s) there h = refl
-port_stays (ending.Queue d q) config registers queue c port (Some s) there h = refl
-port_stays (ending.Reset d) config registers queue c port (Some s) there h = refl
-port_stays (ending.Clock now) config registers queue c port (Some s) there h = refl
+port_stays _ config registers queue c port (Some s) there h = refl
 
 -- .. and its admin queue is not lost
 admin_stays : (e : Ending) (config : Configuration) (registers : Regs) (queue : ℕ → Bool) (c : ℕ) (o : Option Start)
@@ -120,12 +108,7 @@ admin_stays e config registers queue c (Some s) there h is =
 
 not_reset : (e : Ending) (c q : ℕ) → drops_by e c q ≡ false → resets e c ≡ false
 not_reset (ending.Reset d) c q h = flipped d c h
-not_reset ending.Nothing c q h = refl
-not_reset (ending.Port id) c q h = refl
-not_reset ending.Permission c q h = refl
-not_reset (ending.Controller d) c q h = refl
-not_reset (ending.Queue d p) c q h = refl
-not_reset (ending.Clock now) c q h = refl
+not_reset _ c q h = refl
 
 not_lost : (e : Ending) (c q : ℕ) → drops_by e c q ≡ false → e ≡ ending.Queue c q → ⊥
 not_lost e c q h is =
@@ -175,7 +158,7 @@ module _ (disks : Opening) (before : List Happening) (event : Event) (held : All
       port_stays (ending_of x) became (registers_of before c) (has_queue before c) c (port_at (conversation_of before k)) (start_of before c) lives (row_stays c goes) in
       (k, ap role_at (conversation_step x before k refl) ∙ remains_is x k role is (not_opened k role is) leaving port kept)
 
-  makes : (role : Role) → role_by (change_of x) ≡ Some role → Served (x ∷ before) role
+  makes : (role : Role) → role_by (consequence_of x) ≡ Some role → Served (x ∷ before) role
   makes role made =
       let found = event_makes event x.world x.conversation x.clock x.blocks role made in
       (found.0, ap role_at (conversation_step x before found.0 refl) ∙ found.1)
@@ -183,7 +166,7 @@ module _ (disks : Opening) (before : List Happening) (event : Event) (held : All
   admin_after : (c : ℕ) → is_some (start_of (x ∷ before) c) ≡ true → Served (x ∷ before) (Admin c)
   admin_after c lives = by (begins x c) refl where
     by : (b : Option Start) → begins x c ≡ b → Served (x ∷ before) (Admin c)
-    by (Some s) begun = makes (Admin c) (begun_by x (change_of x) c s begun)
+    by (Some s) begun = makes (Admin c) (begun_by x (consequence_of x) c s begun)
     by None begun =
         let on = lived (begins x c) (start_of before c) (ends_live x c) begun lives in
         let found = earlier.admin c on.1 in
@@ -192,10 +175,10 @@ module _ (disks : Opening) (before : List Happening) (event : Event) (held : All
 
   io_after : (c q : ℕ) → is_some (start_of (x ∷ before) c) ≡ true → has_queue (x ∷ before) c q ≡ true → Served (x ∷ before) (Io c q)
   io_after c q lives has =
-      elim (bool_is (joins_by (change_of x) c q)) [
-        | inl joins ↦ makes (Io c q) (joined_by (change_of x) c q joins)
+      elim (bool_is (joins_by (consequence_of x) c q)) [
+        | inl joins ↦ makes (Io c q) (joined_by (consequence_of x) c q joins)
         | inr other ↦
-            let was = had (joins_by (change_of x) c q) (drops_by (ending_of x) c q) (has_queue before c q) (begins x c) other has in
+            let was = had (joins_by (consequence_of x) c q) (drops_by (ending_of x) c q) (has_queue before c q) (begins x c) other has in
             let on = lived (begins x c) (start_of before c) (ends_live x c) was.0 lives in
             let found = earlier.io c q on.1 was.2 in
             serves_on found.0 (Io c q) c found.1 (same_here c) on.0

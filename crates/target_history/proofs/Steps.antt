@@ -1,29 +1,25 @@
 -- What one more event makes of what the history says of a connection.
 use Rattle.std.proofs.Common.{◌≡◌, ℕ, ◌+◌, ◌%◌, Bool, true, false, not, ◌&&◌, ◌||◌, List, ◌∷◌, Option, Some, None, refl, sym, ap, ◌∙◌, arith}
-use Rattle.std.specs.Prelude.{if◌then◌else◌, nat_le, nat_lt, length}
+use Rattle.std.specs.Prelude.{if◌then◌else◌, nat_le}
 use Rattle.std.specs.Option.{option_map}
 use Rattle.std.proofs.Math.Nat.{mod-eq_of_lt}
-use Rattle.nvt_fields.specs.declared.pdu_type.PduType.{PduType}
-use Rattle.nvt_fields.specs.declared.pdu_type.PduType.TheVariants.{IcReq, IcResp, H2cTermReq, C2hTermReq, CapsuleCmd, CapsuleResp, H2cData, C2hData, R2t}
-use Rattle.nvt_fields.specs.declared.termination.FatalErrorStatus.TheVariants.{LimitExceeded}
-use Rattle.pdu_cut.specs.Front.{Front, incomplete, whole, faulty}
-use Rattle.pdu_cut.specs.Pdu.{data_part}
-use Rattle.target_decision.specs.declared.decision.Change.{Change}
-use Rattle.target_decision.specs.declared.decision.Change.TheVariants as change
+use Rattle.pdu_cut.specs.Front.{Front}
+use Rattle.target_decision.specs.declared.consequence.Consequence.{Consequence}
+use Rattle.target_decision.specs.declared.consequence.Consequence.TheVariants as consequence
 use Rattle.target_decision.specs.declared.decision.Decision.{Decision}
 use Rattle.target_decision.specs.declared.decision.Decision.TheVariants as decision
-use Rattle.target_decision.specs.declared.decision.Reply.{Reply}
 use Rattle.target_decision.specs.declared.queue.Queue.{Queue}
 use Rattle.target_decision.specs.declared.session.Conversation.{Conversation}
 use Rattle.target_decision.specs.declared.session.Role.{Role}
 use Rattle.target_decision.specs.declared.session.Session.{Session}
 use Rattle.target_decision.specs.declared.session.Session.TheVariants.{Connected, Ended}
-use Rattle.target_decision.specs.Decision.{decide, next_by, terminate}
+use Rattle.target_decision.specs.Decision.{decide}
 use Rattle.target_decision.specs.Session.{opened_on, replied}
 use Rattle.target_decision.specs.World.{World}
+use Rattle.target_decision.proofs.Deciding.{decision_is}
 use Rattle.target_history.specs.Ending.{ends_by}
 use Rattle.target_history.specs.Event.{front_in, gives_up, opens, port_in, steps}
-use Rattle.target_history.specs.Happening.{Happening, change_decided, conversation_after, conversation_moved, decided_on, ending_of, ends, ends_live, initializes, is_end_decided, is_initialize, responses, responses_decided, session_decided}
+use Rattle.target_history.specs.Happening.{Happening, consequence_decided, conversation_after, conversation_moved, decided_on, ending_of, ends, ends_live, initializes, is_end_decided, is_initialize, responses, responses_decided, session_decided}
 use Rattle.target_history.specs.History.{Admission, admission_by, admission_of, admission_or, admits, conversation_of, has_ended, is_initialized, is_known, port_of, responses_by, responses_since, session_of, session_with}
 use Rattle.target_history.proofs.Heads.{head_goes_round}
 
@@ -45,26 +41,24 @@ with_head sqsize role head = Connected role (record { sqsize = sqsize; head = he
 -- ---- a step
 
 -- one more response counts on a connection that has a queue
-counts : (a : Option Admission) (i : Bool) (n : ℕ) → session_with a i (1 + n) ≡ replied change.Stay (session_with a i n)
+counts : (a : Option Admission) (i : Bool) (n : ℕ) → session_with a i (1 + n) ≡ replied consequence.Nothing (session_with a i n)
 counts None false n = refl
 counts None true n = refl
 counts (Some a) i n = ap (with_head a.sqsize a.role) (one_more n a.sqsize)
 
 -- a reply, by what it changes
-replies : (ch : Change) (a : Option Admission) (i : Bool) (n : ℕ)
+replies : (ch : Consequence) (a : Option Admission) (i : Bool) (n : ℕ)
     → session_with (admission_or (admission_by ch) a) i (1 + responses_by (admission_by ch) n) ≡ replied ch (session_with a i n)
-replies change.Stay a i n = counts a i n
-replies (change.Configure s) a i n = counts a i n
-replies (change.KeepAlive c) a i n = counts a i n
-replies (change.Begin b) a i n = ap (with_head b.sqsize _) (first_head b.sqsize)
-replies (change.Join j) a i n = ap (with_head j.sqsize _) (first_head j.sqsize)
+replies (consequence.Begin b) a i n = ap (with_head b.sqsize _) (first_head b.sqsize)
+replies (consequence.Join j) a i n = ap (with_head j.sqsize _) (first_head j.sqsize)
+replies _ a i n = counts a i n
 
 -- what one more decision makes of a session, by whether the connection is ended from elsewhere, and was ended before
 turns : (d : Option Decision) (e ended i : Bool) (a : Option Admission) (n : ℕ)
     → (ended ≡ true → d ≡ None) → (is_initialize d ≡ true → a ≡ None)
     → (if (is_end_decided d || e) || ended then Ended else
-    session_with (admission_or (admission_by (change_decided d)) a) (is_initialize d || i)
-    (responses_decided d + responses_by (admission_by (change_decided d)) n))
+    session_with (admission_or (admission_by (consequence_decided d)) a) (is_initialize d || i)
+    (responses_decided d + responses_by (admission_by (consequence_decided d)) n))
     ≡ (if e then Ended else session_decided (if ended then Ended else session_with a i n) d)
 turns None true true i a n none first = refl
 turns None true false i a n none first = refl
@@ -78,32 +72,23 @@ turns (Some (decision.Reply r)) true false i a n none first = refl
 turns (Some (decision.Terminate t)) true false i a n none first = refl
 turns (Some decision.Close) true false i a n none first = refl
 turns (Some decision.Initialize) false false i a n none first = rw (first refl) refl
-turns (Some (decision.Reply r)) false false i a n none first = replies r.change a i n
+turns (Some (decision.Reply r)) false false i a n none first = replies r.consequence a i n
 turns (Some (decision.Terminate t)) false false i a n none first = refl
 turns (Some decision.Close) false false i a n none first = refl
 
 -- ---- what may be decided
 
--- a connection that has a queue is not initialized again
-never_again : (w : World) (port : ℕ) (role : Role) (q : Queue) (front : Front)
-    → is_initialize (Some (decide w (record { port = port; session = Connected role q }) front)) ≡ false
-never_again w port role q incomplete = refl
-never_again w port role q (faulty fault head) = refl
-never_again w port role q (whole pdu) = by_kind pdu.kind where
-  by_length : (long : Bool) (r : Reply) → is_initialize (Some (if long then terminate LimitExceeded 0 else decision.Reply r)) ≡ false
-  by_length true r = refl
-  by_length false r = refl
+abbrev on_queue : ℕ → Role → Queue → Conversation
+on_queue port role q = record { port = port; session = Connected role q }
 
-  by_kind : (kind : PduType) → is_initialize (Some (next_by kind w (record { port = port; session = Connected role q }) pdu)) ≡ false
-  by_kind CapsuleCmd = by_length (nat_lt 8192 (length (data_part pdu))) _
-  by_kind IcReq = refl
-  by_kind IcResp = refl
-  by_kind H2cTermReq = refl
-  by_kind C2hTermReq = refl
-  by_kind CapsuleResp = refl
-  by_kind H2cData = refl
-  by_kind C2hData = refl
-  by_kind R2t = refl
+-- a connection that has a queue is not initialized again
+never_again : (w : World) (port : ℕ) (role : Role) (q : Queue) (front : Front) → is_initialize (Some (decide w (on_queue port role q) front)) ≡ false
+never_again w port role q front = decision_is w (on_queue port role q) front (λ d. is_initialize (Some d) ≡ false) (record {
+  closes = refl;
+  terminates = λ t. refl;
+  initializes = λ opened. cc;
+  replies = λ pdu is kind. refl;
+})
 
 -- nothing is decided on a connection that is ended
 none_by : (stepping ended : Bool) (w : World) (port : ℕ) (s : Session) (front : Front) → ended ≡ true

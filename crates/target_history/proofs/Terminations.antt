@@ -1,33 +1,19 @@
 -- A step ends its own connection by its own decision alone: of what a reply ends, a reset comes on the admin queue of its
 -- controller, and ends I/O queues.
 use Rattle.std.proofs.Common.{◌≡◌, ℕ, Bool, true, false, not, ◌&&◌, ◌||◌, List, ◌∷◌, Option, Some, None, Result, Ok, Err, refl, sym, ap, ◌∙◌, inl, inr}
-use Rattle.std.specs.Prelude.{if◌then◌else◌, ◌==◌, nat_lt, length}
-use Rattle.admin_queue.specs.declared.outcome.Effect.{Effect as AdminEffect}
-use Rattle.admin_queue.specs.declared.outcome.Effect.TheVariants as admin_effect
-use Rattle.admin_queue.specs.Controller.{AdminController}
-use Rattle.admin_queue.specs.Outcome.{Outcome as AdminOutcome}
+use Rattle.std.specs.Prelude.{if◌then◌else◌, ◌==◌}
+use Rattle.fabrics_connect.specs.declared.decision.AdmitAs.{AdmitAs}
 use Rattle.fabrics_connect.specs.declared.decision.AdmitAs.TheVariants as admit
-use Rattle.fabrics_connect.specs.declared.decision.Decision as connect_decision
-use Rattle.fabrics_connect.specs.declared.decision.Decision.TheVariants.{Admit, Deny}
-use Rattle.fabrics_connect.specs.declared.row.Row.{Row}
-use Rattle.fabrics_connect.specs.Connect.{connect}
-use Rattle.io_queue.specs.declared.operation.Operation.{Operation}
-use Rattle.io_queue.specs.Decision.{decide as io_decide}
-use Rattle.nvt_fields.specs.declared.pdu_type.PduType.{PduType}
-use Rattle.nvt_fields.specs.declared.pdu_type.PduType.TheVariants.{IcReq, IcResp, H2cTermReq, C2hTermReq, CapsuleCmd, CapsuleResp, H2cData, C2hData, R2t}
-use Rattle.nvt_fields.specs.declared.status.Status.{Status}
-use Rattle.nvt_fields.specs.declared.termination.FatalErrorStatus.TheVariants.{InvalidHeaderField, LimitExceeded, UnsupportedParameter}
-use Rattle.pdu_codec.specs.declared.command.Property.{Property}
-use Rattle.pdu_codec.specs.Initialize.{ic_req_of}
 use Rattle.pdu_codec.specs.Sqe.{cid_of}
-use Rattle.pdu_cut.specs.Front.{Front, incomplete, whole, faulty}
-use Rattle.pdu_cut.specs.Pdu.{Pdu, data_part, header_part}
-use Rattle.property_regs.specs.declared.regs.Change.TheVariants as effect
-use Rattle.property_regs.specs.declared.regs.Change.{Change as Effect}
-use Rattle.property_regs.specs.declared.regs.InvalidField.{InvalidField}
-use Rattle.property_regs.specs.declared.regs.Regs.{Regs}
-use Rattle.target_decision.specs.declared.decision.Change.{Change}
-use Rattle.target_decision.specs.declared.decision.Change.TheVariants as change
+use Rattle.pdu_cut.specs.Front.{Front}
+use Rattle.pdu_cut.specs.Pdu.{data_part}
+use Rattle.property_regs.specs.declared.regs.Change.TheVariants as change
+use Rattle.property_regs.specs.declared.regs.Change.{Change}
+use Rattle.target_decision.specs.declared.consequence.ConfigurationSet.{ConfigurationSet}
+use Rattle.target_decision.specs.declared.consequence.Consequence.{Consequence}
+use Rattle.target_decision.specs.declared.consequence.Consequence.TheVariants as consequence
+use Rattle.target_decision.specs.declared.consequence.Update.{Update}
+use Rattle.target_decision.specs.declared.consequence.Update.TheVariants as update
 use Rattle.target_decision.specs.declared.decision.Decision.{Decision}
 use Rattle.target_decision.specs.declared.decision.Decision.TheVariants as decision
 use Rattle.target_decision.specs.declared.session.Conversation.{Conversation}
@@ -35,173 +21,82 @@ use Rattle.target_decision.specs.declared.session.Role.{Role}
 use Rattle.target_decision.specs.declared.session.Role.TheVariants.{Admin, Io}
 use Rattle.target_decision.specs.declared.session.Session.{Session}
 use Rattle.target_decision.specs.declared.session.Session.TheVariants.{Opened, Initialized, Connected, Ended}
-use Rattle.target_decision.specs.Capsule.{admin_answered, admin_by, change_by, command, command_in, fabrics_command, first_command, given_by, io_answered, io_by, io_of, queue_command, reply_of, set_by}
-use Rattle.target_decision.specs.Connect.{answered, connect_on}
-use Rattle.target_decision.specs.Decision.{decide, decide_in, entry_of, first_by, next_by, terminate}
+use Rattle.target_decision.specs.Capsule.{command, reply_of}
+use Rattle.target_decision.specs.Connect.{admitted}
+use Rattle.target_decision.specs.Decision.{decide, entry_of}
 use Rattle.target_decision.specs.Outcome.{Outcome}
-use Rattle.target_decision.specs.Session.{is_ended}
+use Rattle.target_decision.specs.Session.{is_ended, role_in}
 use Rattle.target_decision.specs.World.{World}
+use Rattle.target_decision.proofs.Deciding.{command_is, decision_is}
 use Rattle.target_history.specs.declared.ending.Ending.{Ending}
 use Rattle.target_history.specs.declared.ending.Ending.TheVariants as ending
-use Rattle.target_history.specs.Ending.{ending_changed, ending_set, ends_by}
+use Rattle.target_history.specs.Ending.{ending_replied, ending_set, ends_by}
 use Rattle.target_history.specs.Event.{Event, edited, front_in, opened, opens, stepped, steps, given_up, ticked}
-use Rattle.target_history.specs.Happening.{Happening, change_decided, change_of, decided, decided_on, ending_of, ending_taken, ends_at, ends_live, is_end_decided, terminates}
+use Rattle.target_history.specs.Happening.{Happening, consequence_decided, consequence_of, decided, decided_on, ending_of, ending_taken, ends_at, ends_live, is_end_decided, terminates}
 use Rattle.target_history.specs.History.{conversation_of, has_ended, is_known, port_of}
-use Rattle.target_history.specs.Laws.{is_io_queue_of, role_at, role_in}
+use Rattle.target_history.specs.Laws.{is_io_queue_of, role_at}
 use Rattle.target_history.specs.Terminations.{StepsEndTheirOwn}
 use Rattle.target_history.proofs.Endings.{resets_end_their_queues_alone}
 use Rattle.target_history.proofs.Roles.{none_gone, nothing_ends, own_is}
 use Rattle.target_history.proofs.Tests.{bool_is, neither, same_number}
 
--- ---- a property is set on the admin queue of its controller
+-- ---- a controller is changed by commands on its admin queue
 
-abbrev pub SetsBy : Option Role → Change → Type 0
-SetsBy role (change.Configure s) = role ≡ Some (Admin s.cntlid)
-SetsBy role change.Stay = Unit {0}
-SetsBy role (change.Begin b) = Unit {0}
-SetsBy role (change.Join j) = Unit {0}
-SetsBy role (change.KeepAlive c) = Unit {0}
+abbrev pub UpdatesBy : Option Role → Consequence → Type 0
+UpdatesBy role (consequence.Update d u) = role ≡ Some (Admin d)
+UpdatesBy role _ = Unit {0}
 
-abbrev SetsIn : Option Role → Outcome → Type 0
-SetsIn role (Ok success) = SetsBy role success.change
-SetsIn role (Err refusal) = Unit {0}
+abbrev UpdatesIn : Option Role → Outcome → Type 0
+UpdatesIn role (Ok success) = UpdatesBy role success.consequence
+UpdatesIn role (Err refusal) = Unit {0}
 
-abbrev Sets : Option Role → Decision → Type 0
-Sets role (decision.Reply r) = SetsBy role r.change
-Sets role decision.Initialize = Unit {0}
-Sets role (decision.Terminate t) = Unit {0}
-Sets role decision.Close = Unit {0}
+abbrev Updates : Option Role → Decision → Type 0
+Updates role (decision.Reply r) = UpdatesBy role r.consequence
+Updates role _ = Unit {0}
 
-abbrev SetsAt : Option Role → Option Decision → Type 0
-SetsAt role None = Unit {0}
-SetsAt role (Some d) = Sets role d
+abbrev UpdatesAt : Option Role → Option Decision → Type 0
+UpdatesAt role None = Unit {0}
+UpdatesAt role (Some d) = Updates role d
 
-either_sets : (test : Bool) (role : Option Role) (o p : Outcome) → SetsIn role o → SetsIn role p → SetsIn role (if test then o else p)
-either_sets true role o p h k = h
-either_sets false role o p h k = k
+admitted_updates : (role : Option Role) (a : AdmitAs) (entry : List ℕ) → UpdatesIn role (admitted a entry)
+admitted_updates role (admit.Queue cntlid qid) entry = tt
+admitted_updates role (admit.Controller new) entry = tt
 
-answered_sets : (role : Option Role) (d : connect_decision.Decision) (entry : List ℕ) → SetsIn role (answered d entry)
-answered_sets role (Deny status result) entry = tt
-answered_sets role (Admit (admit.Queue cntlid qid)) entry = tt
-answered_sets role (Admit (admit.Controller new)) entry = tt
+command_updates : (w : World) (v : Conversation) (entry bytes : List ℕ) → UpdatesIn (role_in v.session) (command w v entry bytes)
+command_updates w v entry bytes = command_is w v entry bytes (UpdatesIn (role_in v.session)) (record {
+  refuses = λ r. tt;
+  admits = λ none a is. admitted_updates (role_in v.session) a entry;
+  tells = λ value. tt;
+  configures = λ cntlid role s. role;
+  administers = λ cntlid role s. role;
+  performs = λ cntlid qid role port subsystem op is. tt;
+})
 
-connect_sets : (role : Option Role) (w : World) (port : ℕ) (entry bytes : List ℕ) → SetsIn role (connect_on w port entry bytes)
-connect_sets role w port entry bytes = answered_sets role (connect w.config w.row port entry bytes) entry
+reply_updates : (role : Option Role) (s : Session) (cid : ℕ) (o : Outcome) → UpdatesIn role o → Updates role (decision.Reply (reply_of s cid o))
+reply_updates role s cid (Ok success) h = h
+reply_updates role s cid (Err refusal) h = tt
 
-first_sets : (role : Option Role) (w : World) (port : ℕ) (entry bytes : List ℕ) → SetsIn role (first_command w port entry bytes)
-first_sets role w port entry bytes = search (either_sets, connect_sets)
+decide_updates : (w : World) (v : Conversation) (front : Front) → Updates (role_in v.session) (decide w v front)
+decide_updates w v front = decision_is w v front (Updates (role_in v.session)) (record {
+  closes = tt;
+  terminates = λ t. tt;
+  initializes = λ opened. tt;
+  replies = λ pdu is kind.
+      reply_updates (role_in v.session) v.session (cid_of (entry_of pdu)) (command w v (entry_of pdu) (data_part pdu))
+      (command_updates w v (entry_of pdu) (data_part pdu));
+})
 
-set_sets : (made : Result Effect InvalidField) (cntlid : ℕ) (p : Property) → SetsIn (Some (Admin cntlid)) (set_by made cntlid p)
-set_sets (Ok change) cntlid p = refl
-set_sets (Err fault) cntlid p = tt
-
-given_sets : (role : Option Role) (value : Result ℕ InvalidField) → SetsIn role (given_by value)
-given_sets role (Ok value) = tt
-given_sets role (Err fault) = tt
-
-fabrics_sets : (registers : Regs) (cntlid : ℕ) (entry : List ℕ) → SetsIn (Some (Admin cntlid)) (fabrics_command registers cntlid entry)
-fabrics_sets registers cntlid entry = search (either_sets, set_sets, given_sets)
-
-effect_sets : (role : Option Role) (cntlid : ℕ) (e : AdminEffect) → SetsBy role (change_by cntlid e)
-effect_sets role cntlid admin_effect.Nothing = tt
-effect_sets role cntlid admin_effect.KeepAlive = tt
-effect_sets role cntlid (admin_effect.KeepAliveTimeout kato) = tt
-
-outcome_sets : (role : Option Role) (cntlid : ℕ) (o : AdminOutcome) → SetsIn role (admin_answered cntlid o)
-outcome_sets role cntlid (Ok s) = effect_sets role cntlid s.effect
-outcome_sets role cntlid (Err status) = tt
-
-admin_sets : (role : Option Role) (ready : Bool) (o : Option AdminController) (w : World) (cntlid : ℕ) (entry : List ℕ)
-    → SetsIn role (admin_by ready o w cntlid entry)
-admin_sets role ready None w cntlid entry = tt
-admin_sets role ready (Some c) w cntlid entry = search (either_sets, outcome_sets)
-
-operation_sets : (role : Option Role) (r : Result Operation Status) → SetsIn role (io_answered r)
-operation_sets role (Ok op) = tt
-operation_sets role (Err status) = tt
-
-io_of_sets : (role : Option Role) (subsystem : Option (List ℕ)) (id : ℕ) (w : World) (entry : List ℕ) (brings : ℕ)
-    → SetsIn role (io_of subsystem id w entry brings)
-io_of_sets role None id w entry brings = tt
-io_of_sets role (Some nqn) id w entry brings = operation_sets role (io_decide w.config id nqn entry brings)
-
-io_sets : (role : Option Role) (o : Option Row) (w : World) (entry : List ℕ) (brings : ℕ) → SetsIn role (io_by o w entry brings)
-io_sets role None w entry brings = tt
-io_sets role (Some r) w entry brings = search (either_sets, io_of_sets)
-
-queue_sets : (w : World) (role : Role) (entry bytes : List ℕ) → SetsIn (Some role) (queue_command w role entry bytes)
-queue_sets w (Admin cntlid) entry bytes = search (either_sets, fabrics_sets, admin_sets)
-queue_sets w (Io cntlid qid) entry bytes = search (either_sets, io_sets)
-
-in_sets : (w : World) (port : ℕ) (s : Session) (entry bytes : List ℕ) → SetsIn (role_in s) (command_in w port s entry bytes)
-in_sets w port Opened entry bytes = first_sets None w port entry bytes
-in_sets w port Initialized entry bytes = first_sets None w port entry bytes
-in_sets w port (Connected role q) entry bytes = queue_sets w role entry bytes
-in_sets w port Ended entry bytes = first_sets None w port entry bytes
-
-command_sets : (w : World) (v : Conversation) (entry bytes : List ℕ) → SetsIn (role_in v.session) (command w v entry bytes)
-command_sets w v entry bytes = search (either_sets, in_sets)
-
-reply_sets : (role : Option Role) (s : Session) (cid : ℕ) (o : Outcome) → SetsIn role o → Sets role (decision.Reply (reply_of s cid o))
-reply_sets role s cid (Ok success) h = h
-reply_sets role s cid (Err refusal) h = tt
-
-next_sets : (kind : PduType) (w : World) (v : Conversation) (pdu : Pdu) → Sets (role_in v.session) (next_by kind w v pdu)
-next_sets CapsuleCmd w v pdu =
-    by (nat_lt 8192 (length (data_part pdu))) (command w v (entry_of pdu) (data_part pdu)) (command_sets w v (entry_of pdu) (data_part pdu)) where
-      by : (long : Bool) (o : Outcome) → SetsIn (role_in v.session) o
-          → Sets (role_in v.session) (if long then terminate LimitExceeded 0 else decision.Reply (reply_of v.session (cid_of (entry_of pdu)) o))
-      by true o h = tt
-      by false o h = reply_sets (role_in v.session) v.session (cid_of (entry_of pdu)) o h
-next_sets IcReq w v pdu = tt
-next_sets IcResp w v pdu = tt
-next_sets H2cTermReq w v pdu = tt
-next_sets C2hTermReq w v pdu = tt
-next_sets CapsuleResp w v pdu = tt
-next_sets H2cData w v pdu = tt
-next_sets C2hData w v pdu = tt
-next_sets R2t w v pdu = tt
-
-first_by_sets : (kind : PduType) (role : Option Role) (pdu : Pdu) → Sets role (first_by kind pdu)
-first_by_sets IcReq role pdu = by (not ((ic_req_of (header_part pdu)).pfv == 0)) (not ((ic_req_of (header_part pdu)).hpda == 0)) where
-  by : (a b : Bool) → Sets role (if a then terminate UnsupportedParameter 8 else if b then terminate InvalidHeaderField 10 else decision.Initialize)
-  by true b = tt
-  by false true = tt
-  by false false = tt
-first_by_sets IcResp role pdu = tt
-first_by_sets H2cTermReq role pdu = tt
-first_by_sets C2hTermReq role pdu = tt
-first_by_sets CapsuleCmd role pdu = tt
-first_by_sets CapsuleResp role pdu = tt
-first_by_sets H2cData role pdu = tt
-first_by_sets C2hData role pdu = tt
-first_by_sets R2t role pdu = tt
-
-abbrev on_port : ℕ → Session → Conversation
-on_port port session = record { port = port; session = session }
-
-pdu_sets : (w : World) (port : ℕ) (s : Session) (pdu : Pdu) → Sets (role_in s) (decide_in s w (on_port port s) pdu)
-pdu_sets w port Opened pdu = first_by_sets pdu.kind None pdu
-pdu_sets w port Initialized pdu = next_sets pdu.kind w (on_port port Initialized) pdu
-pdu_sets w port (Connected role q) pdu = next_sets pdu.kind w (on_port port (Connected role q)) pdu
-pdu_sets w port Ended pdu = tt
-
-decide_sets : (w : World) (v : Conversation) (front : Front) → Sets (role_in v.session) (decide w v front)
-decide_sets w v incomplete = tt
-decide_sets w v (whole pdu) = pdu_sets w v.port v.session pdu
-decide_sets w v (faulty fault head) = tt
-
-decided_sets : (w : World) (o : Option Conversation) (front : Front) → SetsAt (role_at o) (decided_on w o front)
-decided_sets w None front = tt
-decided_sets w (Some v) front = by (is_ended v.session) where
-  by : (over : Bool) → SetsAt (role_in v.session) (if over then None else Some (decide w v front))
+decided_updates : (w : World) (o : Option Conversation) (front : Front) → UpdatesAt (role_at o) (decided_on w o front)
+decided_updates w None front = tt
+decided_updates w (Some v) front = by (is_ended v.session) where
+  by : (over : Bool) → UpdatesAt (role_in v.session) (if over then None else Some (decide w v front))
   by true = tt
-  by false = decide_sets w v front
+  by false = decide_updates w v front
 
-own_sets : (x : Happening) (k : ℕ) → SetsAt (role_at (x.conversation k)) (decided x k)
-own_sets x k = by (steps x.event k) where
-  by : (stepping : Bool) → SetsAt (role_at (x.conversation k)) (if stepping then decided_on x.world (x.conversation k) (front_in x.event) else None)
-  by true = decided_sets x.world (x.conversation k) (front_in x.event)
+own_updates : (x : Happening) (k : ℕ) → UpdatesAt (role_at (x.conversation k)) (decided x k)
+own_updates x k = by (steps x.event k) where
+  by : (stepping : Bool) → UpdatesAt (role_at (x.conversation k)) (if stepping then decided_on x.world (x.conversation k) (front_in x.event) else None)
+  by true = decided_updates x.world (x.conversation k) (front_in x.event)
   by false = tt
 
 -- ---- what a step that goes on ends
@@ -234,44 +129,48 @@ admin_no_io c (Connected (Admin d) queue) is = refl
 admin_no_io c (Connected (Io d q) queue) is = cc
 admin_no_io c Ended is = refl
 
--- a change ends no connection that its own command made it on
-changed_at : (x : Happening) (k : ℕ) (v : Conversation) (ch : Change) → x.conversation k ≡ Some v → change_of x ≡ ch → SetsBy (role_in v.session) ch
-    → ending_of x ≡ ending_changed ch → ends_at x (x.conversation k) ≡ false
-changed_at x k v change.Stay met makes sets is = nothing_at x (x.conversation k) is
-changed_at x k v (change.Begin b) met makes sets is = nothing_at x (x.conversation k) is
-changed_at x k v (change.Join j) met makes sets is = nothing_at x (x.conversation k) is
-changed_at x k v (change.KeepAlive c) met makes sets is = nothing_at x (x.conversation k) is
-changed_at x k v (change.Configure s) met makes sets is = by s.effect refl where
-  set_ends : (e : Effect) → s.effect ≡ e → ending_of x ≡ ending_set e s.cntlid
-  set_ends e same = is ∙ ap (λ (f : Effect). ending_set f s.cntlid) same
+-- a Property Set ends no connection that it came on
+set_at : (x : Happening) (k : ℕ) (v : Conversation) (d : ℕ) (s : ConfigurationSet) → x.conversation k ≡ Some v
+    → consequence_of x ≡ consequence.Update d (update.Configuration s) → role_in v.session ≡ Some (Admin d)
+    → ending_of x ≡ ending_set s.change d → ends_at x (x.conversation k) ≡ false
+set_at x k v d s met makes own is = by s.change refl where
+  set_ends : (e : Change) → s.change ≡ e → ending_of x ≡ ending_set e d
+  set_ends e same = is ∙ ap (λ (f : Change). ending_set f d) same
 
-  by : (e : Effect) → s.effect ≡ e → ends_at x (x.conversation k) ≡ false
-  by effect.Reset same =
-      let io = resets_end_their_queues_alone.connections x s k v makes same met in
-      (neither (terminates x k) (ends_at x (x.conversation k)) (io ∙ admin_no_io s.cntlid v.session sets)).1
-  by effect.Enable same = nothing_at x (x.conversation k) (set_ends effect.Enable same)
-  by effect.Shutdown same = nothing_at x (x.conversation k) (set_ends effect.Shutdown same)
-  by effect.Stay same = nothing_at x (x.conversation k) (set_ends effect.Stay same)
+  by : (e : Change) → s.change ≡ e → ends_at x (x.conversation k) ≡ false
+  by change.Reset same =
+      let io = resets_end_their_queues_alone.connections x d s k v makes same met in
+      (neither (terminates x k) (ends_at x (x.conversation k)) (io ∙ admin_no_io d v.session own)).1
+  by change.Enable same = nothing_at x (x.conversation k) (set_ends change.Enable same)
+  by change.Shutdown same = nothing_at x (x.conversation k) (set_ends change.Shutdown same)
+  by change.Stay same = nothing_at x (x.conversation k) (set_ends change.Stay same)
+
+-- nor does any other reply
+replied_at : (x : Happening) (k : ℕ) (v : Conversation) (ch : Consequence) → x.conversation k ≡ Some v → consequence_of x ≡ ch
+    → UpdatesBy (role_in v.session) ch → ending_of x ≡ ending_replied ch → ends_at x (x.conversation k) ≡ false
+replied_at x k v (consequence.Update d (update.Configuration s)) met makes own is = set_at x k v d s met makes own is
+replied_at x k v (consequence.Update d (update.Command e)) met makes own is = nothing_at x (x.conversation k) is
+replied_at x k v _ met makes own is = nothing_at x (x.conversation k) is
 
 -- a step that does not end its own connection does not end it from elsewhere
 goes_on : (x : Happening) (k : ℕ) → steps x.event k ≡ true → terminates x k ≡ false → ends_at x (x.conversation k) ≡ false
-goes_on x k stepping going = by (x.conversation k) (decided x k) refl refl (own_sets x k) where
+goes_on x k stepping going = by (x.conversation k) (decided x k) refl refl (own_updates x k) where
   taken : (o : Option Conversation) (d : Option Decision) → x.conversation k ≡ o → decided x k ≡ d → ending_of x ≡ ending_taken o d
   taken o d met is =
       taken_is x k stepping ∙ ap (λ (p : Option Conversation). ending_taken p (decided x k)) met ∙ ap (λ (e : Option Decision). ending_taken o e) is
 
-  makes : (d : Option Decision) → decided x k ≡ d → change_of x ≡ change_decided d
-  makes d is = ap change_decided (sym (own_is x k stepping) ∙ is)
+  makes : (d : Option Decision) → decided x k ≡ d → consequence_of x ≡ consequence_decided d
+  makes d is = ap consequence_decided (sym (own_is x k stepping) ∙ is)
 
   ending_decided_so : (d : Option Decision) → decided x k ≡ d → is_end_decided d ≡ false
   ending_decided_so d is = ap is_end_decided (sym is) ∙ going
 
-  by : (o : Option Conversation) (d : Option Decision) → x.conversation k ≡ o → decided x k ≡ d → SetsAt (role_at o) d → ends_at x (x.conversation k) ≡ false
+  by : (o : Option Conversation) (d : Option Decision) → x.conversation k ≡ o → decided x k ≡ d → UpdatesAt (role_at o) d → ends_at x (x.conversation k) ≡ false
   by None d met is sets = ap (λ (o : Option Conversation). ends_at x o) met
   by (Some v) None met is sets = nothing_at x (x.conversation k) (taken (Some v) None met is)
   by (Some v) (Some decision.Initialize) met is sets = nothing_at x (x.conversation k) (taken (Some v) (Some decision.Initialize) met is)
   by (Some v) (Some (decision.Reply r)) met is sets =
-      changed_at x k v r.change met (makes (Some (decision.Reply r)) is) sets (taken (Some v) (Some (decision.Reply r)) met is)
+      replied_at x k v r.consequence met (makes (Some (decision.Reply r)) is) sets (taken (Some v) (Some (decision.Reply r)) met is)
   by (Some v) (Some (decision.Terminate t)) met is sets = let over : true ≡ false = ending_decided_so (Some (decision.Terminate t)) is in cc
   by (Some v) (Some decision.Close) met is sets = let over : true ≡ false = ending_decided_so (Some decision.Close) is in cc
 

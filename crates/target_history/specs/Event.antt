@@ -16,48 +16,30 @@ pub data Event : Type 0 where
 
 -- whether it opens connection k
 abbrev pub opens : Event → ℕ → Bool
-opens (edited edit) k = false
 opens (opened port n) k = k == n
-opens (stepped n front m) k = false
-opens (given_up n) k = false
-opens (ticked now) k = false
+opens _ k = false
 
 -- the port that it opens a connection on
 abbrev pub port_in : Event → ℕ
-port_in (edited edit) = 0
 port_in (opened port n) = port
-port_in (stepped n front m) = 0
-port_in (given_up n) = 0
-port_in (ticked now) = 0
+port_in _ = 0
 
 -- whether it gives connection k up
 abbrev pub gives_up : Event → ℕ → Bool
-gives_up (edited edit) k = false
-gives_up (opened port n) k = false
-gives_up (stepped n front m) k = false
 gives_up (given_up n) k = k == n
-gives_up (ticked now) k = false
+gives_up _ k = false
 
 -- whether it is a step of connection k
 abbrev pub steps : Event → ℕ → Bool
-steps (edited edit) k = false
-steps (opened port n) k = false
 steps (stepped n front m) k = k == n
-steps (given_up n) k = false
-steps (ticked now) k = false
+steps _ k = false
 
 -- what a step found at the front of the stream
 abbrev pub front_in : Event → Front
-front_in (edited edit) = incomplete
-front_in (opened port n) = incomplete
 front_in (stepped n front m) = front
-front_in (given_up n) = incomplete
-front_in (ticked now) = incomplete
+front_in _ = incomplete
 
 -- what the disks did: all that was asked of them, where nothing was
 abbrev pub medium_in : Event → Medium
-medium_in (edited edit) = good
-medium_in (opened port n) = good
 medium_in (stepped n front m) = m
-medium_in (given_up n) = good
-medium_in (ticked now) = good
+medium_in _ = good

@@ -11,19 +11,20 @@ use Rattle.io_queue.specs.Act.{Medium}
 use Rattle.io_queue.specs.declared.operation.Operation.{Operation}
 use Rattle.io_queue.specs.Execution.{Act, DisksDid}
 use Rattle.pdu_cut.specs.Front.{Front}
-use Rattle.property_regs.specs.Regs.{is_ready, regs_after}
+use Rattle.property_regs.specs.Regs.{is_ready}
 use Rattle.target_decision.specs.declared.controller.Controller.{Controller}
-use Rattle.target_decision.specs.declared.decision.Beginning.{Beginning}
-use Rattle.target_decision.specs.declared.decision.Change.{Change}
-use Rattle.target_decision.specs.declared.decision.Change.TheVariants as change
+use Rattle.target_decision.specs.declared.consequence.Beginning.{Beginning}
+use Rattle.target_decision.specs.declared.consequence.Consequence.{Consequence}
+use Rattle.target_decision.specs.declared.consequence.Consequence.TheVariants as consequence
+use Rattle.target_decision.specs.declared.consequence.Update.{Update}
 use Rattle.target_decision.specs.declared.decision.Decision.{Decision}
 use Rattle.target_decision.specs.declared.decision.Decision.TheVariants as decision
-use Rattle.target_decision.specs.declared.decision.Setting.{Setting}
 use Rattle.target_decision.specs.declared.session.Conversation.{Conversation}
 use Rattle.target_decision.specs.declared.session.Session.{Session}
 use Rattle.target_decision.specs.declared.session.Session.TheVariants.{Ended}
 use Rattle.target_decision.specs.Begin.{bytes_at, entry_at, row_by}
-use Rattle.target_decision.specs.Controller.{new_controller, with_property, with_timer}
+use Rattle.target_decision.specs.Consequence.{update_by}
+use Rattle.target_decision.specs.Controller.{new_controller, registers_by, updated}
 use Rattle.target_decision.specs.Decision.{act_by, decide, is_end, operation_of, sent_by}
 use Rattle.target_decision.specs.Session.{is_ended, opened_on, session_after}
 use Rattle.target_decision.specs.World.{World}
@@ -49,18 +50,12 @@ accepted_or (Err fault) old = old
 
 abbrev pub config_after : Event → Configuration → Configuration
 config_after (edited edit) c = accepted_or (accept c edit) c
-config_after (opened port n) c = c
-config_after (stepped n front m) c = c
-config_after (given_up n) c = c
-config_after (ticked now) c = c
+config_after _ c = c
 
 -- the clock never goes back
 abbrev pub clock_after : Event → ℕ → ℕ
 clock_after (ticked now) clock = max clock now
-clock_after (edited edit) clock = clock
-clock_after (opened port n) clock = clock
-clock_after (stepped n front m) clock = clock
-clock_after (given_up n) clock = clock
+clock_after _ clock = clock
 
 -- ---- what is decided
 
@@ -76,47 +71,35 @@ decided x k = if steps x.event k then decided_on x.world (x.conversation k) (fro
 -- the connection that it is a step of, as it met it
 abbrev pub stepping : Event → (ℕ → Option Conversation) → Option Conversation
 stepping (stepped n front m) conversation = conversation n
-stepping (edited edit) conversation = None
-stepping (opened port n) conversation = None
-stepping (given_up n) conversation = None
-stepping (ticked now) conversation = None
+stepping _ conversation = None
 
 -- what is decided for that connection
 abbrev pub decision_of : Happening → Option Decision
 decision_of x = decided_on x.world (stepping x.event x.conversation) (front_in x.event)
 
-abbrev pub change_decided : Option Decision → Change
-change_decided None = change.Stay
-change_decided (Some (decision.Reply r)) = r.change
-change_decided (Some decision.Initialize) = change.Stay
-change_decided (Some (decision.Terminate t)) = change.Stay
-change_decided (Some decision.Close) = change.Stay
+abbrev pub consequence_decided : Option Decision → Consequence
+consequence_decided (Some (decision.Reply r)) = r.consequence
+consequence_decided _ = consequence.Nothing
 
--- the change that the connection's own command makes
-abbrev pub own_change : Happening → ℕ → Change
-own_change x k = change_decided (decided x k)
+-- what follows from the reply to the connection's own command
+abbrev pub own_consequence : Happening → ℕ → Consequence
+own_consequence x k = consequence_decided (decided x k)
 
--- the change that any command makes
-abbrev pub change_of : Happening → Change
-change_of x = change_decided (decision_of x)
+-- what follows from the reply to any command
+abbrev pub consequence_of : Happening → Consequence
+consequence_of x = consequence_decided (decision_of x)
 
 abbrev pub is_initialize : Option Decision → Bool
-is_initialize None = false
 is_initialize (Some decision.Initialize) = true
-is_initialize (Some (decision.Reply r)) = false
-is_initialize (Some (decision.Terminate t)) = false
-is_initialize (Some decision.Close) = false
+is_initialize _ = false
 
 -- whether it initializes the connection
 abbrev pub initializes : Happening → ℕ → Bool
 initializes x k = is_initialize (decided x k)
 
 abbrev pub responses_decided : Option Decision → ℕ
-responses_decided None = 0
 responses_decided (Some (decision.Reply r)) = 1
-responses_decided (Some decision.Initialize) = 0
-responses_decided (Some (decision.Terminate t)) = 0
-responses_decided (Some decision.Close) = 0
+responses_decided _ = 0
 
 -- the number of responses that it sends to the connection
 abbrev pub responses : Happening → ℕ → ℕ
@@ -236,54 +219,48 @@ started x b = record {
   clock = x.clock;
 }
 
-abbrev pub begins_by : Happening → Change → ℕ → Option Start
-begins_by x (change.Begin b) c = if c == b.controller.cntlid then Some (started x b) else None
-begins_by x change.Stay c = None
-begins_by x (change.Join j) c = None
-begins_by x (change.Configure s) c = None
-begins_by x (change.KeepAlive d) c = None
+abbrev pub begins_by : Happening → Consequence → ℕ → Option Start
+begins_by x (consequence.Begin b) c = if c == b.controller.cntlid then Some (started x b) else None
+begins_by x _ c = None
 
 -- the controller of this identifier that it begins
 abbrev pub begins : Happening → ℕ → Option Start
-begins x c = begins_by x (change_of x) c
+begins x c = begins_by x (consequence_of x) c
+
+-- what a command on its admin queue changes of it
+abbrev pub updates : Happening → ℕ → Option Update
+updates x c = update_by (consequence_of x) c
 
 -- the queues that an I/O queue, or a reset, leaves
 abbrev pub row_kept : Ending → ℕ → Row → Row
 row_kept (ending.Queue d qid) c row = if c == d then left qid row else row
 row_kept (ending.Reset d) c row = if c == d then left_all row else row
-row_kept ending.Nothing c row = row
-row_kept (ending.Port id) c row = row
-row_kept ending.Permission c row = row
-row_kept (ending.Controller d) c row = row
-row_kept (ending.Clock now) c row = row
+row_kept _ c row = row
 
 abbrev pub row_left : Happening → ℕ → Option Row → Option Row
 row_left x c o = if ends_live x c then None else option_map (row_kept (ending_of x) c) o
 
--- whether a controller is ready after a Property Set
-abbrev pub ready_after : Option Controller → Setting → Bool
-ready_after None s = false
-ready_after (Some c) s = is_ready (regs_after c.registers s.property.ofst s.property.attrib s.property.value)
+-- whether a controller is ready after its own command
+abbrev pub ready_after : Update → Option Controller → Bool
+ready_after u None = false
+ready_after u (Some c) = is_ready (registers_by u c.registers)
 
--- what a change makes of a row, with this row where it begins a controller
-abbrev pub row_changed : Change → Option Row → Option Controller → ℕ → Option Row → Option Row
-row_changed (change.Begin b) begun controller c o = if c == b.controller.cntlid then begun else o
-row_changed (change.Join j) begun controller c o = if c == j.cntlid then option_map (joined j.qid) o else o
-row_changed (change.Configure s) begun controller c o = if c == s.cntlid then option_map (with_ready (ready_after controller s)) o else o
-row_changed (change.KeepAlive d) begun controller c o = o
-row_changed change.Stay begun controller c o = o
+-- what a reply makes of a row, with this row where it begins a controller
+abbrev pub row_changed : Consequence → Option Row → Option Controller → ℕ → Option Row → Option Row
+row_changed (consequence.Begin b) begun controller c o = if c == b.controller.cntlid then begun else o
+row_changed (consequence.Join j) begun controller c o = if c == j.cntlid then option_map (joined j.qid) o else o
+row_changed (consequence.Update d u) begun controller c o = if c == d then option_map (with_ready (ready_after u controller)) o else o
+row_changed _ begun controller c o = o
 
 abbrev pub row_after : Happening → ℕ → Option Row → Option Row
 row_after x c o =
-    row_changed (change_of x) (row_by (change_of x) (port_met x) (front_in x.event)) (x.world.controller c) c (row_left x c o)
+    row_changed (consequence_of x) (row_by (consequence_of x) (port_met x) (front_in x.event)) (x.world.controller c) c (row_left x c o)
 
 -- .. and of what its own admin queue alone uses, when the clock shows this
-abbrev pub controller_changed : Change → ℕ → ℕ → Option Controller → Option Controller
-controller_changed (change.Begin b) now c o = if c == b.controller.cntlid then Some (new_controller b.controller.kind b.kato now) else o
-controller_changed (change.Configure s) now c o = if c == s.cntlid then option_map (with_property s.property) o else o
-controller_changed (change.KeepAlive s) now c o = if c == s.cntlid then option_map (with_timer s.kato now) o else o
-controller_changed (change.Join j) now c o = o
-controller_changed change.Stay now c o = o
+abbrev pub controller_changed : Consequence → ℕ → ℕ → Option Controller → Option Controller
+controller_changed (consequence.Begin b) now c o = if c == b.controller.cntlid then Some (new_controller b.controller.kind b.kato now) else o
+controller_changed (consequence.Update d u) now c o = if c == d then option_map (updated u now) o else o
+controller_changed _ now c o = o
 
 abbrev pub controller_after : Happening → ℕ → Option Controller → Option Controller
-controller_after x c o = controller_changed (change_of x) x.clock c (if ends_live x c then None else o)
+controller_after x c o = controller_changed (consequence_of x) x.clock c (if ends_live x c then None else o)

@@ -1,6 +1,6 @@
 -- What a history of events makes of a target. Each definition looks back over the list of what happened,
 -- the newest first; none keeps anything.
-use Rattle.std.specs.Prelude.{ℕ, ◌+◌, ◌%◌, ◌^◌, Bool, true, false, not, ◌==◌, ◌||◌, ◌&&◌, List, [], ◌∷◌, ◌++◌, length, map, slice_index_or, Option, Some, None, is_some, unwrap_or, if◌then◌else◌}
+use Rattle.std.specs.Prelude.{ℕ, ◌+◌, ◌%◌, ◌^◌, Bool, true, false, not, ◌==◌, ◌||◌, ◌&&◌, List, [], ◌∷◌, ◌++◌, length, map, slice_index_or, Option, Some, None, is_some, if◌then◌else◌}
 use Rattle.std.specs.List.{range_with_len}
 use Rattle.std.specs.Option.{option_map}
 use Rattle.admin_queue.specs.Pages.{Pages}
@@ -17,20 +17,22 @@ use Rattle.pdu_cut.specs.Front.{Front, incomplete, whole, faulty}
 use Rattle.pdu_cut.specs.Pdu.{Pdu}
 use Rattle.property_regs.specs.declared.kind.ControllerKind.TheVariants.{Discovery}
 use Rattle.property_regs.specs.declared.regs.Regs.{Regs}
-use Rattle.property_regs.specs.Regs.{is_ready, regs_after, regs_at_connect}
+use Rattle.property_regs.specs.Regs.{is_ready, regs_at_connect}
 use Rattle.target_decision.specs.declared.controller.Controller.{Controller}
-use Rattle.target_decision.specs.declared.decision.Change.{Change}
-use Rattle.target_decision.specs.declared.decision.Change.TheVariants as change
+use Rattle.target_decision.specs.declared.consequence.Consequence.{Consequence}
+use Rattle.target_decision.specs.declared.consequence.Consequence.TheVariants as consequence
+use Rattle.target_decision.specs.declared.consequence.Update.{Update}
 use Rattle.target_decision.specs.declared.session.Conversation.{Conversation}
 use Rattle.target_decision.specs.declared.session.Role.{Role}
 use Rattle.target_decision.specs.declared.session.Role.TheVariants.{Admin, Io}
 use Rattle.target_decision.specs.declared.session.Session.{Session}
 use Rattle.target_decision.specs.declared.session.Session.TheVariants.{Opened, Initialized, Connected, Ended}
+use Rattle.target_decision.specs.Controller.{kato_by, registers_by, restarts}
 use Rattle.target_decision.specs.World.{World}
 use Rattle.target_history.specs.declared.ending.Ending.{Ending}
 use Rattle.target_history.specs.declared.ending.Ending.TheVariants as ending
-use Rattle.target_history.specs.Event.{Event, edited, front_in, gives_up, opened, opens, port_in, steps, stepped, given_up, ticked}
-use Rattle.target_history.specs.Happening.{Happening, Start, acts, begins, change_of, clock_after, config_after, ending_of, ends, ends_live, initializes, own_change, responses, sends}
+use Rattle.target_history.specs.Event.{Event, edited, front_in, gives_up, opens, port_in, steps}
+use Rattle.target_history.specs.Happening.{Happening, Start, acts, begins, consequence_of, clock_after, config_after, ending_of, ends, ends_live, initializes, own_consequence, responses, sends, updates}
 
 -- the units of each disk that a target is made with
 abbrev pub Opening : Type 0
@@ -53,10 +55,7 @@ clock_of (x ∷ before) = clock_after x.event (clock_of before)
 -- one more where the event is an edit that changes the records of a host
 abbrev pub generation_after : Event → Configuration → List ℕ → ℕ → ℕ
 generation_after (edited edit) c host n = changes_records c (config_after (edited edit) c) host + n
-generation_after (opened port k) c host n = n
-generation_after (stepped k front m) c host n = n
-generation_after (given_up k) c host n = n
-generation_after (ticked now) c host n = n
+generation_after _ c host n = n
 
 -- the number of edits that changed the records of a host
 abbrev pub generation_of : Opening → List Happening → List ℕ → ℕ
@@ -105,16 +104,14 @@ pub record Admission : Type 0 where
   pub role : Role
   pub sqsize : ℕ
 
-abbrev pub admission_by : Change → Option Admission
-admission_by (change.Begin b) = Some (record { role = Admin b.controller.cntlid; sqsize = b.sqsize })
-admission_by (change.Join j) = Some (record { role = Io j.cntlid j.qid; sqsize = j.sqsize })
-admission_by change.Stay = None
-admission_by (change.Configure s) = None
-admission_by (change.KeepAlive c) = None
+abbrev pub admission_by : Consequence → Option Admission
+admission_by (consequence.Begin b) = Some (record { role = Admin b.controller.cntlid; sqsize = b.sqsize })
+admission_by (consequence.Join j) = Some (record { role = Io j.cntlid j.qid; sqsize = j.sqsize })
+admission_by _ = None
 
 -- the queue that the connection's own command makes of it
 abbrev pub admits : Happening → ℕ → Option Admission
-admits x k = admission_by (own_change x k)
+admits x k = admission_by (own_consequence x k)
 
 abbrev pub admission_or : Option Admission → Option Admission → Option Admission
 admission_or None before = before
@@ -164,66 +161,46 @@ start_of (x ∷ before) c = start_or (begins x c) (if ends_live x c then None el
 abbrev pub is_live : List Happening → ℕ → Bool
 is_live happened c = is_some (start_of happened c)
 
-abbrev pub registers_by : Change → ℕ → Regs → Regs
-registers_by (change.Begin b) c registers = if c == b.controller.cntlid then regs_at_connect b.controller.kind else registers
-registers_by (change.Configure s) c registers =
-    if c == s.cntlid then regs_after registers s.property.ofst s.property.attrib s.property.value else registers
-registers_by change.Stay c registers = registers
-registers_by (change.Join j) c registers = registers
-registers_by (change.KeepAlive d) c registers = registers
+-- what an event makes of a part of a controller: it begins it so, or its own command changes it, or it stays
+module _ {T : Type 0} (first : Start → T) (changed : Update → T → T) where
+  abbrev pub part_after : Option Start → Option Update → T → T
+  part_after (Some s) u before = first s
+  part_after None (Some u) before = changed u before
+  part_after None None before = before
 
 -- its properties, by each Property Set since its Connect (Base 2.0, section 3.1.3)
 abbrev pub registers_of : List Happening → ℕ → Regs
 registers_of [] c = regs_at_connect Discovery
-registers_of (x ∷ before) c = registers_by (change_of x) c (registers_of before c)
+registers_of (x ∷ before) c =
+    part_after (λ s. regs_at_connect s.beginning.controller.kind) registers_by (begins x c) (updates x c) (registers_of before c)
 
-abbrev pub beats_by : Change → ℕ → Bool
-beats_by (change.Begin b) c = c == b.controller.cntlid
-beats_by (change.KeepAlive s) c = c == s.cntlid
-beats_by change.Stay c = false
-beats_by (change.Join j) c = false
-beats_by (change.Configure s) c = false
+-- its keep alive timeout, in ms: that of its Connect or, where one came later, of its latest Set Features that set it
+abbrev pub kato_of : List Happening → ℕ → ℕ
+kato_of [] c = 0
+kato_of (x ∷ before) c = part_after (λ s. s.beginning.kato) kato_by (begins x c) (updates x c) (kato_of before c)
 
 -- the clock at its Connect or, where one came later, at its latest Keep Alive or Set Features that set its timeout
 -- (Base 2.0, section 3.9)
 abbrev pub mark_of : List Happening → ℕ → ℕ
 mark_of [] c = 0
-mark_of (x ∷ before) c = if beats_by (change_of x) c then x.clock else mark_of before c
+mark_of (x ∷ before) c =
+    part_after (λ s. s.clock) (λ u mark. if restarts u then x.clock else mark) (begins x c) (updates x c) (mark_of before c)
 
-abbrev pub kato_by : Change → ℕ → ℕ → ℕ
-kato_by (change.Begin b) c kato = if c == b.controller.cntlid then b.kato else kato
-kato_by (change.KeepAlive s) c kato = if c == s.cntlid then unwrap_or s.kato kato else kato
-kato_by change.Stay c kato = kato
-kato_by (change.Join j) c kato = kato
-kato_by (change.Configure s) c kato = kato
-
--- its keep alive timeout, in ms: that of its Connect or, where one came later, of its latest Set Features that set it
-abbrev pub kato_of : List Happening → ℕ → ℕ
-kato_of [] c = 0
-kato_of (x ∷ before) c = kato_by (change_of x) c (kato_of before c)
-
-abbrev pub joins_by : Change → ℕ → ℕ → Bool
-joins_by (change.Join j) c qid = (c == j.cntlid) && (qid == j.qid)
-joins_by change.Stay c qid = false
-joins_by (change.Begin b) c qid = false
-joins_by (change.Configure s) c qid = false
-joins_by (change.KeepAlive d) c qid = false
+abbrev pub joins_by : Consequence → ℕ → ℕ → Bool
+joins_by (consequence.Join j) c qid = (c == j.cntlid) && (qid == j.qid)
+joins_by _ c qid = false
 
 abbrev pub drops_by : Ending → ℕ → ℕ → Bool
 drops_by (ending.Queue d q) c qid = (c == d) && (qid == q)
 drops_by (ending.Reset d) c qid = c == d
-drops_by ending.Nothing c qid = false
-drops_by (ending.Port id) c qid = false
-drops_by ending.Permission c qid = false
-drops_by (ending.Controller d) c qid = false
-drops_by (ending.Clock now) c qid = false
+drops_by _ c qid = false
 
 -- whether it has an I/O queue of this identifier: it does from the queue's Connect until the queue's
 -- connection is ended or given up, or the controller is reset
 abbrev pub has_queue : List Happening → ℕ → ℕ → Bool
 has_queue [] c qid = false
 has_queue (x ∷ before) c qid =
-    joins_by (change_of x) c qid || (not (is_some (begins x c) || drops_by (ending_of x) c qid) && has_queue before c qid)
+    joins_by (consequence_of x) c qid || (not (is_some (begins x c) || drops_by (ending_of x) c qid) && has_queue before c qid)
 
 abbrev pub row_with : Regs → (ℕ → Bool) → Start → Row
 row_with registers queue s = record s.row { ready = is_ready registers; qids = map queue (range_with_len 0 9) }

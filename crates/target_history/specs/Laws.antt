@@ -19,13 +19,14 @@ use Rattle.nvt_fields.specs.declared.pdu_type.PduType.{PduType}
 use Rattle.nvt_fields.specs.declared.pdu_type.PduType.TheVariants.{CapsuleCmd}
 use Rattle.pdu_codec.specs.Sqe.{fctype_of, opcode_of}
 use Rattle.pdu_cut.specs.Front.{Front, incomplete, whole, faulty}
-use Rattle.property_regs.specs.declared.regs.Change.TheVariants as effect
+use Rattle.property_regs.specs.declared.regs.Change.TheVariants as change
 use Rattle.target_decision.specs.declared.controller.Controller.{Controller}
-use Rattle.target_decision.specs.declared.decision.Change.TheVariants as change
+use Rattle.target_decision.specs.declared.consequence.ConfigurationSet.{ConfigurationSet}
+use Rattle.target_decision.specs.declared.consequence.Consequence.TheVariants as consequence
+use Rattle.target_decision.specs.declared.consequence.Update.TheVariants as update
 use Rattle.target_decision.specs.declared.decision.Decision.{Decision}
 use Rattle.target_decision.specs.declared.decision.Decision.TheVariants as decision
 use Rattle.target_decision.specs.declared.decision.Reply.{Reply}
-use Rattle.target_decision.specs.declared.decision.Setting.{Setting}
 use Rattle.target_decision.specs.declared.session.Conversation.{Conversation}
 use Rattle.target_decision.specs.declared.session.Role.{Role}
 use Rattle.target_decision.specs.declared.session.Role.TheVariants.{Admin, Io}
@@ -34,10 +35,11 @@ use Rattle.target_decision.specs.declared.session.Session.TheVariants.{Opened, I
 use Rattle.target_decision.specs.Begin.{bytes_at, entry_at}
 use Rattle.target_decision.specs.Capsule.{connect_type, fabrics_opcode, is_ready_at}
 use Rattle.target_decision.specs.Controller.{registers_at}
+use Rattle.target_decision.specs.Session.{role_in}
 use Rattle.target_decision.specs.World.{World, admin_controller}
 use Rattle.target_history.specs.Ending.{ends_timer}
 use Rattle.target_history.specs.Event.{Event, edited, front_in, gives_up, opened, opens, steps, stepped, given_up, ticked}
-use Rattle.target_history.specs.Happening.{Happening, change_of, decided, ending_of, ends, ends_live, operation_decided, responses}
+use Rattle.target_history.specs.Happening.{Happening, consequence_of, decided, ending_of, ends, ends_live, operation_decided, responses}
 use Rattle.target_history.specs.History.{Admission, active_of, Opening, admission_of, clock_of, config_of, controller_of, conversation_of, happened, has_ended, is_known, is_live, mark_of, meets_after, page_of, port_of, responses_since, row_of, sent}
 
 -- ---- what connections are sent
@@ -78,10 +80,7 @@ pub record ResponsesAnswerCapsules : Type 0 where
 
 abbrev pub is_edit : Event → Bool
 is_edit (edited edit) = true
-is_edit (opened port k) = false
-is_edit (stepped k front m) = false
-is_edit (given_up k) = false
-is_edit (ticked now) = false
+is_edit _ = false
 
 pub record PagesChangeByEdits : Type 0 where
   pub stays : (disks : Opening) (x : Happening) (before : List Happening) (host : List ℕ) → is_edit x.event ≡ false
@@ -210,18 +209,17 @@ is_io_of c (Admin cntlid) = false
 is_io_of c (Io cntlid qid) = c == cntlid
 
 abbrev pub is_io_queue_of : ℕ → Session → Bool
-is_io_queue_of c Opened = false
-is_io_queue_of c Initialized = false
 is_io_queue_of c (Connected role queue) = is_io_of c role
-is_io_queue_of c Ended = false
+is_io_queue_of c _ = false
 
 -- a Property Set that resets a controller ends the I/O queues of that controller, no other connection, and no
 -- controller
 pub record ResetsEndTheirQueuesAlone : Type 0 where
-  pub connections : (x : Happening) (s : Setting) (k : ℕ) (v : Conversation) → change_of x ≡ change.Configure s → s.effect ≡ effect.Reset
-      → x.conversation k ≡ Some v → ends x k ≡ is_io_queue_of s.cntlid v.session
-  pub controllers : (x : Happening) (s : Setting) (c : ℕ) → change_of x ≡ change.Configure s → s.effect ≡ effect.Reset
-      → ends_live x c ≡ false
+  pub connections : (x : Happening) (d : ℕ) (s : ConfigurationSet) (k : ℕ) (v : Conversation)
+      → consequence_of x ≡ consequence.Update d (update.Configuration s) → s.change ≡ change.Reset
+      → x.conversation k ≡ Some v → ends x k ≡ is_io_queue_of d v.session
+  pub controllers : (x : Happening) (d : ℕ) (s : ConfigurationSet) (c : ℕ)
+      → consequence_of x ≡ consequence.Update d (update.Configuration s) → s.change ≡ change.Reset → ends_live x c ≡ false
 
 -- whether an edit deletes this port
 abbrev pub deletes : Edit → ℕ → Bool
@@ -234,10 +232,8 @@ is_role_of c (Admin cntlid) = c == cntlid
 is_role_of c (Io cntlid qid) = c == cntlid
 
 abbrev pub is_queue_of : ℕ → Session → Bool
-is_queue_of c Opened = false
-is_queue_of c Initialized = false
 is_queue_of c (Connected role queue) = is_role_of c role
-is_queue_of c Ended = false
+is_queue_of c _ = false
 
 -- The controller of this row is permitted after an edit, which does not delete its port.
 pub record StaysPermitted (disks : Opening) (events : List Event) (edit : Edit) (c : ℕ) (row : Row) : Type 0 where
@@ -272,10 +268,7 @@ pub record LiveArePermitted : Type 0 where
 
 abbrev pub is_tick : Event → Bool
 is_tick (ticked now) = true
-is_tick (edited edit) = false
-is_tick (opened port k) = false
-is_tick (stepped k front m) = false
-is_tick (given_up k) = false
+is_tick _ = false
 
 abbrev pub has_ticks : List Event → Bool
 has_ticks [] = false
@@ -292,12 +285,6 @@ pub record NothingExpiresWithoutTicks : Type 0 where
 -- ---- queues, over all that happened
 
 -- which queue a connection is, where it is known and not ended
-abbrev pub role_in : Session → Option Role
-role_in Opened = None
-role_in Initialized = None
-role_in (Connected role queue) = Some role
-role_in Ended = None
-
 abbrev pub role_at : Option Conversation → Option Role
 role_at None = None
 role_at (Some v) = role_in v.session

@@ -1,14 +1,16 @@
 //! What an event ends beside the connection that it is a step of.
 ghost use Rattle.std.specs.Prelude.{◌≡◌, ℕ, slice_index_or, false};
 ghost use Rattle.std.specs.Option.{option_copied};
-ghost use Rattle.target_history.specs.Ending.{ending_changed, ending_decided, ending_edited, ending_lost, ending_set};
+ghost use Rattle.target_history.specs.Ending.{ending_decided, ending_edited, ending_lost, ending_replied, ending_updated};
 ghost use Rattle.target_history.specs.Ending.{ends_by, ends_controller, ends_role, ends_row, ends_row_at, ends_session};
 ghost use Rattle.target_history.specs.Ending.{ends_timer, is_barred, is_on_port, resets, runs_out};
 
 use fabrics_connect::Row;
 use nvt_config::{Config, Edit};
-use property_regs::Change as Effect;
-use target_decision::{Change, Controller, Conversation, Decision, Role, Session};
+use property_regs::Change;
+use target_decision::{
+    ConfigurationSet, Consequence, Controller, Conversation, Decision, Role, Session, Update,
+};
 
 /// What an event ends: each cause that lies elsewhere than on the connection itself.
 #[derive(Clone, Copy)]
@@ -59,20 +61,29 @@ impl Ending {
     {
         match decision {
             Decision::Initialize => Ending::Nothing,
-            Decision::Reply(reply) => Ending::of_change(&reply.change),
+            Decision::Reply(reply) => Ending::of_consequence(&reply.consequence),
             Decision::Terminate(_) | Decision::Close => Ending::of_loss(session),
         }
     }
 
-    fn of_change(change: &Change) -> Ending
-        ensures { result ≡ ending_changed change.now }
+    fn of_consequence(consequence: &Consequence) -> Ending
+        ensures { result ≡ ending_replied consequence.now }
     {
-        match change {
-            Change::Configure(setting) => match setting.effect {
-                Effect::Reset => Ending::Reset(setting.cntlid),
-                Effect::Enable | Effect::Shutdown | Effect::Stay => Ending::Nothing,
+        match consequence {
+            Consequence::Update { cntlid, update } => Ending::of_update(*cntlid, update),
+            Consequence::Nothing | Consequence::Begin(_) | Consequence::Join(_) => Ending::Nothing,
+        }
+    }
+
+    fn of_update(cntlid: u16, update: &Update) -> Ending
+        ensures { result ≡ ending_updated update.now cntlid }
+    {
+        match update {
+            Update::Configuration(ConfigurationSet { change, .. }) => match change {
+                Change::Reset => Ending::Reset(cntlid),
+                Change::Enable | Change::Shutdown | Change::Stay => Ending::Nothing,
             },
-            _ => Ending::Nothing,
+            Update::Command(_) => Ending::Nothing,
         }
     }
 

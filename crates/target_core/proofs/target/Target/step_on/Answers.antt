@@ -25,7 +25,7 @@ returns-in-Ok g c =
     rw (← c.self.view_is, stream, known)
     (step_done _ _ _ _ _ _ _ _ _ _ _ _ stream known lasts c.peek-front.ensures.front complete
     (rw (c.world-world.ensures, c.pages-pages.ensures, c.conversation.ensures) at c.decide-decision.ensures.decision)
-    (rw c.conversation.ensures at c.of_decision.ensures) c.change_of.ensures (row_known _ _ _ _ _ known c.in-Ok.ensures.row)
+    (rw c.conversation.ensures at c.of_decision.ensures) c.consequence_of.ensures (row_known _ _ _ _ _ known c.in-Ok.ensures.row)
     refl refl refl
     (acts_known _ _ _ _ _ _ _ _ _ _ known (rw (c.world-world.ensures, c.pages-pages.ensures) at c.in-Ok.ensures.acts)) c.settle.ensures.connections
     (rw c.consumed_of-len.ensures at (acted_known _ _ _ _ _ _ stream c.consume.ensures))
@@ -35,7 +35,7 @@ returns-in-Ok g c =
 pub change-requires : goal.change-requires
 change-requires g c =
     let known = sym c.get-2.ensures ∙ ap option_copied c.in-Some-get.is in
-    can_change _ _ _ _ _ _ _ _ _ c.change_of.ensures (row_known _ _ _ _ _ known c.in-Ok.ensures.row)
+    can_change _ _ _ _ _ _ _ _ _ c.consequence_of.ensures (row_known _ _ _ _ _ known c.in-Ok.ensures.row)
     (rw c.world-world.ensures at c.decide-decision.ensures.begins) c.settle.ensures.rows
 
 pub act-requires-clause-within : goal.act-requires-clause-within
