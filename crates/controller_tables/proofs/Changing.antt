@@ -1,4 +1,4 @@
--- What a change makes of the tables of controllers.
+-- What a reply makes of the tables of controllers.
 use Rattle.std.proofs.Common.{◌≡◌, ℕ, Bool, true, false, List, length, replicate, Option, Some, None, refl, sym, ap, ◌∙◌}
 use Rattle.std.specs.Prelude.{if◌then◌else◌, ◌==◌, is_none}
 use Rattle.std.specs.Option.{option_map}
@@ -9,15 +9,15 @@ use Rattle.fabrics_connect.specs.Row.{with_ready}
 use Rattle.number_table.specs.Table.{place}
 use Rattle.number_table.proofs.Tables.{place_within, place-replicate, place-with_value}
 use Rattle.pdu_cut.specs.Front.{Front}
-use Rattle.controller_tables.specs.Controllers.{AreTables, CanChange, TablesState, controller_places}
+use Rattle.controller_tables.specs.Controllers.{AreTables, CanFollow, TablesState, controller_places}
 use Rattle.target_decision.specs.declared.controller.Controller.{Controller}
 use Rattle.target_decision.specs.declared.consequence.Consequence.{Consequence}
 use Rattle.target_decision.specs.declared.consequence.Consequence.TheVariants as consequence
+use Rattle.target_decision.specs.declared.consequence.Update.{Update}
 use Rattle.target_decision.specs.declared.decision.Decision.{Decision}
 use Rattle.target_decision.specs.declared.decision.Decision.TheVariants as decision
-use Rattle.target_decision.specs.declared.decision.Setting.{Setting}
 use Rattle.target_decision.specs.Begin.{BeginsFree, FreeBy, row_by, row_decided}
-use Rattle.target_decision.specs.Controller.{with_property}
+use Rattle.target_decision.specs.Controller.{updated}
 use Rattle.target_history.specs.declared.ending.Ending.{Ending}
 use Rattle.target_history.specs.Happening.{consequence_decided, controller_changed, ready_after, row_changed, row_kept}
 
@@ -40,29 +40,29 @@ changed_none true f None = refl
 changed_none true f (Some a) = refl
 changed_none false f o = refl
 
--- ---- a Property Set
+-- ---- a command of its own
 
-pub configured_tables : (t : TablesState) (s : Setting) (ready : Bool) (rows : List (Option Row)) (own : List (Option Controller)) → AreTables t
-    → ((n : ℕ) → place own n ≡ controller_changed (consequence.Configure s) 0 n (place t.own n)) → length own ≡ length t.own
-    → ChangedAt s.cntlid (with_ready ready) (place t.rows s.cntlid) t.rows rows → AreTables (record { rows = rows; own = own })
-configured_tables t s ready rows own are each places changes = record {
+pub updated_tables : (t : TablesState) (d : ℕ) (u : Update) (now : ℕ) (ready : Bool) (rows : List (Option Row)) (own : List (Option Controller)) → AreTables t
+    → ((n : ℕ) → place own n ≡ controller_changed (consequence.Update d u) now n (place t.own n)) → length own ≡ length t.own
+    → ChangedAt d (with_ready ready) (place t.rows d) t.rows rows → AreTables (record { rows = rows; own = own })
+updated_tables t d u now ready rows own are each places changes = record {
   places = places ∙ are.places;
-  alike = λ n. ap is_none (changed_place s.cntlid (with_ready ready) (place t.rows s.cntlid) t.rows rows refl changes n)
-      ∙ changed_none (n == s.cntlid) (with_ready ready) (place t.rows n) ∙ are.alike n
-      ∙ sym (ap is_none (each n) ∙ changed_none (n == s.cntlid) (with_property s.property) (place t.own n));
+  alike = λ n. ap is_none (changed_place d (with_ready ready) (place t.rows d) t.rows rows refl changes n)
+      ∙ changed_none (n == d) (with_ready ready) (place t.rows n) ∙ are.alike n
+      ∙ sym (ap is_none (each n) ∙ changed_none (n == d) (updated u now) (place t.own n));
 }
 
-pub configured_rows : (t : TablesState) (s : Setting) (ch : Consequence) (begun : Option Row) (rows : List (Option Row)) → ch ≡ consequence.Configure s
-    → ChangedAt s.cntlid (with_ready (ready_after (place t.own s.cntlid) s)) (place t.rows s.cntlid) t.rows rows
+pub updated_rows : (t : TablesState) (d : ℕ) (u : Update) (ch : Consequence) (begun : Option Row) (rows : List (Option Row)) → ch ≡ consequence.Update d u
+    → ChangedAt d (with_ready (ready_after u (place t.own d))) (place t.rows d) t.rows rows
     → (n : ℕ) → place rows n ≡ row_changed ch begun (place t.own n) n (place t.rows n)
-configured_rows t s ch begun rows is changes n =
-    changed_place s.cntlid (with_ready (ready_after (place t.own s.cntlid) s)) (place t.rows s.cntlid) t.rows rows refl changes n
-    ∙ by (n == s.cntlid) refl ∙ ap (λ (b : Consequence). row_changed b begun (place t.own n) n (place t.rows n)) (sym is)
+updated_rows t d u ch begun rows is changes n =
+    changed_place d (with_ready (ready_after u (place t.own d))) (place t.rows d) t.rows rows refl changes n
+    ∙ by (n == d) refl ∙ ap (λ (b : Consequence). row_changed b begun (place t.own n) n (place t.rows n)) (sym is)
   where
-    by : (same : Bool) → (n == s.cntlid) ≡ same
-        → (if same then option_map (with_ready (ready_after (place t.own s.cntlid) s)) (place t.rows n) else place t.rows n)
-        ≡ (if same then option_map (with_ready (ready_after (place t.own n) s)) (place t.rows n) else place t.rows n)
-    by true is = ap (λ (m : ℕ). option_map (with_ready (ready_after (place t.own m) s)) (place t.rows n)) (sym (eqb-true n s.cntlid is))
+    by : (same : Bool) → (n == d) ≡ same
+        → (if same then option_map (with_ready (ready_after u (place t.own d))) (place t.rows n) else place t.rows n)
+        ≡ (if same then option_map (with_ready (ready_after u (place t.own n))) (place t.rows n) else place t.rows n)
+    by true is = ap (λ (m : ℕ). option_map (with_ready (ready_after u (place t.own m))) (place t.rows n)) (sym (eqb-true n d is))
     by false is = refl
 
 -- ---- a Connect
@@ -73,9 +73,9 @@ left_none false f None none = refl
 left_none false f (Some a) none = cc
 
 -- what ended does not hinder what begins
-can_change_by : (ch : Consequence) (port : ℕ) (found : Front) (old : List (Option Row)) (t : TablesState) (gone : ℕ → Bool) (e : Ending) → FreeBy (λ c. place old c) ch
-    → ((n : ℕ) → place t.rows n ≡ (if gone n then None else option_map (row_kept e n) (place old n))) → CanChange ch (row_by ch port found) t
-can_change_by (consequence.Begin b) port found old t gone e free rows = record {
+can_follow_by : (ch : Consequence) (port : ℕ) (found : Front) (old : List (Option Row)) (t : TablesState) (gone : ℕ → Bool) (e : Ending) → FreeBy (λ c. place old c) ch
+    → ((n : ℕ) → place t.rows n ≡ (if gone n then None else option_map (row_kept e n) (place old n))) → CanFollow ch (row_by ch port found) t
+can_follow_by (consequence.Begin b) port found old t gone e free rows = record {
   row = refl;
   begins = record {
     least = free.least;
@@ -83,43 +83,35 @@ can_change_by (consequence.Begin b) port found old t gone e free rows = record {
     free = rows b.controller.cntlid ∙ left_none (gone b.controller.cntlid) (row_kept e b.controller.cntlid) (place old b.controller.cntlid) free.free;
   };
 }
-can_change_by consequence.Nothing port found old t gone e free rows = tt
-can_change_by (consequence.Join j) port found old t gone e free rows = tt
-can_change_by (consequence.Configure s) port found old t gone e free rows = tt
-can_change_by (consequence.KeepAlive c) port found old t gone e free rows = tt
+can_follow_by _ port found old t gone e free rows = tt
 
-can_change_so : (d : Decision) (port : ℕ) (found : Front) (old : List (Option Row)) (t : TablesState) (gone : ℕ → Bool) (e : Ending) → BeginsFree (λ c. place old c) d
+can_follow_so : (d : Decision) (port : ℕ) (found : Front) (old : List (Option Row)) (t : TablesState) (gone : ℕ → Bool) (e : Ending) → BeginsFree (λ c. place old c) d
     → ((n : ℕ) → place t.rows n ≡ (if gone n then None else option_map (row_kept e n) (place old n)))
-    → CanChange (consequence_decided (Some d)) (row_decided d port found) t
-can_change_so (decision.Reply r) port found old t gone e free rows = can_change_by r.consequence port found old t gone e free rows
-can_change_so decision.Initialize port found old t gone e free rows = tt
-can_change_so (decision.Terminate x) port found old t gone e free rows = tt
-can_change_so decision.Close port found old t gone e free rows = tt
+    → CanFollow (consequence_decided (Some d)) (row_decided d port found) t
+can_follow_so (decision.Reply r) port found old t gone e free rows = can_follow_by r.consequence port found old t gone e free rows
+can_follow_so _ port found old t gone e free rows = tt
 
-pub can_change : (d : Decision) (ch : Consequence) (begun : Option Row) (port : ℕ) (found : Front) (old : List (Option Row)) (t : TablesState) (gone : ℕ → Bool) (e : Ending)
+pub can_follow : (d : Decision) (ch : Consequence) (begun : Option Row) (port : ℕ) (found : Front) (old : List (Option Row)) (t : TablesState) (gone : ℕ → Bool) (e : Ending)
     → ch ≡ consequence_decided (Some d) → begun ≡ row_decided d port found → BeginsFree (λ c. place old c) d
-    → ((n : ℕ) → place t.rows n ≡ (if gone n then None else option_map (row_kept e n) (place old n))) → CanChange ch begun t
-can_change d ch begun port found old t gone e is made free rows = rw (is, made) (can_change_so d port found old t gone e free rows)
+    → ((n : ℕ) → place t.rows n ≡ (if gone n then None else option_map (row_kept e n) (place old n))) → CanFollow ch begun t
+can_follow d ch begun port found old t gone e is made free rows = rw (is, made) (can_follow_so d port found old t gone e free rows)
 
 -- ---- a controller that is gone
 
 abbrev no_row : Option Row
 no_row = None
 
--- a Property Set of a controller that is gone makes nothing of its row
+-- a command of a controller that is gone makes nothing of its row
 pub changed_alike : (ch : Consequence) (begun : Option Row) (gone : Bool) (c : ℕ) (own : Option Controller) (o : Option Row)
     → row_changed ch begun (if gone then None else own) c (if gone then None else o) ≡ row_changed ch begun own c (if gone then None else o)
 changed_alike ch begun false c own o = refl
-changed_alike consequence.Nothing begun true c own o = refl
-changed_alike (consequence.Begin b) begun true c own o = refl
-changed_alike (consequence.Join j) begun true c own o = refl
-changed_alike (consequence.KeepAlive d) begun true c own o = refl
-changed_alike (consequence.Configure s) begun true c own o = by (c == s.cntlid) where
+changed_alike (consequence.Update d u) begun true c own o = by (c == d) where
   by : (same : Bool)
-      → (if same then option_map (with_ready (ready_after None s)) no_row else no_row)
-      ≡ (if same then option_map (with_ready (ready_after own s)) no_row else no_row)
+      → (if same then option_map (with_ready (ready_after u None)) no_row else no_row)
+      ≡ (if same then option_map (with_ready (ready_after u own)) no_row else no_row)
   by true = refl
   by false = refl
+changed_alike _ begun true c own o = refl
 
 -- ---- no controller
 

@@ -50,16 +50,13 @@ gone_by ending config t cntlid = ends_controller ending config cntlid (place t.r
 abbrev pub is_gone : List Bool → ℕ → Bool
 is_gone gone cntlid = slice_index_or gone cntlid false
 
--- ---- what a change asks of them
+-- ---- what a reply asks of them
 
 -- a controller that begins has a row of its identifier, which is free
 pub record CanStart (cntlid : ℕ) (begun : Option Row) (t : TablesState) : Type 0 where
   pub row : IsSomeAnd begun (λ row. row.cntlid ≡ cntlid)
   pub begins : CanBegin t.rows cntlid
 
-abbrev pub CanChange : Consequence → Option Row → TablesState → Type 0
-CanChange (consequence.Begin b) row t = CanStart b.controller.cntlid row t
-CanChange consequence.Nothing row t = Unit {0}
-CanChange (consequence.Join j) row t = Unit {0}
-CanChange (consequence.Configure s) row t = Unit {0}
-CanChange (consequence.KeepAlive start) row t = Unit {0}
+abbrev pub CanFollow : Consequence → Option Row → TablesState → Type 0
+CanFollow (consequence.Begin b) row t = CanStart b.controller.cntlid row t
+CanFollow _ row t = Unit {0}

@@ -3,7 +3,7 @@
 ghost use Rattle.std.specs.Prelude.{◌≡◌, ℕ, IfOk, None, Some, if◌then◌else◌, length};
 ghost use Rattle.std.specs.Option.{option_map};
 ghost use Rattle.number_table.specs.Table.{place};
-ghost use Rattle.controller_tables.specs.Controllers.{AreTables, CanChange, IsNewTables, gone_by, is_gone, world_with};
+ghost use Rattle.controller_tables.specs.Controllers.{AreTables, CanFollow, IsNewTables, gone_by, is_gone, world_with};
 ghost use Rattle.target_decision.specs.declared.consequence.Consequence.TheVariants as consequence;
 ghost use Rattle.admin_queue.specs.Pages.{pages_in};
 ghost use Rattle.target_decision.specs.World.{world_in};
@@ -15,7 +15,7 @@ use number_table::NumberTable;
 use nvt_config::Config;
 use std::alloc::{AllocError, Global};
 use std::marker::Model;
-use target_decision::{Change, Controller, Decision, Setting, TimerStart, World};
+use target_decision::{Consequence, Controller, Decision, Update, World};
 use target_history::Ending;
 
 /// The places of a table, and of the answer of `ControllerTables::end`: one for each controller
@@ -86,32 +86,31 @@ impl ControllerTables {
         gone
     }
 
-    /// Makes the change of a reply, with the row of the controller that it begins, when the clock
+    /// Does what follows from a reply, with the row of the controller that it begins, when the clock
     /// shows `now`, in ms: a controller begins, an I/O queue joins one (both by a Connect; Base 2.0,
-    /// section 6.3), a property is set, or a Keep Alive Timer starts again. A controller that begins
-    /// has to have a row of its identifier, and that has to be free. What names a controller that is not there
-    /// changes nothing.
-    pub fn change(&mut self, now: u64, change: &Change, row: Option<Row>)
-        requires { CanChange change.now row self.old }
+    /// section 6.3), or a command on its admin queue changes one. A controller that begins has to have
+    /// a row of its identifier, and that has to be free. What names a controller that is not there changes
+    /// nothing.
+    pub fn change(&mut self, now: u64, consequence: &Consequence, row: Option<Row>)
+        requires { CanFollow consequence.now row self.old }
         ensures rows { (c : ℕ) → place self.new.rows c
-            ≡ row_changed change.now row (place self.old.own c) c (place self.old.rows c) }
+            ≡ row_changed consequence.now row (place self.old.own c) c (place self.old.rows c) }
         ensures own { (c : ℕ) → place self.new.own c
-            ≡ controller_changed change.now now c (place self.old.own c) }
+            ≡ controller_changed consequence.now now c (place self.old.own c) }
     {
-        match (change, row) {
-            (Change::Begin(beginning), Some(row)) => {
+        match (consequence, row) {
+            (Consequence::Begin(beginning), Some(row)) => {
                 let cntlid = beginning.controller.cntlid;
                 let own = Controller::new(beginning.controller.kind, beginning.kato, now);
                 self.rows.put(row);
                 self.own.put(usize::from(cntlid), own);
             }
-            (Change::Join(joining), _) => self.rows.join(joining.cntlid, joining.qid),
-            (Change::Configure(setting), _) => {
-                let ready = configure(&mut self.own, setting);
-                self.rows.set_ready(setting.cntlid, ready);
+            (Consequence::Join(joining), _) => self.rows.join(joining.cntlid, joining.qid),
+            (Consequence::Update { cntlid, update }, _) => {
+                let ready = updated(&mut self.own, *cntlid, update, now);
+                self.rows.set_ready(*cntlid, ready);
             }
-            (Change::KeepAlive(start), _) => keep_alive(&mut self.own, start, now),
-            _ => {}
+            (Consequence::Begin(_), None) | (Consequence::Nothing, _) => {}
         }
     }
 }
@@ -174,39 +173,28 @@ fn leave(rows: &mut Controllers, ending: &Ending)
     }
 }
 
-// Sets a property of a controller, if it is there, and says whether it is ready then.
-fn configure(own: &mut NumberTable<Controller>, setting: &Setting) -> bool
-    ensures ready { result ≡ ready_after (place own.old setting.now.cntlid) setting.now }
+// Changes a controller as its own command says, if it is there, and says whether it is ready then.
+fn updated(own: &mut NumberTable<Controller>, cntlid: u16, update: &Update, now: u64) -> bool
+    ensures ready { result ≡ ready_after update.now (place own.old cntlid) }
     ensures each { (c : ℕ) → place own.new c
-        ≡ controller_changed (consequence.Configure setting.now) 0 c (place own.old c) }
+        ≡ controller_changed (consequence.Update cntlid update.now) now c (place own.old c) }
     ensures places { length own.new ≡ length own.old }
 {
-    match own.get_mut(usize::from(setting.cntlid)) {
+    match own.get_mut(usize::from(cntlid)) {
         Some(controller) => {
-            controller.set(&setting.property);
+            controller.update(update, now);
             controller.registers.ready()
         }
         None => false,
     }
 }
 
-// Starts the Keep Alive Timer of a controller again, if it is there.
-fn keep_alive(own: &mut NumberTable<Controller>, start: &TimerStart, now: u64)
-    ensures each { (c : ℕ) → place own.new c
-        ≡ controller_changed (consequence.KeepAlive start.now) now c (place own.old c) }
-    ensures places { length own.new ≡ length own.old }
-{
-    if let Some(controller) = own.get_mut(usize::from(start.cntlid)) {
-        controller.keep_alive(start.kato, now);
-    }
-}
-
-/// What a decision changes of the controllers: what its reply says, and nothing where it is none.
-pub fn consequence_of(decision: &Decision) -> Change
+/// What follows from a decision: what follows from its reply, and nothing where it is none.
+pub fn consequence_of(decision: &Decision) -> Consequence
     ensures { result ≡ consequence_decided (Some decision.now) }
 {
     match decision {
         Decision::Reply(reply) => reply.consequence,
-        _ => Change::Stay,
+        Decision::Initialize | Decision::Terminate(_) | Decision::Close => Consequence::Nothing,
     }
 }

@@ -1,4 +1,4 @@
-use Rattle.controller_tables.proofs.Changing.{configured_rows, configured_tables}
+use Rattle.controller_tables.proofs.Changing.{updated_rows, updated_tables}
 use Rattle.controller_tables.proofs.controllers.ControllerTables.change.Goals as goal
 
 pub invariant_of-self-in-Configure-1 : goal.invariant_of-self-in-Configure-1

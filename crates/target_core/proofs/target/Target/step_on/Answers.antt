@@ -1,6 +1,6 @@
 use Rattle.std.proofs.Common.{refl, ap, sym, ◌∙◌}
 use Rattle.std.specs.Option.{option_copied}
-use Rattle.controller_tables.proofs.Changing.{can_change}
+use Rattle.controller_tables.proofs.Changing.{can_follow}
 use Rattle.target_core.proofs.Stepping.{acted_known, acts_known, row_known, step_done, step_is_target}
 use Rattle.target_decision.specs.World.{World}
 use Rattle.target_core.proofs.target.Target.step_on.Goals as goal
@@ -35,7 +35,7 @@ returns-in-Ok g c =
 pub change-requires : goal.change-requires
 change-requires g c =
     let known = sym c.get-2.ensures ∙ ap option_copied c.in-Some-get.is in
-    can_change _ _ _ _ _ _ _ _ _ c.consequence_of.ensures (row_known _ _ _ _ _ known c.in-Ok.ensures.row)
+    can_follow _ _ _ _ _ _ _ _ _ c.consequence_of.ensures (row_known _ _ _ _ _ known c.in-Ok.ensures.row)
     (rw c.world-world.ensures at c.decide-decision.ensures.begins) c.settle.ensures.rows
 
 pub act-requires-clause-within : goal.act-requires-clause-within
