@@ -13,7 +13,7 @@ use Rattle.target_decision.specs.declared.session.Session.TheVariants.{Opened, I
 use Rattle.target_decision.specs.Session.{replied, session_after}
 use Rattle.target_history.specs.declared.ending.Ending.{Ending}
 use Rattle.target_history.specs.declared.ending.Ending.TheVariants as ending
-use Rattle.target_history.specs.Ending.{ending_changed, ending_decided, ends_by, ends_session}
+use Rattle.target_history.specs.Ending.{ending_decided, ending_replied, ending_updated, ends_by, ends_session}
 
 -- ---- where nothing ends
 
@@ -62,12 +62,11 @@ nothing_in gone port none s t = rw (nothing_ends gone none s, nothing_ends gone 
 abbrev pub QuietWhere : Ending → (ℕ → Bool) → Type 0
 QuietWhere e gone = e ≡ ending.Nothing → (c : ℕ) → gone c ≡ false
 
-replies : (ch : Consequence) (gone : ℕ → Bool) (port : ℕ) (s : Session) → QuietWhere (ending_changed ch) gone
-    → (if ends_in (ending_changed ch) gone port (replied ch s) then Ended else replied ch s)
-    ≡ (if ends_in (ending_changed ch) gone port s then Ended else replied ch s)
+replies : (ch : Consequence) (gone : ℕ → Bool) (port : ℕ) (s : Session) → QuietWhere (ending_replied ch) gone
+    → (if ends_in (ending_replied ch) gone port (replied ch s) then Ended else replied ch s)
+    ≡ (if ends_in (ending_replied ch) gone port s then Ended else replied ch s)
 replies consequence.Nothing gone port s quiet = responds ending.Nothing gone port s
-replies (consequence.KeepAlive c) gone port s quiet = responds ending.Nothing gone port s
-replies (consequence.Configure st) gone port s quiet = responds (ending_changed (consequence.Configure st)) gone port s
+replies (consequence.Update c u) gone port s quiet = responds (ending_updated u c) gone port s
 replies (consequence.Begin b) gone port s quiet = nothing_in gone port (quiet refl) s (replied (consequence.Begin b) s)
 replies (consequence.Join j) gone port s quiet = nothing_in gone port (quiet refl) s (replied (consequence.Join j) s)
 
