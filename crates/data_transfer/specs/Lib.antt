@@ -1,0 +1,6 @@
+pub mod DataFault
+pub mod Part
+pub mod Parts
+pub mod Pieces
+pub mod Queue
+pub mod Whole
