@@ -1,6 +1,6 @@
 -- The tags of one connection: that one is free where fewer than all are used.
-use Rattle.std.proofs.Common.{◌≡◌, ◌⊎◌, ℕ, suc, zero, ◌+◌, ◌<◌, ◌≤◌, Bool, true, false, cond, List, length, set, Option, Some, None, is_none, is_some, unwrap_or, position, count_by, refl, sym, ap, ◌∙◌, inl, inr, arith, true≢false}
-use Rattle.std.specs.List.{position_or_len, range_with_len}
+use Rattle.std.proofs.Common.{◌≡◌, ◌⊎◌, ℕ, suc, zero, ◌+◌, ◌<◌, ◌≤◌, ◌||◌, Bool, true, false, cond, List, length, set, Option, Some, None, is_none, is_some, unwrap_or, position, count_by, refl, sym, ap, ◌∙◌, inl, inr, arith, true≢false}
+use Rattle.std.specs.List.{list_any, position_or_len, range_with_len}
 use Rattle.std.proofs.lemmas.Bool.{cases_lt}
 use Rattle.std.proofs.lemmas.Bool.Decides.{nat_tests}
 use Rattle.std.proofs.lemmas.List.{get_or-replicate, get_or_past, length-replicate, set-get_or}
@@ -8,7 +8,7 @@ use Rattle.std.proofs.lemmas.List.Quantifiers.{position-Some}
 use Rattle.std.proofs.lemmas.List.Sums.{fails_before_first, sum_by-cons}
 use Rattle.number_table.specs.Table.{place}
 use Rattle.data_transfer.specs.Part.{Part}
-use Rattle.data_transfer.specs.Parts.{IsLeastFree, count_of}
+use Rattle.data_transfer.specs.Parts.{IsLeastFree, count_of, has_command, is_of}
 use Rattle.data_transfer.specs.Queue.{no_tags}
 
 -- a test that each number of a range passes counts all of them, and one that none passes counts none
@@ -25,6 +25,11 @@ count-none p a (suc n) fails =
     let rest : count_by p (range_with_len (a + 1) n) ≡ 0 = count-none p (a + 1) n fails in
     let sum : cond {A = ℕ} false 1 0 + count_by p (range_with_len (a + 1) n) ≡ 0 = omega arith in
     sum_by-cons (λ t. cond {A = ℕ} (p t) 1 0) a (range_with_len (a + 1) n) ∙ ap (λ b. cond {A = ℕ} b 1 0 + count_by p (range_with_len (a + 1) n)) (fails a) ∙ sum
+
+any-none : (p : ℕ → Bool) (a n : ℕ) → ((t : ℕ) → p t ≡ false) → list_any p (range_with_len a n) ≡ false
+any-none p a zero fails = refl
+any-none p a (suc n) fails =
+    ap (λ b. b || list_any p (range_with_len (a + 1) n)) (fails a) ∙ any-none p (a + 1) n fails
 
 is_some_by : {T : Type 0} → (o : Option T) → is_none o ≡ false → is_some o ≡ true
 is_some_by None there = sym there
@@ -84,6 +89,11 @@ module _ (C : Type 0) where
   unfolding count_of
   count_of-none table new = count-none (λ ttag. is_some (place table ttag)) 0 63 (λ t. ap is_some (ap (λ x. place x t) new ∙ place-no_tags t))
 
+  -- .. nor one of any command
+  pub has_command-no_tags : (cid : ℕ) → has_command (place (no_tags {C = C})) cid ≡ false
+  unfolding has_command
+  has_command-no_tags cid = any-none (λ ttag. is_of cid (place (no_tags {C = C}) ttag)) 0 63 (λ t. ap (is_of cid) (place-no_tags t))
+
   pub length-none : (table : List (Option (Part C))) → table ≡ no_tags → length table ≡ 63
   length-none table new = ap length new ∙ length-no_tags
 
@@ -91,4 +101,4 @@ module _ (C : Type 0) where
   set-no_tags n = ap (set no_tags n) (sym (place-no_tags n)) ∙ set-get_or no_tags n None
 
 -- for `grind`: what a search for a free tag finds
-pub ruleset tags = (one_free, IsLeastFree-found, position_within, place-no_tags, count_of-none, length-none, set-no_tags)
+pub ruleset tags = (one_free, IsLeastFree-found, position_within, place-no_tags, count_of-none, has_command-no_tags, length-none, set-no_tags)

@@ -1,4 +1,5 @@
 pub mod DataFault
+pub mod Laws
 pub mod Part
 pub mod Parts
 pub mod Pieces

@@ -30,6 +30,10 @@ pub record H2cData : Type 0 where
 abbrev pub h2c_data : ℕ → ℕ → ℕ → List ℕ → H2cData
 h2c_data cid offset datal bytes = record { cid = cid; offset = offset; datal = datal; bytes = bytes }
 
+-- how far a transfer has come with so many of the bytes that were asked for
+abbrev pub progress_at : ℕ → ℕ → Progress
+progress_at len asked = if len == asked then progress.Whole else progress.More
+
 -- an answer, unless there is a fault
 abbrev pub answer_unless : Option DataFault → Progress → Result Progress DataFault
 answer_unless None answer = Ok answer
@@ -62,7 +66,7 @@ module _ {C : Type 0} where
 
   -- how far a transfer has come
   abbrev pub progress_of : Part C → Progress
-  progress_of part = if is_whole part then progress.Whole else progress.More
+  progress_of part = progress_at (length part.bytes) part.asked
 
   -- what an H2CData is answered, by what stands under its tag
   abbrev pub data_answer : Option (Part C) → H2cData → Result Progress DataFault

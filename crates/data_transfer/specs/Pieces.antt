@@ -1,7 +1,7 @@
 -- The pieces in which the data of a reply goes to the host (TCP Transport 1.0, section 3.3).
 use Rattle.std.specs.Prelude.{ℕ, ◌+◌, ◌-◌, ◌*◌, ◌/◌, ◌==◌, min, List, map}
 use Rattle.std.specs.List.{range_with_len}
-use Rattle.data_transfer.specs.declared.pieces.Piece.{Piece}
+use Rattle.data_transfer.specs.declared.piece.Piece.{Piece}
 
 -- how many pieces of at most 32,768 bytes so many bytes make
 abbrev pub piece_count : ℕ → ℕ

@@ -6,12 +6,12 @@
 
 pub mod fault;
 pub mod laws;
-pub mod pieces;
+pub mod piece;
 mod queue;
 pub mod transfer;
 pub mod transfers;
 
 pub use fault::DataFault;
-pub use pieces::{PIECE_LEN, Piece};
+pub use piece::{PIECE_LEN, Piece, Split, pieces};
 pub use transfer::{Progress, Whole};
 pub use transfers::Transfers;

@@ -3,7 +3,7 @@ ghost use Rattle.std.specs.Prelude.{◌≡◌, ◌<◌, ◌+◌, IfOk, IfNone, O
 ghost use Rattle.std.specs.Option.{option_map};
 ghost use Rattle.number_table.specs.Table.{place, with_value};
 ghost use Rattle.data_transfer.specs.Part.{begun, data_after, data_answer, h2c_data, left_in, whole_in};
-ghost use Rattle.data_transfer.specs.Parts.{IsLeastFree, count_of, has_command};
+ghost use Rattle.data_transfer.specs.Parts.{IsLeastFree, count_of, has_command, is_of};
 ghost use Rattle.data_transfer.specs.Queue.{no_tags};
 ghost use Rattle.data_transfer.specs.Whole.{part_of};
 
@@ -71,6 +71,7 @@ fn data_in<C>(
 ) -> Result<Progress, DataFault>
     ensures answer { result ≡ data_answer (place table.old ttag) (h2c_data cid offset datal bytes.now) }
     ensures after { table.new ≡ slice_set table.old ttag (data_after (place table.old ttag) (h2c_data cid offset datal bytes.now)) }
+    ensures refused { OnErr result (table.new ≡ table.old) }
 {
     match table.get_mut(usize::from(ttag)) {
         Some(transfer) => transfer.data(cid, offset, datal, bytes),
@@ -83,11 +84,35 @@ where
     C: Drop,
     ensures whole { option_map part_of result ≡ whole_in (place table.old number) }
     ensures left { table.new ≡ slice_set table.old number (left_in (place table.old number)) }
+    ensures kept { IfNone result (table.new ≡ table.old) }
 {
     if table.get(number)?.progress() == Progress::More {
         return None;
     }
     Some(table.remove(number)?.into_whole())
+}
+
+#[tactic(auto, unfolding(crate::specs::Parts::count_of))]
+fn count_in<C>(table: &NumberTable<Transfer<C>>) -> usize
+    ensures { result ≡ count_of (place table.now) }
+{
+    (0..TAGS).filter(|ttag| table.get(*ttag).is_some()).count()
+}
+
+fn is_of<C>(table: &NumberTable<Transfer<C>>, ttag: usize, cid: u16) -> bool
+    ensures { result ≡ is_of cid (place table.now ttag) }
+{
+    match table.get(ttag) {
+        Some(transfer) => transfer.is_of(cid),
+        None => false,
+    }
+}
+
+#[tactic(auto, unfolding(crate::specs::Parts::has_command))]
+fn has_command_in<C>(table: &NumberTable<Transfer<C>>, cid: u16) -> bool
+    ensures { result ≡ has_command (place table.now) cid }
+{
+    (0..TAGS).any(|ttag| is_of(table, ttag, cid))
 }
 
 #[tactic(auto, using(crate::proofs::Tags::tags))]
@@ -138,6 +163,7 @@ impl<C> Queue<C> {
     ) -> Result<Progress, DataFault>
         ensures answer { result ≡ data_answer (place self.old ttag) (h2c_data cid offset datal bytes.now) }
         ensures after { self.new ≡ slice_set self.old ttag (data_after (place self.old ttag) (h2c_data cid offset datal bytes.now)) }
+        ensures refused { OnErr result (self.new ≡ self.old) }
     {
         match &mut self.table {
             Some(table) => data_in(table, ttag, cid, offset, datal, bytes),
@@ -151,6 +177,7 @@ impl<C> Queue<C> {
         C: Drop,
         ensures whole { option_map part_of result ≡ whole_in (place self.old ttag) }
         ensures left { self.new ≡ slice_set self.old ttag (left_in (place self.old ttag)) }
+        ensures kept { IfNone result (self.new ≡ self.old) }
     {
         match &mut self.table {
             Some(table) => finish_in(table, usize::from(ttag)),
@@ -165,5 +192,62 @@ impl<C> Queue<C> {
         ensures { self.new ≡ no_tags }
     {
         self.table = None;
+    }
+
+    /// What `data` would answer.
+    pub(crate) fn check(
+        &self,
+        ttag: u16,
+        cid: u16,
+        offset: u32,
+        datal: u32,
+        bytes: &[u8],
+    ) -> Result<Progress, DataFault>
+        ensures { result ≡ data_answer (place self.now ttag) (h2c_data cid offset datal bytes.now) }
+    {
+        match self.get(ttag) {
+            Some(transfer) => transfer.check(cid, offset, datal, bytes),
+            None => Err(DataFault::UnknownTag),
+        }
+    }
+
+    // The transfer of that tag, if it is there.
+    fn get(&self, ttag: u16) -> Option<&Transfer<C>>
+        ensures { option_copied result ≡ place self.now ttag }
+    {
+        match &self.table {
+            Some(table) => table.get(usize::from(ttag)),
+            None => None,
+        }
+    }
+
+    /// What the transfer of that tag, if it is there, was begun with.
+    pub(crate) fn command(&self, ttag: u16) -> Option<&C>
+        ensures { option_copied result ≡ option_map (λ part. part.command) (place self.now ttag) }
+    {
+        match self.get(ttag) {
+            Some(transfer) => Some(transfer.command()),
+            None => None,
+        }
+    }
+
+    /// How many transfers there are.
+    pub(crate) fn count(&self) -> usize
+        ensures { result ≡ count_of (place self.now) }
+    {
+        match &self.table {
+            Some(table) => count_in(table),
+            None => 0,
+        }
+    }
+
+    /// Whether one of them is of the command of that identifier.
+    pub(crate) fn has_command(&self, cid: u16) -> bool
+        ensures { result ≡ has_command (place self.now) cid }
+    {
+        match &self.table {
+            Some(table) => has_command_in(table, cid),
+            None => false,
+        }
     }
 }

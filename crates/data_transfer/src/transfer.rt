@@ -1,6 +1,8 @@
 //! One transfer: what its R2T asked for, and what came of it.
 ghost use Rattle.std.specs.Prelude.{◌≡◌, IfOk, IsTrue, Some};
-ghost use Rattle.data_transfer.specs.Part.{begun, data_answer, h2c_data, is_whole, part_after, part_fault, progress_of};
+ghost use Rattle.data_transfer.specs.Part.{begun, data_answer, h2c_data, is_whole, part_after, part_fault, progress_at};
+ghost use Rattle.data_transfer.specs.Part.{progress_of};
+ghost use Rattle.data_transfer.specs.Parts.{is_of};
 ghost use Rattle.data_transfer.specs.Whole.{part_of};
 
 use crate::fault::DataFault;
@@ -93,6 +95,22 @@ impl<C> Transfer<C> {
         None
     }
 
+    /// What `data` would answer.
+    pub(crate) fn check(
+        &self,
+        cid: u16,
+        offset: u32,
+        datal: u32,
+        bytes: &[u8],
+    ) -> Result<Progress, DataFault>
+        ensures { result ≡ data_answer (Some self.now) (h2c_data cid offset datal bytes.now) }
+    {
+        match self.fault(cid, offset, datal, bytes) {
+            Some(fault) => Err(fault),
+            None => Ok(self.progress_at(self.bytes.len() + bytes.len())),
+        }
+    }
+
     /// Appends the data of an H2CData, or says why it is refused and stays as it was. It takes no
     /// memory.
     pub(crate) fn data(
@@ -119,11 +137,32 @@ impl<C> Transfer<C> {
     pub(crate) fn progress(&self) -> Progress
         ensures { result ≡ progress_of self.now }
     {
-        if self.bytes.len() == self.asked {
+        self.progress_at(self.bytes.len())
+    }
+
+    // How far it would have come with so many bytes.
+    fn progress_at(&self, len: usize) -> Progress
+        ensures { result ≡ progress_at len self.now.asked }
+    {
+        if len == self.asked {
             Progress::Whole
         } else {
             Progress::More
         }
+    }
+
+    /// What it was begun with.
+    pub(crate) fn command(&self) -> &C
+        ensures { result.now ≡ self.now.command }
+    {
+        &self.command
+    }
+
+    /// Whether it is of the command of that identifier.
+    pub(crate) fn is_of(&self, cid: u16) -> bool
+        ensures { result ≡ is_of cid (Some self.now) }
+    {
+        self.cid == cid
     }
 
     /// Its identifier, command and bytes.

@@ -1,8 +1,8 @@
 //! The transfers of all connections.
-ghost use Rattle.std.specs.Prelude.{◌≡◌, ◌<◌, IfOk, OnErr};
+ghost use Rattle.std.specs.Prelude.{◌≡◌, ◌<◌, IfNone, IfOk, OnErr, Some, option_copied};
 ghost use Rattle.std.specs.Option.{option_map};
 ghost use Rattle.data_transfer.specs.Part.{begun, data_after, data_answer, h2c_data, left_in, whole_in};
-ghost use Rattle.data_transfer.specs.Parts.{IsLeastFree, Stand, count_of, no_parts, part_at};
+ghost use Rattle.data_transfer.specs.Parts.{IsLeastFree, Stand, count_of, has_command, no_parts, part_at};
 ghost use Rattle.data_transfer.specs.Parts.{with_part, without_queue};
 ghost use Rattle.data_transfer.specs.Whole.{part_of};
 
@@ -88,11 +88,56 @@ impl<C> Transfers<C> {
     ) -> Result<Progress, DataFault>
         ensures answer { result ≡ data_answer (part_at self.old conn ttag) (h2c_data cid offset datal bytes.now) }
         ensures after { Stand self.new (with_part (part_at self.old) conn ttag (data_after (part_at self.old conn ttag) (h2c_data cid offset datal bytes.now))) }
+        ensures refused { OnErr result (self.new ≡ self.old) }
     {
         match self.queues.get_mut(conn) {
             Some(queue) => queue.data(ttag, cid, offset, datal, bytes),
             None => Err(DataFault::UnknownTag),
         }
+    }
+
+    /// What `data` would answer.
+    pub fn check(
+        &self,
+        conn: usize,
+        ttag: u16,
+        cid: u16,
+        offset: u32,
+        datal: u32,
+        bytes: &[u8],
+    ) -> Result<Progress, DataFault>
+        ensures { result ≡ data_answer (part_at self.now conn ttag) (h2c_data cid offset datal bytes.now) }
+    {
+        match self.queues.get(conn) {
+            Some(queue) => queue.check(ttag, cid, offset, datal, bytes),
+            None => Err(DataFault::UnknownTag),
+        }
+    }
+
+    /// What the transfer of that tag, if it is there, was begun with.
+    pub fn command(&self, conn: usize, ttag: u16) -> Option<&C>
+        ensures { option_copied result ≡ option_map (λ part. part.command) (part_at self.now conn ttag) }
+    {
+        match self.queues.get(conn) {
+            Some(queue) => queue.command(ttag),
+            None => None,
+        }
+    }
+
+    /// How many transfers a connection has.
+    pub fn count(&self, conn: usize) -> usize
+        requires { conn < 64 }
+        ensures { result ≡ count_of (part_at self.now conn) }
+    {
+        self.queues[conn].count()
+    }
+
+    /// Whether one of a connection's transfers is of the command of that identifier (CID).
+    pub fn has_command(&self, conn: usize, cid: u16) -> bool
+        requires { conn < 64 }
+        ensures { result ≡ has_command (part_at self.now conn) cid }
+    {
+        self.queues[conn].has_command(cid)
     }
 
     /// Hands out the transfer of that tag, if it is there and all its data has come; its tag and its
@@ -102,6 +147,7 @@ impl<C> Transfers<C> {
         C: Drop,
         ensures whole { option_map part_of result ≡ whole_in (part_at self.old conn ttag) }
         ensures left { Stand self.new (with_part (part_at self.old) conn ttag (left_in (part_at self.old conn ttag))) }
+        ensures kept { IfNone result (self.new ≡ self.old) }
     {
         match self.queues.get_mut(conn) {
             Some(queue) => queue.finish(ttag),
