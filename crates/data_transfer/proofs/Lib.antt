@@ -1,0 +1,5 @@
+pub mod Coming
+pub mod Joins
+pub mod Places
+pub mod Splits
+pub mod Tags

@@ -1,0 +1,253 @@
+//! The transfers of one connection.
+ghost use Rattle.std.specs.Prelude.{◌≡◌, ◌<◌, ◌+◌, IfOk, IfNone, OnErr, Some, length, option_copied, slice_set};
+ghost use Rattle.std.specs.Option.{option_map};
+ghost use Rattle.number_table.specs.Table.{place, with_value};
+ghost use Rattle.data_transfer.specs.Part.{begun, data_after, data_answer, h2c_data, left_in, whole_in};
+ghost use Rattle.data_transfer.specs.Parts.{IsLeastFree, count_of, has_command, is_of};
+ghost use Rattle.data_transfer.specs.Queue.{no_tags};
+ghost use Rattle.data_transfer.specs.Whole.{part_of};
+
+use crate::fault::DataFault;
+use crate::transfer::{Progress, Transfer, Whole};
+use number_table::NumberTable;
+use std::alloc::{AllocError, Global};
+use std::marker::Model;
+
+/// How many transfers a connection may have at a time: as many as its queue may have commands.
+pub(crate) const TAGS: usize = 63;
+
+/// The transfers of one connection, by their tags: 0 to 62. It has no table before its first transfer.
+#[derive(Drop)]
+pub(crate) struct Queue<C> {
+    table: Option<NumberTable<Transfer<C>>>,
+}
+
+impl<C> Model for Queue<C> {
+    ghost use Rattle.std.specs.Prelude.{List, Option};
+    ghost use Rattle.std.specs.Coded.{coded_list, coded_option};
+    ghost use Rattle.data_transfer.specs.Part.{Part, part_code};
+    ghost use Rattle.data_transfer.specs.Queue.{HasAllTags, tags_in};
+
+    ghost Value = { List (Option (Part C)) };
+
+    ghost coded = { coded_list (coded_option (part_code C.code)) };
+
+    ghost view = { λ q. tags_in q.table };
+
+    ghost invariant = { λ q. HasAllTags q.table };
+}
+
+// Puts a transfer under the least tag that is free, which there is.
+#[tactic(auto, using(crate::proofs::Tags::tags))]
+fn put_least<C>(table: &mut NumberTable<Transfer<C>>, transfer: Transfer<C>) -> u16
+where
+    C: Drop,
+    requires tags { length table.old ≡ 63 }
+    requires room { count_of (place table.old) < 63 }
+    ensures least { IsLeastFree (place table.old) result }
+    ensures within { result < 63 }
+    ensures tags { length table.new ≡ 63 }
+    ensures put { table.new ≡ with_value table.old result transfer }
+{
+    let ttag = table.least_free().unwrap_or(0);
+    table.put(ttag, transfer);
+    ttag as u16
+}
+
+#[tactic(auto, unfolding(crate::specs::Queue::no_tags))]
+fn new_table<C>(alloc: Global) -> Result<NumberTable<Transfer<C>>, AllocError>
+    ensures { IfOk result (λ table. table ≡ no_tags) }
+{
+    NumberTable::new(alloc, TAGS)
+}
+
+fn data_in<C>(
+    table: &mut NumberTable<Transfer<C>>,
+    ttag: u16,
+    cid: u16,
+    offset: u32,
+    datal: u32,
+    bytes: &[u8],
+) -> Result<Progress, DataFault>
+    ensures answer { result ≡ data_answer (place table.old ttag) (h2c_data cid offset datal bytes.now) }
+    ensures after { table.new ≡ slice_set table.old ttag (data_after (place table.old ttag) (h2c_data cid offset datal bytes.now)) }
+    ensures refused { OnErr result (table.new ≡ table.old) }
+{
+    match table.get_mut(usize::from(ttag)) {
+        Some(transfer) => transfer.data(cid, offset, datal, bytes),
+        None => Err(DataFault::UnknownTag),
+    }
+}
+
+fn finish_in<C>(table: &mut NumberTable<Transfer<C>>, number: usize) -> Option<Whole<C>>
+where
+    C: Drop,
+    ensures whole { option_map part_of result ≡ whole_in (place table.old number) }
+    ensures left { table.new ≡ slice_set table.old number (left_in (place table.old number)) }
+    ensures kept { IfNone result (table.new ≡ table.old) }
+{
+    if table.get(number)?.progress() == Progress::More {
+        return None;
+    }
+    Some(table.remove(number)?.into_whole())
+}
+
+#[tactic(auto, unfolding(crate::specs::Parts::count_of))]
+fn count_in<C>(table: &NumberTable<Transfer<C>>) -> usize
+    ensures { result ≡ count_of (place table.now) }
+{
+    (0..TAGS).filter(|ttag| table.get(*ttag).is_some()).count()
+}
+
+fn is_of<C>(table: &NumberTable<Transfer<C>>, ttag: usize, cid: u16) -> bool
+    ensures { result ≡ is_of cid (place table.now ttag) }
+{
+    match table.get(ttag) {
+        Some(transfer) => transfer.is_of(cid),
+        None => false,
+    }
+}
+
+#[tactic(auto, unfolding(crate::specs::Parts::has_command))]
+fn has_command_in<C>(table: &NumberTable<Transfer<C>>, cid: u16) -> bool
+    ensures { result ≡ has_command (place table.now) cid }
+{
+    (0..TAGS).any(|ttag| is_of(table, ttag, cid))
+}
+
+#[tactic(auto, using(crate::proofs::Tags::tags))]
+impl<C> Queue<C> {
+    /// No transfer, and no memory for one.
+    pub(crate) fn new() -> Queue<C>
+        ensures { result ≡ no_tags }
+    {
+        Queue { table: None }
+    }
+
+    /// Begins a transfer, under the least tag that is free.
+    pub(crate) fn begin(
+        &mut self,
+        alloc: Global,
+        cid: u16,
+        command: C,
+        asked: u32,
+    ) -> Result<u16, AllocError>
+    where
+        C: Drop,
+        requires { count_of (place self.old) < 63 }
+        ensures least { IfOk result (λ ttag. IsLeastFree (place self.old) ttag) }
+        ensures within { IfOk result (λ ttag. ttag < length self.old) }
+        ensures begun { IfOk result (λ ttag. self.new ≡ with_value self.old ttag (begun cid command asked)) }
+        ensures refused { OnErr result (self.new ≡ self.old) }
+    {
+        let transfer = Transfer::new(alloc, cid, command, asked)?;
+        match &mut self.table {
+            Some(table) => Ok(put_least(table, transfer)),
+            None => {
+                let mut table = new_table(alloc)?;
+                let ttag = put_least(&mut table, transfer);
+                self.table = Some(table);
+                Ok(ttag)
+            }
+        }
+    }
+
+    /// Takes the data of an H2CData, or says why it is refused and stays as it was.
+    pub(crate) fn data(
+        &mut self,
+        ttag: u16,
+        cid: u16,
+        offset: u32,
+        datal: u32,
+        bytes: &[u8],
+    ) -> Result<Progress, DataFault>
+        ensures answer { result ≡ data_answer (place self.old ttag) (h2c_data cid offset datal bytes.now) }
+        ensures after { self.new ≡ slice_set self.old ttag (data_after (place self.old ttag) (h2c_data cid offset datal bytes.now)) }
+        ensures refused { OnErr result (self.new ≡ self.old) }
+    {
+        match &mut self.table {
+            Some(table) => data_in(table, ttag, cid, offset, datal, bytes),
+            None => Err(DataFault::UnknownTag),
+        }
+    }
+
+    /// Hands out the transfer of that tag, if it is there and whole.
+    pub(crate) fn finish(&mut self, ttag: u16) -> Option<Whole<C>>
+    where
+        C: Drop,
+        ensures whole { option_map part_of result ≡ whole_in (place self.old ttag) }
+        ensures left { self.new ≡ slice_set self.old ttag (left_in (place self.old ttag)) }
+        ensures kept { IfNone result (self.new ≡ self.old) }
+    {
+        match &mut self.table {
+            Some(table) => finish_in(table, usize::from(ttag)),
+            None => None,
+        }
+    }
+
+    /// Drops all transfers, and the table.
+    pub(crate) fn clear(&mut self)
+    where
+        C: Drop,
+        ensures { self.new ≡ no_tags }
+    {
+        self.table = None;
+    }
+
+    /// What `data` would answer.
+    pub(crate) fn check(
+        &self,
+        ttag: u16,
+        cid: u16,
+        offset: u32,
+        datal: u32,
+        bytes: &[u8],
+    ) -> Result<Progress, DataFault>
+        ensures { result ≡ data_answer (place self.now ttag) (h2c_data cid offset datal bytes.now) }
+    {
+        match self.get(ttag) {
+            Some(transfer) => transfer.check(cid, offset, datal, bytes),
+            None => Err(DataFault::UnknownTag),
+        }
+    }
+
+    // The transfer of that tag, if it is there.
+    fn get(&self, ttag: u16) -> Option<&Transfer<C>>
+        ensures { option_copied result ≡ place self.now ttag }
+    {
+        match &self.table {
+            Some(table) => table.get(usize::from(ttag)),
+            None => None,
+        }
+    }
+
+    /// What the transfer of that tag, if it is there, was begun with.
+    pub(crate) fn command(&self, ttag: u16) -> Option<&C>
+        ensures { option_copied result ≡ option_map (λ part. part.command) (place self.now ttag) }
+    {
+        match self.get(ttag) {
+            Some(transfer) => Some(transfer.command()),
+            None => None,
+        }
+    }
+
+    /// How many transfers there are.
+    pub(crate) fn count(&self) -> usize
+        ensures { result ≡ count_of (place self.now) }
+    {
+        match &self.table {
+            Some(table) => count_in(table),
+            None => 0,
+        }
+    }
+
+    /// Whether one of them is of the command of that identifier.
+    pub(crate) fn has_command(&self, cid: u16) -> bool
+        ensures { result ≡ has_command (place self.now) cid }
+    {
+        match &self.table {
+            Some(table) => has_command_in(table, cid),
+            None => false,
+        }
+    }
+}
