@@ -14,23 +14,24 @@ use Rattle.nvt_fields.specs.declared.status.Status.{Status}
 use Rattle.io_queue.specs.declared.operation.Extent.{Extent}
 use Rattle.io_queue.specs.declared.operation.Operation.{Operation}
 use Rattle.io_queue.specs.declared.operation.Operation.TheVariants as operation
+use Rattle.io_queue.specs.declared.reply.DataFormat.{DataFormat}
 use Rattle.io_queue.specs.Act.{Compares, CountsBy, Flushes, IsOfRead, IsOfWrite, Medium, Writes, extent_bytes, good, read_fault, read_status, write_fault_after, write_status, written_by}
 use Rattle.io_queue.specs.Execution.{Performs, PerformsOn, Syncs, SyncsIn, Tells, compared, contents_at, disk_at, faults_at, new_of, no_disk, size_of, sizes, write_of, write_on, written}
 use Rattle.io_queue.specs.Operation.{HasExtent, IsOnDisk, IsWithin, brought, disk_of}
-use Rattle.io_queue.specs.Reply.{AppendsRead, data_pdu, read_by}
+use Rattle.io_queue.specs.Reply.{AppendsRead, read_by, returned_pdus}
 
-pub read_performed : (e : Extent) (bytes : List ℕ) (cid : ℕ) (old new : Stored) (output appended : List ℕ) (status : Status)
-    → AppendsRead cid e old new output appended status → PerformsOn (operation.Read e) bytes cid old new output appended status
-read_performed e bytes cid old new output appended status h = by h.medium h.of_read h.answer h.sends h.faults where
-  by : (m : Medium) → IsOfRead m → status ≡ read_status m → appended ≡ output ++ data_pdu cid (read_by m (extent_bytes e old))
-      → CountsBy m old.faults new.faults → PerformsOn (operation.Read e) bytes cid old new output appended status
+pub read_performed : (e : Extent) (bytes : List ℕ) (format : DataFormat) (old new : Stored) (output appended : List ℕ) (status : Status)
+    → AppendsRead format e old new output appended status → PerformsOn (operation.Read e) bytes format old new output appended status
+read_performed e bytes format old new output appended status h = by h.medium h.of_read h.answer h.sends h.faults where
+  by : (m : Medium) → IsOfRead m → status ≡ read_status m → appended ≡ output ++ returned_pdus format (read_by m (extent_bytes e old))
+      → CountsBy m old.faults new.faults → PerformsOn (operation.Read e) bytes format old new output appended status
   by good of answer sends faults = record { medium = good; meets = tt; answer = answer; sends = sends; contents = h.contents; faults = faults }
   by read_fault of answer sends faults = record { medium = read_fault; meets = tt; answer = answer; sends = sends; contents = h.contents; faults = faults }
   by (write_fault_after n) of answer sends faults = absurd of
 
-pub compare_performed : (e : Extent) (at : ℕ) (bytes : List ℕ) (cid : ℕ) (old new : Stored) (output : List ℕ) (status : Status)
-    → Compares e (brought e at bytes) old new status → PerformsOn (operation.Compare e at) bytes cid old new output output status
-compare_performed e at bytes cid old new output status h = by h.medium refl h.of_read h.faults where
+pub compare_performed : (e : Extent) (at : ℕ) (bytes : List ℕ) (format : DataFormat) (old new : Stored) (output : List ℕ) (status : Status)
+    → Compares e (brought e at bytes) old new status → PerformsOn (operation.Compare e at) bytes format old new output output status
+compare_performed e at bytes format old new output status h = by h.medium refl h.of_read h.faults where
   is_same : (test : Bool) → bytes_eq (brought e at bytes) (extent_bytes e old) ≡ test → h.medium ≡ good → status ≡ compared test
   is_same true same is = h.same is (same_name (brought e at bytes) (extent_bytes e old) same)
   is_same false other is = h.other is (λ same. differ (bytes_eq-same (brought e at bytes) (extent_bytes e old) same)) where
@@ -38,7 +39,7 @@ compare_performed e at bytes cid old new output status h = by h.medium refl h.of
     differ same = cc
 
   by : (m : Medium) → h.medium ≡ m → IsOfRead m → CountsBy m old.faults new.faults
-      → PerformsOn (operation.Compare e at) bytes cid old new output output status
+      → PerformsOn (operation.Compare e at) bytes format old new output output status
   by good is of faults = record {
     medium = good;
     meets = tt;
@@ -56,15 +57,15 @@ units_len bytes units is =
     let whole : length bytes ≡ units * 512 = omega (arith, is) in
     length-first_chunks (length bytes / 512) bytes ∙ count_is bytes units whole
 
-pub write_performed : (e : Extent) (at : ℕ) (fua : Bool) (bytes : List ℕ) (cid : ℕ) (old new : Stored) (output : List ℕ) (status : Status)
+pub write_performed : (e : Extent) (at : ℕ) (fua : Bool) (bytes : List ℕ) (format : DataFormat) (old new : Stored) (output : List ℕ) (status : Status)
     → length (brought e at bytes) ≡ 512 * e.units → Writes e.first (units_of (brought e at bytes)) old new status
-    → PerformsOn (operation.Write e at fua) bytes cid old new output output status
-write_performed e at fua bytes cid old new output status len h = by h.medium h.of_write h.answer h.contents h.faults where
+    → PerformsOn (operation.Write e at fua) bytes format old new output output status
+write_performed e at fua bytes format old new output status len h = by h.medium h.of_write h.answer h.contents h.faults where
   units : List (List ℕ)
   units = units_of (brought e at bytes)
 
   by : (m : Medium) → IsOfWrite (length units) m → status ≡ write_status m → new.contents ≡ written_by m e.first units old.contents
-      → CountsBy m old.faults new.faults → PerformsOn (operation.Write e at fua) bytes cid old new output output status
+      → CountsBy m old.faults new.faults → PerformsOn (operation.Write e at fua) bytes format old new output output status
   by good of answer contents faults = record { medium = good; meets = tt; answer = answer; sends = simp append-nil; contents = contents; faults = faults }
   by read_fault of answer contents faults = absurd of
   by (write_fault_after n) of answer contents faults = record {
@@ -76,14 +77,14 @@ write_performed e at fua bytes cid old new output status len h = by h.medium h.o
     faults = faults;
   }
 
-pub zeroes_performed : (e : Extent) (fua : Bool) (bytes : List ℕ) (cid : ℕ) (old new : Stored) (output : List ℕ) (status : Status)
-    → Writes e.first (replicate e.units zero_unit) old new status → PerformsOn (operation.WriteZeroes e fua) bytes cid old new output output status
-zeroes_performed e fua bytes cid old new output status h = by h.medium h.of_write h.answer h.contents h.faults where
+pub zeroes_performed : (e : Extent) (fua : Bool) (bytes : List ℕ) (format : DataFormat) (old new : Stored) (output : List ℕ) (status : Status)
+    → Writes e.first (replicate e.units zero_unit) old new status → PerformsOn (operation.WriteZeroes e fua) bytes format old new output output status
+zeroes_performed e fua bytes format old new output status h = by h.medium h.of_write h.answer h.contents h.faults where
   units : List (List ℕ)
   units = replicate e.units zero_unit
 
   by : (m : Medium) → IsOfWrite (length units) m → status ≡ write_status m → new.contents ≡ written_by m e.first units old.contents
-      → CountsBy m old.faults new.faults → PerformsOn (operation.WriteZeroes e fua) bytes cid old new output output status
+      → CountsBy m old.faults new.faults → PerformsOn (operation.WriteZeroes e fua) bytes format old new output output status
   by good of answer contents faults = record { medium = good; meets = tt; answer = answer; sends = simp append-nil; contents = contents; faults = faults }
   by read_fault of answer contents faults = absurd of
   by (write_fault_after n) of answer contents faults = record {
@@ -95,11 +96,11 @@ zeroes_performed e fua bytes cid old new output status h = by h.medium h.of_writ
     faults = faults;
   }
 
-pub flush_performed : (disk : ℕ) (bytes : List ℕ) (cid : ℕ) (old new : Stored) (output : List ℕ) (status : Status) → Flushes old new status
-    → PerformsOn (operation.Flush disk) bytes cid old new output output status
-flush_performed disk bytes cid old new output status h = by h.medium h.of_write h.answer h.contents h.faults where
+pub flush_performed : (disk : ℕ) (bytes : List ℕ) (format : DataFormat) (old new : Stored) (output : List ℕ) (status : Status) → Flushes old new status
+    → PerformsOn (operation.Flush disk) bytes format old new output output status
+flush_performed disk bytes format old new output status h = by h.medium h.of_write h.answer h.contents h.faults where
   by : (m : Medium) → IsOfWrite 0 m → status ≡ write_status m → new.contents ≡ written_by m 0 [] old.contents
-      → CountsBy m old.faults new.faults → PerformsOn (operation.Flush disk) bytes cid old new output output status
+      → CountsBy m old.faults new.faults → PerformsOn (operation.Flush disk) bytes format old new output output status
   by good of answer contents faults = record { medium = good; meets = tt; answer = answer; sends = simp append-nil; contents = contents; faults = faults }
   by read_fault of answer contents faults = absurd of
   by (write_fault_after n) of answer contents faults = record {
@@ -179,11 +180,11 @@ told m disks i new within h = by m h where
   by (write_fault_after n) h = record { good = λ is. absurd (false≢true is); failed = λ is. changes h }
 
 -- an operation that is performed on one disk is performed on them all
-performed_on : (op : Operation) (bytes : List ℕ) (cid : ℕ) (disks : List Stored) (new : Stored) (output appended : List ℕ) (status : Status)
+performed_on : (op : Operation) (bytes : List ℕ) (format : DataFormat) (disks : List Stored) (new : Stored) (output appended : List ℕ) (status : Status)
     → disk_of op < length disks → length new.contents ≡ length (contents_at disks (disk_of op))
-    → PerformsOn op bytes cid (disk_at disks (disk_of op)) new output appended status
-    → Performs op bytes cid disks (slice_set disks (disk_of op) new) output appended status
-performed_on op bytes cid disks new output appended status within same h = record {
+    → PerformsOn op bytes format (disk_at disks (disk_of op)) new output appended status
+    → Performs op bytes format disks (slice_set disks (disk_of op) new) output appended status
+performed_on op bytes format disks new output appended status within same h = record {
   medium = h.medium;
   meets = h.meets;
   tells = told h.medium disks (disk_of op) new within h.faults;
@@ -194,14 +195,14 @@ performed_on op bytes cid disks new output appended status within same h = recor
 }
 
 -- .. whatever stands for a disk that is not there
-pub performed_at : (op : Operation) (bytes : List ℕ) (cid : ℕ) (disks : List Stored) (none new : Stored) (output appended : List ℕ) (status : Status)
+pub performed_at : (op : Operation) (bytes : List ℕ) (format : DataFormat) (disks : List Stored) (none new : Stored) (output appended : List ℕ) (status : Status)
     → IsWithin (sizes disks) (length bytes) op → length new.contents ≡ length (slice_index_or disks (disk_of op) none).contents
-    → PerformsOn op bytes cid (slice_index_or disks (disk_of op) none) new output appended status
-    → Performs op bytes cid disks (slice_set disks (disk_of op) new) output appended status
-performed_at op bytes cid disks none new output appended status within same h =
+    → PerformsOn op bytes format (slice_index_or disks (disk_of op) none) new output appended status
+    → Performs op bytes format disks (slice_set disks (disk_of op) new) output appended status
+performed_at op bytes format disks none new output appended status within same h =
     let there = disk_there disks (length bytes) op within in
     let other : slice_index_or disks (disk_of op) none ≡ disk_at disks (disk_of op) = get_or_default disks (disk_of op) none no_disk there in
-    performed_on op bytes cid disks new output appended status there (rw other at same) (rw other at h)
+    performed_on op bytes format disks new output appended status there (rw other at same) (rw other at h)
 
 pub synced_at : (op : Operation) (brings : ℕ) (disks : List Stored) (new : Stored) (status : Status) → IsWithin (sizes disks) brings op
     → Syncs op new status → SyncsIn op (slice_set disks (disk_of op) new) status

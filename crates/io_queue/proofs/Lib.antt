@@ -1,5 +1,6 @@
 pub mod Acts
 pub mod Deciding
 pub mod Executions
+pub mod Pieces
 pub mod Reading
 pub mod Within

@@ -1,5 +1,6 @@
 -- The extent of a command that passes every check is on the disk of its namespace.
-use Rattle.std.proofs.Common.{◌≡◌, ◌≤◌, ℕ, ◌+◌, ◌*◌, ◌^◌, ◌==◌, Bool, true, false, not, List, Option, Some, None, Result, Ok, Err, IfOk, find, length, nat_le, nat_lt, slice_get, get_or, refl, arith}
+use Rattle.std.proofs.Common.{◌≡◌, ◌≤◌, ℕ, ◌+◌, ◌*◌, ◌^◌, ◌==◌, Bool, true, false, not, ◌||◌, List, Option, Some, None, Result, Ok, Err, IfOk, find, length, nat_le, nat_lt, slice_get, get_or, refl, ap, ◌∙◌, arith}
+use Rattle.std.specs.Prelude.{if◌then◌else◌}
 use Rattle.std.specs.List.{list_all}
 use Rattle.std.proofs.lemmas.Bool.{and_parts, eqb-true, leb-true, ltb-false}
 use Rattle.std.proofs.lemmas.List.Sums.{AllPass-from_list_all}
@@ -17,13 +18,19 @@ use Rattle.pdu_codec.specs.declared.command.BlockCommand.{BlockCommand}
 use Rattle.pdu_codec.specs.declared.sgl.Sgl.{Sgl}
 use Rattle.config_lists.specs.GroupState.{state_for}
 use Rattle.pdu_codec.specs.Sqe.{block_command_of, nsid_of, opcode_of, sgl1_of}
+use Rattle.io_queue.specs.declared.beginning.Placed.{Placed}
+use Rattle.io_queue.specs.declared.beginning.Placed.TheVariants.{InCapsule, ToCome}
 use Rattle.io_queue.specs.declared.opcode.IoOpcode.{IoOpcode}
 use Rattle.io_queue.specs.declared.opcode.IoOpcode.TheVariants as opcode
 use Rattle.io_queue.specs.declared.operation.Extent.{Extent}
+use Rattle.io_queue.specs.declared.operation.Operation.{Operation}
 use Rattle.io_queue.specs.declared.operation.Operation.TheVariants as operation
 use Rattle.io_queue.specs.Opcode.{opcode_of_code}
 use Rattle.io_queue.specs.Operation.{HasExtent, IsWithin}
-use Rattle.io_queue.specs.Decision.{IsSmall, brought, data_len, is_capsule_offset, is_transport, extent_of, in_range, limited, decide, on_found, on_namespace, on_opcode, read, refuse, state_verdict, then_do, units_of}
+use Rattle.io_queue.specs.Beginning.{IsBegunWithin, begin, compare_begun, is_capsule_offset, is_transport, on_namespace, on_opcode, performed, locate, locate_at, read, write_begun}
+use Rattle.io_queue.specs.Blocks.{data_len, extent_of, in_range, limited, units_of}
+use Rattle.io_queue.specs.Finishing.{covered, finish, on_namespace_again}
+use Rattle.io_queue.specs.Reach.{FitsDisk, IsSmall, found_reached, reached, refuse, state_verdict, then_do}
 
 -- ---- the disk of a namespace
 
@@ -37,15 +44,8 @@ disk_bounded units k size disks is =
     let same : get_or units k 0 ≡ size = some_same (get_or units k 0) size (slice_get units k) (slice_get-get_or units k 0 below) is in
     rw same at (leb-true (get_or units k 0) (2 ^ 40) (pass k 0 below))
 
--- a namespace fits on its disk, which is no larger than a disk may be
-pub record IsOnDisk (units : List ℕ) (n : Namespace) : Type 0 where
-  pub size : ℕ
-  pub is : slice_get units n.disk ≡ Some size
-  pub fits : n.blocks * bytes_of n.block_size ≤ size * 512
-  pub bound : size ≤ 2 ^ 40
-
 on_disk_by : (units : List ℕ) (n : Namespace) (o : Option ℕ) → are_disks units ≡ true → slice_get units n.disk ≡ o
-    → is_size_on o n.blocks (bytes_of n.block_size) ≡ true → IsOnDisk units n
+    → is_size_on o n.blocks (bytes_of n.block_size) ≡ true → FitsDisk units n
 on_disk_by units n None disks is fits = cc
 on_disk_by units n (Some size) disks is fits = record {
   size = size;
@@ -55,13 +55,13 @@ on_disk_by units n (Some size) disks is fits = record {
 }
 
 pub found_on_disk : (c : Configuration) (subsystem : List ℕ) (nsid : ℕ) (n : Namespace) → IsValid c
-    → find (is_named subsystem nsid) c.namespaces ≡ Some n → IsOnDisk c.units n
+    → find (is_named subsystem nsid) c.namespaces ≡ Some n → FitsDisk c.units n
 found_on_disk c subsystem nsid n valid found =
     let holds = found_holds (IsNamespace c.units c.subsystems) (is_named subsystem nsid) c.namespaces valid.namespaces.sound in
     let sound : IsNamespace c.units c.subsystems n = rw found at holds in
     on_disk_by c.units n (slice_get c.units n.disk) valid.disks refl sound.size
 
-pub on_disk_is_small : (units : List ℕ) (n : Namespace) → IsOnDisk units n → IsSmall n
+pub on_disk_is_small : (units : List ℕ) (n : Namespace) → FitsDisk units n → IsSmall n
 on_disk_is_small units n on =
     let fits = on.fits in
     let bound = on.bound in
@@ -74,17 +74,17 @@ range_by : (size : BlockSize) (blocks first count units : ℕ) → blocks * byte
 range_by Bytes512 blocks first count units fits below = omega (arith, fits, below)
 range_by Bytes4096 blocks first count units fits below = omega (arith, fits, below)
 
--- an extent is on the disk, and has as many bytes as the command's data, at most so many
-record IsLimited (units : List ℕ) (n : Namespace) (c : BlockCommand) (most : ℕ) (e : Extent) : Type 0 where
+-- an extent is on the disk, and has as many bytes as the command's data, at most 131,072
+record IsLimited (units : List ℕ) (n : Namespace) (c : BlockCommand) (e : Extent) : Type 0 where
   extent : HasExtent units e
   len : 512 * e.units ≡ data_len n c
-  bound : data_len n c ≤ most
+  bound : data_len n c ≤ 131072
 
 len_by : (size : BlockSize) (blocks : ℕ) → 512 * (blocks * units_of size) ≡ blocks * bytes_of size
 len_by Bytes512 blocks = omega arith
 len_by Bytes4096 blocks = omega arith
 
-extent_within : (units : List ℕ) (n : Namespace) (c : BlockCommand) → IsOnDisk units n → nat_lt n.blocks (c.first + c.blocks) ≡ false
+extent_within : (units : List ℕ) (n : Namespace) (c : BlockCommand) → FitsDisk units n → nat_lt n.blocks (c.first + c.blocks) ≡ false
     → HasExtent units (extent_of n c)
 extent_within units n c on inside = record {
   disk = slice_get_within units n.disk on.size on.is;
@@ -103,87 +103,153 @@ refuse_holds : {A : Type 0} (P : A → Type 0) (test : Bool) (status : Status) (
 refuse_holds P true status next h = tt
 refuse_holds P false status next h = h refl
 
-range_within : (units : List ℕ) (n : Namespace) (c : BlockCommand) → IsOnDisk units n
+range_within : (units : List ℕ) (n : Namespace) (c : BlockCommand) → FitsDisk units n
     → IfOk (in_range n c) (λ e. HasExtent units e)
 range_within units n c on =
     refuse_holds (λ (e : Extent). HasExtent units e) (nat_lt n.blocks (c.first + c.blocks)) lba_out_of_range (Ok (extent_of n c))
     (extent_within units n c on)
 
-limited_within : (units : List ℕ) (n : Namespace) (c : BlockCommand) (most : ℕ) → IsOnDisk units n
-    → IfOk (limited n c most) (IsLimited units n c most)
-limited_within units n c most on =
-    refuse_holds (IsLimited units n c most) (nat_lt most (data_len n c)) invalid_field (in_range n c) (λ small.
-    refuse_holds (IsLimited units n c most) (nat_lt n.blocks (c.first + c.blocks)) lba_out_of_range (Ok (extent_of n c)) (λ inside. record {
+limited_within : (units : List ℕ) (n : Namespace) (c : BlockCommand) → FitsDisk units n → IfOk (limited n c) (IsLimited units n c)
+limited_within units n c on =
+    refuse_holds (IsLimited units n c) (nat_lt 131072 (data_len n c)) invalid_field (in_range n c) (λ small.
+    refuse_holds (IsLimited units n c) (nat_lt n.blocks (c.first + c.blocks)) lba_out_of_range (Ok (extent_of n c)) (λ inside. record {
       extent = extent_within units n c on inside;
       len = len_by n.block_size c.blocks;
-      bound = ltb-false most (data_len n c) small;
+      bound = ltb-false 131072 (data_len n c) small;
     }))
 
-read_within : (units : List ℕ) (n : Namespace) (c : BlockCommand) (sgl : Sgl) (len : ℕ) → IsOnDisk units n
+-- ---- at the capsule
+
+read_within : (units : List ℕ) (n : Namespace) (c : BlockCommand) (sgl : Sgl) (len : ℕ) → FitsDisk units n
     → IfOk (read n c sgl) (IsWithin units len)
 read_within units n c sgl len on =
-    then_holds (IsLimited units n c 32768) (IsWithin units len) (limited n c 32768) _ (limited_within units n c 32768 on)
+    then_holds (IsLimited units n c) (IsWithin units len) (limited n c) _ (limited_within units n c on)
     (λ e h.
     refuse_holds (IsWithin units len) (not (is_transport sgl.sgl_type)) sgl_type_invalid _ (λ typed.
     refuse_holds (IsWithin units len) (not (sgl.len == data_len n c)) data_sgl_length_invalid (Ok (operation.Read e)) (λ same.
     (h.extent, few e.units (data_len n c) h.len h.bound)))) where
-      few : (units len : ℕ) → 512 * units ≡ len → len ≤ 32768 → units ≤ 64
+      few : (units len : ℕ) → 512 * units ≡ len → len ≤ 131072 → units ≤ 256
       few units len is bound = omega (arith, is, bound)
 
--- an extent is on its disk, and its data are in a capsule that brings so many bytes
-abbrev IsBrought : List ℕ → ℕ → Extent × ℕ → Type 0
-IsBrought units len b = HasExtent units b.0 × (b.1 + 512 * b.0.units ≤ len)
+-- the data of an extent on its disk are in a capsule that brings so many bytes, or at most 131,072 are to come
+abbrev IsPlaced : List ℕ → ℕ → Placed → Type 0
+IsPlaced units len (InCapsule e at) = HasExtent units e × (at + 512 * e.units ≤ len)
+IsPlaced units len (ToCome n) = n ≤ 131072
 
 not_false : (test : Bool) → not test ≡ false → test ≡ true
 not_false true h = refl
 not_false false h = cc
 
-brought_within : (units : List ℕ) (n : Namespace) (c : BlockCommand) (sgl : Sgl) (len : ℕ) → IsOnDisk units n
-    → IfOk (brought n c sgl len) (IsBrought units len)
-brought_within units n c sgl len on =
-    then_holds (IsLimited units n c 131072) (IsBrought units len) (limited n c 131072) _ (limited_within units n c 131072 on)
-    (λ e h.
-    refuse_holds (IsBrought units len) (not (is_capsule_offset sgl.sgl_type)) sgl_type_invalid _ (λ typed.
-    refuse_holds (IsBrought units len) (not (sgl.len == data_len n c)) data_sgl_length_invalid _ (λ same.
-    refuse_holds (IsBrought units len) (nat_lt len (sgl.address + sgl.len)) sgl_offset_invalid (Ok (e, sgl.address)) (λ inside. (
-      h.extent,
-      within e.units (data_len n c) h.len (eqb-true sgl.len (data_len n c) (not_false (sgl.len == data_len n c) same))
-          (ltb-false len (sgl.address + sgl.len) inside),
-    ))))) where
-      within : (units bytes : ℕ) → 512 * units ≡ bytes → sgl.len ≡ bytes → sgl.address + sgl.len ≤ len → sgl.address + 512 * units ≤ len
-      within units bytes is same inside = omega (arith, is, same, inside)
+locate_at_within : (units : List ℕ) (n : Namespace) (c : BlockCommand) (e : Extent) (sgl : Sgl) (len : ℕ) → IsLimited units n c e → sgl.len ≡ data_len n c
+    → IfOk (locate_at e sgl len) (IsPlaced units len)
+locate_at_within units n c e sgl len h same = by (is_transport sgl.sgl_type) where
+  within : (units bytes : ℕ) → 512 * units ≡ bytes → sgl.len ≡ bytes → sgl.address + sgl.len ≤ len → sgl.address + 512 * units ≤ len
+  within units bytes is same inside = omega (arith, is, same, inside)
 
-pub command_within : (units : List ℕ) (n : Namespace) (code : IoOpcode) (entry : List ℕ) (len : ℕ) → IsOnDisk units n
-    → IfOk (on_namespace n code entry len) (IsWithin units len)
-command_within units n opcode.Flush entry len on = slice_get_within units n.disk on.size on.is
-command_within units n opcode.Read entry len on = read_within units n (block_command_of entry) (sgl1_of entry) len on
-command_within units n opcode.Write entry len on =
-    then_holds (IsBrought units len) (IsWithin units len) (brought n (block_command_of entry) (sgl1_of entry) len) _
-    (brought_within units n (block_command_of entry) (sgl1_of entry) len on) (λ b h. h)
-command_within units n opcode.Compare entry len on =
-    then_holds (IsBrought units len) (IsWithin units len) (brought n (block_command_of entry) (sgl1_of entry) len) _
-    (brought_within units n (block_command_of entry) (sgl1_of entry) len on) (λ b h. h)
-command_within units n opcode.WriteZeroes entry len on =
-    then_holds (λ (e : Extent). HasExtent units e) (IsWithin units len) (in_range n (block_command_of entry)) _
+  bounded : (bytes : ℕ) → sgl.len ≡ bytes → bytes ≤ 131072 → sgl.len ≤ 131072
+  bounded bytes is bound = omega (arith, is, bound)
+
+  by : (transport : Bool) → IfOk (if transport then Ok (ToCome sgl.len) else
+      refuse (nat_lt len (sgl.address + sgl.len)) sgl_offset_invalid (Ok (InCapsule e sgl.address))) (IsPlaced units len)
+  by true = bounded (data_len n c) same h.bound
+  by false =
+      refuse_holds (IsPlaced units len) (nat_lt len (sgl.address + sgl.len)) sgl_offset_invalid (Ok (InCapsule e sgl.address)) (λ inside.
+      (h.extent, within e.units (data_len n c) h.len same (ltb-false len (sgl.address + sgl.len) inside)))
+
+locate_within : (units : List ℕ) (n : Namespace) (c : BlockCommand) (sgl : Sgl) (len : ℕ) → FitsDisk units n
+    → IfOk (locate n c sgl len) (IsPlaced units len)
+locate_within units n c sgl len on =
+    then_holds (IsLimited units n c) (IsPlaced units len) (limited n c) _ (limited_within units n c on)
+    (λ e h.
+    refuse_holds (IsPlaced units len) (not (is_capsule_offset sgl.sgl_type || is_transport sgl.sgl_type)) sgl_type_invalid _ (λ typed.
+    refuse_holds (IsPlaced units len) (not (sgl.len == data_len n c)) data_sgl_length_invalid _ (λ same.
+    locate_at_within units n c e sgl len h (eqb-true sgl.len (data_len n c) (not_false (sgl.len == data_len n c) same)))))
+
+performed_within : (units : List ℕ) (len : ℕ) (r : Result Operation Status) → IfOk r (IsWithin units len) → IfOk (performed r) (IsBegunWithin units len)
+performed_within units len (Ok op) h = h
+performed_within units len (Err status) h = tt
+
+write_within : (units : List ℕ) (len : ℕ) (fua : Bool) (p : Placed) → IsPlaced units len p → IsBegunWithin units len (write_begun fua p)
+write_within units len fua (InCapsule e at) h = h
+write_within units len fua (ToCome n) h = h
+
+compare_within : (units : List ℕ) (len : ℕ) (p : Placed) → IsPlaced units len p → IsBegunWithin units len (compare_begun p)
+compare_within units len (InCapsule e at) h = h
+compare_within units len (ToCome n) h = h
+
+pub begun_within : (units : List ℕ) (n : Namespace) (code : IoOpcode) (entry : List ℕ) (len : ℕ) → FitsDisk units n
+    → IfOk (on_namespace n code entry len) (IsBegunWithin units len)
+begun_within units n opcode.Flush entry len on = slice_get_within units n.disk on.size on.is
+begun_within units n opcode.Read entry len on =
+    performed_within units len (read n (block_command_of entry) (sgl1_of entry)) (read_within units n (block_command_of entry) (sgl1_of entry) len on)
+begun_within units n opcode.Write entry len on =
+    then_holds (IsPlaced units len) (IsBegunWithin units len) (locate n (block_command_of entry) (sgl1_of entry) len) _
+    (locate_within units n (block_command_of entry) (sgl1_of entry) len on) (write_within units len (block_command_of entry).fua)
+begun_within units n opcode.Compare entry len on =
+    then_holds (IsPlaced units len) (IsBegunWithin units len) (locate n (block_command_of entry) (sgl1_of entry) len) _
+    (locate_within units n (block_command_of entry) (sgl1_of entry) len on) (compare_within units len)
+begun_within units n opcode.WriteZeroes entry len on =
+    then_holds (λ (e : Extent). HasExtent units e) (IsBegunWithin units len) (in_range n (block_command_of entry)) _
     (range_within units n (block_command_of entry) on) (λ e h. h)
 
--- ---- whatever is decided
+-- ---- once the data has come
+
+covered_within : (units : List ℕ) (n : Namespace) (c : BlockCommand) (came : ℕ) → FitsDisk units n
+    → IfOk (covered n c came) (λ e. HasExtent units e × (0 + 512 * e.units ≤ came))
+covered_within units n c came on =
+    then_holds (λ (e : Extent). e ≡ extent_of n c × HasExtent units e) P (in_range n c) _
+    (refuse_holds (λ (e : Extent). e ≡ extent_of n c × HasExtent units e) (nat_lt n.blocks (c.first + c.blocks)) lba_out_of_range (Ok (extent_of n c))
+    (λ inside. (refl, extent_within units n c on inside)))
+    (λ e h.
+    refuse_holds P (not (came == data_len n c)) data_sgl_length_invalid (Ok e) (λ same. (
+      h.1,
+      all e.units (data_len n c) (ap (λ (x : Extent). 512 * x.units) h.0 ∙ len_by n.block_size c.blocks)
+          (eqb-true came (data_len n c) (not_false (came == data_len n c) same)),
+    ))) where
+      P : Extent → Type 0
+      P e = HasExtent units e × (0 + 512 * e.units ≤ came)
+
+      all : (units bytes : ℕ) → 512 * units ≡ bytes → came ≡ bytes → 0 + 512 * units ≤ came
+      all units bytes is same = omega (arith, is, same)
+
+pub again_within : (units : List ℕ) (n : Namespace) (code : Option IoOpcode) (entry : List ℕ) (came : ℕ) → FitsDisk units n
+    → IfOk (on_namespace_again n code entry came) (IsWithin units came)
+again_within units n (Some opcode.Write) entry came on =
+    then_holds (λ (e : Extent). HasExtent units e × (0 + 512 * e.units ≤ came)) (IsWithin units came) (covered n (block_command_of entry) came) _
+    (covered_within units n (block_command_of entry) came on) (λ e h. h)
+again_within units n (Some opcode.Compare) entry came on =
+    then_holds (λ (e : Extent). HasExtent units e × (0 + 512 * e.units ≤ came)) (IsWithin units came) (covered n (block_command_of entry) came) _
+    (covered_within units n (block_command_of entry) came on) (λ e h. h)
+again_within units n _ entry came on = tt
+
+-- ---- whatever is reached
 
 any_ok : {A B : Type 0} (r : Result A B) → IfOk r (λ a. Unit {0})
 any_ok (Ok a) = tt
 any_ok (Err b) = tt
 
-found_within : (c : Configuration) (port : ℕ) (subsystem : List ℕ) (code : IoOpcode) (entry : List ℕ) (len : ℕ) → IsValid c → (o : Option Namespace)
-    → find (is_named subsystem (nsid_of entry)) c.namespaces ≡ o → IfOk (on_found o c port subsystem code entry len) (IsWithin c.units len)
-found_within c port subsystem code entry len valid None is = tt
-found_within c port subsystem code entry len valid (Some n) is =
-    then_holds (λ reached. Unit {0}) (IsWithin c.units len) (state_verdict (state_for port subsystem n.group c.states)) _
-    (any_ok (state_verdict (state_for port subsystem n.group c.states)))
-    (λ reached h. command_within c.units n code entry len (found_on_disk c subsystem (nsid_of entry) n valid is))
+found_fits : (c : Configuration) (port : ℕ) (subsystem : List ℕ) (nsid : ℕ) → IsValid c → (o : Option Namespace)
+    → find (is_named subsystem nsid) c.namespaces ≡ o → IfOk (found_reached o c port subsystem) (FitsDisk c.units)
+found_fits c port subsystem nsid valid None is = tt
+found_fits c port subsystem nsid valid (Some n) is =
+    then_holds (λ reached. Unit {0}) (FitsDisk c.units) (state_verdict (state_for port subsystem n.group c.states)) _
+    (any_ok (state_verdict (state_for port subsystem n.group c.states))) (λ reached h. found_on_disk c subsystem nsid n valid is)
+
+reached_fits : (c : Configuration) (port : ℕ) (subsystem entry : List ℕ) → IsValid c → IfOk (reached c port subsystem entry) (FitsDisk c.units)
+reached_fits c port subsystem entry valid =
+    found_fits c port subsystem (nsid_of entry) valid (find (is_named subsystem (nsid_of entry)) c.namespaces) refl
 
 pub decided_within : (c : Configuration) (port : ℕ) (subsystem entry : List ℕ) (len : ℕ) → IsValid c
-    → IfOk (decide c port subsystem entry len) (IsWithin c.units len)
+    → IfOk (begin c port subsystem entry len) (IsBegunWithin c.units len)
 decided_within c port subsystem entry len valid = by (opcode_of_code (opcode_of entry)) where
-  by : (code : Option IoOpcode) → IfOk (on_opcode code c port subsystem entry len) (IsWithin c.units len)
+  by : (code : Option IoOpcode) → IfOk (on_opcode code c port subsystem entry len) (IsBegunWithin c.units len)
   by None = tt
-  by (Some code) = found_within c port subsystem code entry len valid (find (is_named subsystem (nsid_of entry)) c.namespaces) refl
+  by (Some code) =
+      then_holds (FitsDisk c.units) (IsBegunWithin c.units len) (reached c port subsystem entry) _ (reached_fits c port subsystem entry valid)
+      (λ n on. begun_within c.units n code entry len on)
+
+pub finished_within : (c : Configuration) (port : ℕ) (subsystem entry : List ℕ) (came : ℕ) → IsValid c
+    → IfOk (finish c port subsystem entry came) (IsWithin c.units came)
+finished_within c port subsystem entry came valid =
+    then_holds (FitsDisk c.units) (IsWithin c.units came) (reached c port subsystem entry) _ (reached_fits c port subsystem entry valid)
+    (λ n on. again_within c.units n (opcode_of_code (opcode_of entry)) entry came on)

@@ -7,10 +7,11 @@ use Rattle.block_store.specs.Write.{Write}
 use Rattle.nvt_fields.specs.declared.status.Status.{Status}
 use Rattle.nvt_fields.specs.Status.{compare_failure, success, unrecovered_read_error, write_fault}
 use Rattle.io_queue.specs.declared.operation.Operation.{Operation}
+use Rattle.io_queue.specs.declared.reply.DataFormat.{DataFormat}
 use Rattle.io_queue.specs.declared.operation.Operation.TheVariants as operation
 use Rattle.io_queue.specs.Act.{CountsBy, IsOfRead, IsOfWrite, IsSynced, Medium, count_new, good, is_good}
 use Rattle.io_queue.specs.Operation.{brought, disk_of}
-use Rattle.io_queue.specs.Reply.{data_pdu}
+use Rattle.io_queue.specs.Reply.{returned_pdus}
 
 -- ---- what it is answered
 
@@ -21,10 +22,7 @@ compared same = if same then success else compare_failure
 -- .. where the disk did all that was asked of it
 abbrev pub good_status : Operation → List ℕ → List (List ℕ) → Status
 good_status (operation.Compare e at) bytes contents = compared (bytes_eq (brought e at bytes) (bytes_of (units_at contents e.first e.units)))
-good_status (operation.Flush disk) bytes contents = success
-good_status (operation.Read e) bytes contents = success
-good_status (operation.Write e at fua) bytes contents = success
-good_status (operation.WriteZeroes e fua) bytes contents = success
+good_status _ bytes contents = success
 
 -- .. and where it failed
 abbrev pub fault_status : Operation → Status
@@ -43,10 +41,7 @@ status_by op bytes contents m = if is_good m then good_status op bytes contents 
 -- a Read that succeeds returns the extent's bytes, and nothing else returns any
 abbrev pub returned : Operation → List (List ℕ) → Medium → Option (List ℕ)
 returned (operation.Read e) contents m = if is_good m then Some (bytes_of (units_at contents e.first e.units)) else None
-returned (operation.Flush disk) contents m = None
-returned (operation.Write e at fua) contents m = None
-returned (operation.Compare e at) contents m = None
-returned (operation.WriteZeroes e fua) contents m = None
+returned _ contents m = None
 
 -- ---- what it writes
 
@@ -54,9 +49,7 @@ returned (operation.WriteZeroes e fua) contents m = None
 abbrev pub write_of : Operation → List ℕ → Option Write
 write_of (operation.Write e at fua) bytes = Some (record { first = e.first; units = units_of (brought e at bytes) })
 write_of (operation.WriteZeroes e fua) bytes = Some (record { first = e.first; units = replicate e.units zero_unit })
-write_of (operation.Flush disk) bytes = None
-write_of (operation.Read e) bytes = None
-write_of (operation.Compare e at) bytes = None
+write_of _ bytes = None
 
 -- those of its units that are new
 abbrev pub new_of : Medium → Write → Write
@@ -93,11 +86,11 @@ MayMeet (operation.Compare e at) m = IsOfRead m
 MayMeet (operation.WriteZeroes e fua) m = IsOfWrite e.units m
 
 -- an operation is performed on its disk, and what it returns stands behind the output
-pub record PerformsOn (op : Operation) (bytes : List ℕ) (cid : ℕ) (old new : Stored) (output appended : List ℕ) (status : Status) : Type 0 where
+pub record PerformsOn (op : Operation) (bytes : List ℕ) (format : DataFormat) (old new : Stored) (output appended : List ℕ) (status : Status) : Type 0 where
   pub medium : Medium
   pub meets : MayMeet op medium
   pub answer : status ≡ status_by op bytes old.contents medium
-  pub sends : appended ≡ output ++ data_pdu cid (returned op old.contents medium)
+  pub sends : appended ≡ output ++ returned_pdus format (returned op old.contents medium)
   pub contents : new.contents ≡ written (option_map (new_of medium) (write_of op bytes)) old.contents
   pub faults : CountsBy medium old.faults new.faults
 
@@ -106,8 +99,7 @@ abbrev pub Syncs : Operation → Stored → Status → Type 0
 Syncs (operation.Flush disk) new status = IsSynced new status
 Syncs (operation.Write e at fua) new status = fua ≡ true → IsSynced new status
 Syncs (operation.WriteZeroes e fua) new status = fua ≡ true → IsSynced new status
-Syncs (operation.Read e) new status = Unit {0}
-Syncs (operation.Compare e at) new status = Unit {0}
+Syncs _ new status = Unit {0}
 
 -- ---- an operation on one of several disks
 
@@ -137,12 +129,12 @@ pub record Tells (m : Medium) (old new : List Stored) : Type 0 where
   pub good : is_good m ≡ true → (d : ℕ) → faults_at new d ≡ faults_at old d
   pub failed : is_good m ≡ false → ¬ ((d : ℕ) → faults_at new d ≡ faults_at old d)
 
-pub record Performs (op : Operation) (bytes : List ℕ) (cid : ℕ) (old new : List Stored) (output appended : List ℕ) (status : Status) : Type 0 where
+pub record Performs (op : Operation) (bytes : List ℕ) (format : DataFormat) (old new : List Stored) (output appended : List ℕ) (status : Status) : Type 0 where
   pub medium : Medium
   pub meets : MayMeet op medium
   pub tells : Tells medium old new
   pub answer : status ≡ status_by op bytes (contents_at old (disk_of op)) medium
-  pub sends : appended ≡ output ++ data_pdu cid (returned op (contents_at old (disk_of op)) medium)
+  pub sends : appended ≡ output ++ returned_pdus format (returned op (contents_at old (disk_of op)) medium)
   pub contents : (d : ℕ) → contents_at new d ≡ written (write_on d (act_of op bytes medium)) (contents_at old d)
   pub sizes : sizes new ≡ sizes old
 

@@ -7,7 +7,8 @@ use Rattle.io_queue.specs.declared.operation.Extent.{Extent}
 use Rattle.io_queue.specs.declared.operation.Operation.{Operation}
 use Rattle.io_queue.specs.declared.operation.Operation.TheVariants as operation
 use Rattle.io_queue.specs.Act.{Medium, good}
-use Rattle.io_queue.specs.Decision.{decide}
+use Rattle.io_queue.specs.Beginning.{begin}
+use Rattle.io_queue.specs.Finishing.{finish}
 use Rattle.io_queue.specs.Execution.{act_of, returned, write_on, written}
 use Rattle.io_queue.specs.Operation.{IsOnDisk, brought, disk_of}
 
@@ -18,10 +19,12 @@ pub record SeenAlike (port : ℕ) (subsystem : List ℕ) (c d : Configuration) :
   pub namespaces : (nsid : ℕ) → find (is_named subsystem nsid) c.namespaces ≡ find (is_named subsystem nsid) d.namespaces
   pub states : (group : ℕ) → state_for port subsystem group c.states ≡ state_for port subsystem group d.states
 
--- .. then each command on a controller of it is decided the same, whatever else they have
-abbrev pub DecidedByOwnAlone : Type 0
-DecidedByOwnAlone = (c d : Configuration) (port : ℕ) (subsystem entry : List ℕ) (capsule_len : ℕ) → SeenAlike port subsystem c d
-    → decide c port subsystem entry capsule_len ≡ decide d port subsystem entry capsule_len
+-- .. then each command on a controller of it begins the same, and is finished the same, whatever else they have
+pub record DecidedByOwnAlone : Type 0 where
+  pub begins : (c d : Configuration) (port : ℕ) (subsystem entry : List ℕ) (capsule_len : ℕ) → SeenAlike port subsystem c d
+      → begin c port subsystem entry capsule_len ≡ begin d port subsystem entry capsule_len
+  pub finishes : (c d : Configuration) (port : ℕ) (subsystem entry : List ℕ) (came : ℕ) → SeenAlike port subsystem c d
+      → finish c port subsystem entry came ≡ finish d port subsystem entry came
 
 -- ---- what is read
 
@@ -41,9 +44,7 @@ AreApart e f = (e.first + e.units ≤ f.first) ⊎ (f.first + f.units ≤ e.firs
 abbrev pub IsBeside : Extent → Operation → Type 0
 IsBeside e (operation.Write f at fua) = AreApart e f
 IsBeside e (operation.WriteZeroes f fua) = AreApart e f
-IsBeside e (operation.Flush disk) = Unit {0}
-IsBeside e (operation.Read f) = Unit {0}
-IsBeside e (operation.Compare f at) = Unit {0}
+IsBeside e _ = Unit {0}
 
 -- A Read returns what the latest Write or Write Zeroes of its extent left there; an operation on another disk, or
 -- beside the extent, changes nothing of it, whether or not its disk fails.

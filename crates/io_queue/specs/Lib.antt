@@ -1,7 +1,10 @@
 pub mod Act
-pub mod Decision
+pub mod Beginning
+pub mod Blocks
 pub mod Execution
+pub mod Finishing
 pub mod Laws
 pub mod Opcode
 pub mod Operation
+pub mod Reach
 pub mod Reply

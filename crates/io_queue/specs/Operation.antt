@@ -15,13 +15,11 @@ disk_of (operation.WriteZeroes e fua) = e.disk
 abbrev pub brought : Extent → ℕ → List ℕ → List ℕ
 brought e at bytes = take (512 * e.units) (drop at bytes)
 
--- how many bytes an operation may send beside its response
+-- how many bytes an operation may send beside its response: a Read at most four C2HData, of which each has a header of
+-- at most 128 bytes
 abbrev pub room_for : Operation → ℕ
-room_for (operation.Read e) = 24 + 512 * e.units
-room_for (operation.Flush disk) = 0
-room_for (operation.Write e at fua) = 0
-room_for (operation.Compare e at) = 0
-room_for (operation.WriteZeroes e fua) = 0
+room_for (operation.Read e) = 512 + 512 * e.units
+room_for _ = 0
 
 -- one of the disks of these sizes, in units, has the extent
 pub record HasExtent (units : List ℕ) (e : Extent) : Type 0 where
@@ -29,10 +27,10 @@ pub record HasExtent (units : List ℕ) (e : Extent) : Type 0 where
   pub within : e.first + e.units ≤ slice_index_or units e.disk 0
 
 -- the disks of these sizes have what it asks for, and a capsule that brings so many bytes brings what it takes; a Read
--- asks for at most 64 units
+-- asks for at most 256 units
 abbrev pub IsWithin : List ℕ → ℕ → Operation → Type 0
 IsWithin units brings (operation.Flush disk) = disk < length units
-IsWithin units brings (operation.Read e) = HasExtent units e × (e.units ≤ 64)
+IsWithin units brings (operation.Read e) = HasExtent units e × (e.units ≤ 256)
 IsWithin units brings (operation.Write e at fua) = HasExtent units e × (at + 512 * e.units ≤ brings)
 IsWithin units brings (operation.Compare e at) = HasExtent units e × (at + 512 * e.units ≤ brings)
 IsWithin units brings (operation.WriteZeroes e fua) = HasExtent units e
@@ -40,7 +38,7 @@ IsWithin units brings (operation.WriteZeroes e fua) = HasExtent units e
 -- .. a disk of this size has it
 abbrev pub IsOnDisk : ℕ → ℕ → Operation → Type 0
 IsOnDisk size brings (operation.Flush disk) = Unit {0}
-IsOnDisk size brings (operation.Read e) = (e.first + e.units ≤ size) × (e.units ≤ 64)
+IsOnDisk size brings (operation.Read e) = (e.first + e.units ≤ size) × (e.units ≤ 256)
 IsOnDisk size brings (operation.Write e at fua) = (e.first + e.units ≤ size) × (at + 512 * e.units ≤ brings)
 IsOnDisk size brings (operation.Compare e at) = (e.first + e.units ≤ size) × (at + 512 * e.units ≤ brings)
 IsOnDisk size brings (operation.WriteZeroes e fua) = e.first + e.units ≤ size

@@ -1,25 +1,48 @@
--- A Read's data, whole in one PDU.
-use Rattle.std.specs.Prelude.{◌≡◌, ℕ, true, List, [], ◌++◌, Option, Some, None, if◌then◌else◌}
+-- A reply's data, in the pieces in which they go to the host (TCP Transport 1.0, section 3.3).
+use Rattle.std.specs.Prelude.{◌≡◌, ℕ, ◌+◌, ◌/◌, List, [], ◌++◌, length, slice_range, Option, Some, None, if◌then◌else◌}
+use Rattle.std.specs.List.{flat_map}
 use Rattle.block_store.specs.Stored.{Stored}
+use Rattle.data_transfer.specs.declared.piece.Piece.{Piece}
+use Rattle.data_transfer.specs.Pieces.{pieces}
 use Rattle.nvt_fields.specs.declared.status.Status.{Status}
 use Rattle.pdu_codec.specs.C2hData.{c2h_data}
 use Rattle.io_queue.specs.declared.operation.Extent.{Extent}
+use Rattle.io_queue.specs.declared.reply.DataFormat.{DataFormat}
 use Rattle.io_queue.specs.Act.{CountsBy, IsOfRead, Medium, extent_bytes, is_good, read_status}
 
--- the data of a reply, whole in one PDU, where it has data
-abbrev pub data_pdu : ℕ → Option (List ℕ) → List ℕ
-data_pdu cid None = []
-data_pdu cid (Some payload) = c2h_data (record { cid = cid; offset = 0; last = true; hpda = 0; payload = payload })
+-- a C2HData in the place of a piece, with this payload
+abbrev pub pdu_with : DataFormat → Piece → List ℕ → List ℕ
+pdu_with format p payload =
+    c2h_data (record { cid = format.cid; offset = p.offset; last = p.last; hpda = format.hpda; payload = payload })
+
+-- the C2HData of one piece of these bytes
+abbrev pub piece_pdu : DataFormat → List ℕ → Piece → List ℕ
+piece_pdu format bytes p = pdu_with format p (slice_range bytes p.offset (p.offset + p.len))
+
+-- .. and those of all of them
+abbrev pub data_pdus : DataFormat → List ℕ → List ℕ
+data_pdus format bytes = flat_map (piece_pdu format bytes) (pieces (length bytes))
+
+-- the data of a reply, where it has data
+abbrev pub returned_pdus : DataFormat → Option (List ℕ) → List ℕ
+returned_pdus format None = []
+returned_pdus format (Some bytes) = data_pdus format bytes
 
 -- the data that a Read returns: none where the disk failed
 abbrev pub read_by : Medium → List ℕ → Option (List ℕ)
 read_by m bytes = if is_good m then Some bytes else None
 
--- the bytes of an extent stand behind the output, in a PDU, or, where the disk failed to read them, none
-pub record AppendsRead (cid : ℕ) (e : Extent) (old new : Stored) (output appended : List ℕ) (status : Status) : Type 0 where
+-- the bytes of an extent stand behind the output, or, where the disk failed to read them, none
+pub record AppendsRead (format : DataFormat) (e : Extent) (old new : Stored) (output appended : List ℕ) (status : Status) : Type 0 where
   pub medium : Medium
   pub of_read : IsOfRead medium
   pub answer : status ≡ read_status medium
-  pub sends : appended ≡ output ++ data_pdu cid (read_by medium (extent_bytes e old))
+  pub sends : appended ≡ output ++ returned_pdus format (read_by medium (extent_bytes e old))
   pub contents : new.contents ≡ old.contents
   pub faults : CountsBy medium old.faults new.faults
+
+-- ---- one piece
+
+-- the units of an extent that a piece of its bytes has
+abbrev pub part_of : Extent → Piece → Extent
+part_of e p = record { disk = e.disk; first = e.first + p.offset / 512; units = p.len / 512 }

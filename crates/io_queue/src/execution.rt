@@ -5,31 +5,32 @@ ghost use Rattle.io_queue.specs.Execution.{Performs, PerformsOn, Syncs, SyncsIn,
 
 use crate::act::{compare, flush, write, write_zeroes};
 use crate::operation::{Extent, Operation};
-use crate::reply::append_read;
+use crate::reply::{DataFormat, append_read};
 use block_store::{Disk, Store, UNIT_LEN};
 use bytes::BytesMut;
 use nvt_fields::Status;
 
 /// Performs an operation on its disk, one of these by its number, and answers its status. Of `bytes`,
-/// which the capsule of the command brought, it takes what it writes or compares; what it reads it
-/// appends to `output` in a C2HData, straight from the disk. None of this takes memory.
+/// which came for the command, it takes what it writes or compares; what it reads it appends to
+/// `output` in C2HData of this format, straight from the disk. None of this takes memory.
 #[tactic(auto, using(crate::proofs::Executions::disk_there, crate::proofs::Executions::within_on, crate::proofs::Executions::synced_at))]
 pub fn perform<D: Disk>(
     stores: &mut [Store<D>],
     operation: &Operation,
     bytes: &[u8],
-    cid: u16,
+    format: DataFormat,
     output: &mut BytesMut,
 ) -> Status
     requires within { IsWithin (sizes stores.old) (length bytes.now) operation.now }
+    requires alignment { format.hpda ≤ 31 }
     requires room { room_for operation.now ≤ output.old.spare }
-    ensures performs { Performs operation.now bytes.now cid stores.old stores.new
+    ensures performs { Performs operation.now bytes.now format stores.old stores.new
         output.old.items output.new.items result }
     ensures spare { output.old.spare ≤ output.new.spare + room_for operation.now }
     ensures synced { SyncsIn operation.now stores.new result }
 {
     let store = &mut stores[usize::from(operation.disk())];
-    perform_on(store, operation, bytes, cid, output)
+    perform_on(store, operation, bytes, format, output)
 }
 
 #[tactic(auto, using(crate::proofs::Executions::write_performed, crate::proofs::Executions::zeroes_performed))]
@@ -37,12 +38,13 @@ fn perform_on<D: Disk>(
     store: &mut Store<D>,
     operation: &Operation,
     bytes: &[u8],
-    cid: u16,
+    format: DataFormat,
     output: &mut BytesMut,
 ) -> Status
     requires within { IsOnDisk (length store.old.contents) (length bytes.now) operation.now }
+    requires alignment { format.hpda ≤ 31 }
     requires room { room_for operation.now ≤ output.old.spare }
-    ensures performs { PerformsOn operation.now bytes.now cid store.old store.new
+    ensures performs { PerformsOn operation.now bytes.now format store.old store.new
         output.old.items output.new.items result }
     ensures units { length store.new.contents ≡ length store.old.contents }
     ensures spare { output.old.spare ≤ output.new.spare + room_for operation.now }
@@ -50,7 +52,7 @@ fn perform_on<D: Disk>(
 {
     match operation {
         Operation::Flush { .. } => flush(store),
-        Operation::Read(extent) => append_read(output, cid, store, extent),
+        Operation::Read(extent) => append_read(output, format, store, extent),
         Operation::Write { extent, at, fua } => {
             write(store, extent, brought(extent, *at, bytes), *fua)
         }
@@ -59,7 +61,7 @@ fn perform_on<D: Disk>(
     }
 }
 
-// The data for an extent, of those that a capsule brings, from an offset on.
+// The data for an extent, of those that came, from an offset on.
 fn brought<'a>(extent: &Extent, at: u64, bytes: &'a [u8]) -> &'a [u8]
     requires { at + 512 * extent.now.units ≤ length bytes.now }
     ensures bytes { result.now ≡ brought extent.now at bytes.now }

@@ -4,8 +4,8 @@ ghost use Rattle.io_queue.specs.Operation.{disk_of, room_for};
 
 use block_store::UNIT_LEN;
 
-// The length of a C2HData beside its data.
-const C2H_HEAD_LEN: usize = 24;
+// What the C2HData of a Read have beside their data: of at most four of them 128 bytes each.
+const C2H_HEADS_LEN: usize = 4 * 128;
 
 /// So many units of a disk, of 512 bytes each, from one on.
 #[derive(Clone, Copy, Debug, PartialEq, Eq)]
@@ -24,7 +24,7 @@ pub enum Operation {
     Flush { disk: u16 },
     /// The extent goes to the host.
     Read(Extent),
-    /// The capsule's data, from this byte of it on, go to the extent.
+    /// The data that came, from this byte of them on, go to the extent.
     Write { extent: Extent, at: u64, fua: bool },
     /// They are compared with the extent.
     Compare { extent: Extent, at: u64 },
@@ -46,14 +46,17 @@ impl Operation {
         }
     }
 
-    /// How many bytes it may send beside its response: a C2HData with what it reads.
+    /// How many bytes it may send beside its response: C2HData with what it reads.
     pub fn room(&self) -> usize
-        requires { room_for self.now < 2 ^ 16 }
+        requires { room_for self.now < 2 ^ 18 }
         ensures { result ≡ room_for self.now }
     {
         match self {
-            Operation::Read(extent) => C2H_HEAD_LEN + extent.units as usize * UNIT_LEN,
-            _ => 0,
+            Operation::Read(extent) => C2H_HEADS_LEN + extent.units as usize * UNIT_LEN,
+            Operation::Flush { .. }
+            | Operation::Write { .. }
+            | Operation::Compare { .. }
+            | Operation::WriteZeroes { .. } => 0,
         }
     }
 }
