@@ -1,4 +1,5 @@
 pub mod Coming
+pub mod Counts
 pub mod Joins
 pub mod Places
 pub mod Splits

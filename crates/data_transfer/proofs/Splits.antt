@@ -1,12 +1,10 @@
 -- How the pieces of so many bytes begin and go on, and that they join to the whole.
-use Rattle.std.proofs.Common.{◌≡◌, ◌⊎◌, ℕ, zero, suc, ◌+◌, ◌-◌, ◌*◌, ◌/◌, ◌%◌, ◌<◌, ◌≤◌, ◌==◌, min, Bool, true, false, List, [], ◌∷◌, ◌++◌, length, map, take, drop, refl, sym, ap, ◌∙◌, inl, inr, arith, append-nil}
-use Rattle.std.specs.List.{flat_map, range_with_len, slice_range}
+use Rattle.std.proofs.Common.{◌≡◌, ◌⊎◌, ℕ, zero, suc, ◌+◌, ◌-◌, ◌<◌, ◌≤◌, ◌==◌, min, Bool, true, false, [], ◌∷◌, map, refl, sym, ap, ◌∙◌, inl, inr, arith}
+use Rattle.std.specs.List.{range_with_len}
 use Rattle.std.proofs.lemmas.Bool.{cases_lt}
 use Rattle.std.proofs.lemmas.Bool.Decides.{nat_tests}
-use Rattle.std.proofs.lemmas.List.Concat.{flat_map-cons}
-use Rattle.std.proofs.Math.Seq.{take-add}
 use Rattle.data_transfer.specs.declared.piece.Piece.{Piece}
-use Rattle.data_transfer.specs.Pieces.{piece_at, piece_count, pieces, pieces_from}
+use Rattle.data_transfer.specs.Pieces.{piece_at, piece_count, pieces_from}
 
 -- a piece by its parts
 piece : ℕ → ℕ → Bool → Piece

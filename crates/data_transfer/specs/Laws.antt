@@ -1,5 +1,5 @@
 -- What follows from the definitions of this crate, in the words of the subject.
-use Rattle.std.specs.Prelude.{◌≡◌, ℕ, ◌+◌, ◌*◌, ◌<◌, ◌≤◌, ◌==◌, Bool, true, false, List, [], ◌∷◌, ◌++◌, length, Option, Some, None, slice_get, slice_range}
+use Rattle.std.specs.Prelude.{◌≡◌, ℕ, ◌+◌, ◌*◌, ◌<◌, ◌≤◌, ◌==◌, true, List, [], ◌∷◌, ◌++◌, length, Option, Some, None, slice_get, slice_range}
 use Rattle.std.specs.List.{flat_map}
 use Rattle.data_transfer.specs.declared.fault.DataFault.{DataFault}
 use Rattle.data_transfer.specs.declared.piece.Piece.{Piece}

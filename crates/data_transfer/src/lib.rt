@@ -13,5 +13,5 @@ pub mod transfers;
 
 pub use fault::DataFault;
 pub use piece::{PIECE_LEN, Piece, Split, pieces};
-pub use transfer::{Progress, Whole};
+pub use transfer::{MAX_H2C_DATA, Progress, Whole};
 pub use transfers::Transfers;

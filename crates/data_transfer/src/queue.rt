@@ -1,5 +1,5 @@
 //! The transfers of one connection.
-ghost use Rattle.std.specs.Prelude.{◌≡◌, ◌<◌, ◌+◌, IfOk, IfNone, OnErr, Some, length, option_copied, slice_set};
+ghost use Rattle.std.specs.Prelude.{◌≡◌, ◌<◌, ◌+◌, IfOk, IfNone, OnErr, OnSome, Some, length, option_copied, slice_set};
 ghost use Rattle.std.specs.Option.{option_map};
 ghost use Rattle.number_table.specs.Table.{place, with_value};
 ghost use Rattle.data_transfer.specs.Part.{begun, data_after, data_answer, h2c_data, left_in, whole_in};
@@ -19,6 +19,8 @@ pub(crate) const TAGS: usize = 63;
 /// The transfers of one connection, by their tags: 0 to 62. It has no table before its first transfer.
 #[derive(Drop)]
 pub(crate) struct Queue<C> {
+    // How many there are.
+    count: usize,
     table: Option<NumberTable<Transfer<C>>>,
 }
 
@@ -26,7 +28,7 @@ impl<C> Model for Queue<C> {
     ghost use Rattle.std.specs.Prelude.{List, Option};
     ghost use Rattle.std.specs.Coded.{coded_list, coded_option};
     ghost use Rattle.data_transfer.specs.Part.{Part, part_code};
-    ghost use Rattle.data_transfer.specs.Queue.{HasAllTags, tags_in};
+    ghost use Rattle.data_transfer.specs.Queue.{IsQueue, tags_in};
 
     ghost Value = { List (Option (Part C)) };
 
@@ -34,11 +36,11 @@ impl<C> Model for Queue<C> {
 
     ghost view = { λ q. tags_in q.table };
 
-    ghost invariant = { λ q. HasAllTags q.table };
+    ghost invariant = { λ q. IsQueue q.count q.table };
 }
 
 // Puts a transfer under the least tag that is free, which there is.
-#[tactic(auto, using(crate::proofs::Tags::tags))]
+#[tactic(auto, using(crate::proofs::Tags::tags, crate::proofs::Counts::counts))]
 fn put_least<C>(table: &mut NumberTable<Transfer<C>>, transfer: Transfer<C>) -> u16
 where
     C: Drop,
@@ -47,6 +49,7 @@ where
     ensures least { IsLeastFree (place table.old) result }
     ensures within { result < 63 }
     ensures tags { length table.new ≡ 63 }
+    ensures counted { count_of (place table.new) ≡ count_of (place table.old) + 1 }
     ensures put { table.new ≡ with_value table.old result transfer }
 {
     let ttag = table.least_free().unwrap_or(0);
@@ -61,6 +64,7 @@ fn new_table<C>(alloc: Global) -> Result<NumberTable<Transfer<C>>, AllocError>
     NumberTable::new(alloc, TAGS)
 }
 
+#[tactic(auto, using(crate::proofs::Counts::counts))]
 fn data_in<C>(
     table: &mut NumberTable<Transfer<C>>,
     ttag: u16,
@@ -69,6 +73,9 @@ fn data_in<C>(
     datal: u32,
     bytes: &[u8],
 ) -> Result<Progress, DataFault>
+    requires { length table.old ≡ 63 }
+    ensures tags { length table.new ≡ 63 }
+    ensures counted { count_of (place table.new) ≡ count_of (place table.old) }
     ensures answer { result ≡ data_answer (place table.old ttag) (h2c_data cid offset datal bytes.now) }
     ensures after { table.new ≡ slice_set table.old ttag (data_after (place table.old ttag) (h2c_data cid offset datal bytes.now)) }
     ensures refused { OnErr result (table.new ≡ table.old) }
@@ -79,9 +86,13 @@ fn data_in<C>(
     }
 }
 
+#[tactic(auto, using(crate::proofs::Counts::counts))]
 fn finish_in<C>(table: &mut NumberTable<Transfer<C>>, number: usize) -> Option<Whole<C>>
 where
     C: Drop,
+    requires { length table.old ≡ 63 }
+    ensures tags { length table.new ≡ 63 }
+    ensures counted { OnSome result (count_of (place table.new) + 1 ≡ count_of (place table.old)) }
     ensures whole { option_map part_of result ≡ whole_in (place table.old number) }
     ensures left { table.new ≡ slice_set table.old number (left_in (place table.old number)) }
     ensures kept { IfNone result (table.new ≡ table.old) }
@@ -90,13 +101,6 @@ where
         return None;
     }
     Some(table.remove(number)?.into_whole())
-}
-
-#[tactic(auto, unfolding(crate::specs::Parts::count_of))]
-fn count_in<C>(table: &NumberTable<Transfer<C>>) -> usize
-    ensures { result ≡ count_of (place table.now) }
-{
-    (0..TAGS).filter(|ttag| table.get(*ttag).is_some()).count()
 }
 
 fn is_of<C>(table: &NumberTable<Transfer<C>>, ttag: usize, cid: u16) -> bool
@@ -121,7 +125,10 @@ impl<C> Queue<C> {
     pub(crate) fn new() -> Queue<C>
         ensures { result ≡ no_tags }
     {
-        Queue { table: None }
+        Queue {
+            count: 0,
+            table: None,
+        }
     }
 
     /// Begins a transfer, under the least tag that is free.
@@ -142,10 +149,14 @@ impl<C> Queue<C> {
     {
         let transfer = Transfer::new(alloc, cid, command, asked)?;
         match &mut self.table {
-            Some(table) => Ok(put_least(table, transfer)),
+            Some(table) => {
+                self.count += 1;
+                Ok(put_least(table, transfer))
+            }
             None => {
                 let mut table = new_table(alloc)?;
                 let ttag = put_least(&mut table, transfer);
+                self.count = 1;
                 self.table = Some(table);
                 Ok(ttag)
             }
@@ -180,7 +191,11 @@ impl<C> Queue<C> {
         ensures kept { IfNone result (self.new ≡ self.old) }
     {
         match &mut self.table {
-            Some(table) => finish_in(table, usize::from(ttag)),
+            Some(table) => {
+                let whole = finish_in(table, usize::from(ttag))?;
+                self.count -= 1;
+                Some(whole)
+            }
             None => None,
         }
     }
@@ -191,6 +206,7 @@ impl<C> Queue<C> {
         C: Drop,
         ensures { self.new ≡ no_tags }
     {
+        self.count = 0;
         self.table = None;
     }
 
@@ -235,10 +251,7 @@ impl<C> Queue<C> {
     pub(crate) fn count(&self) -> usize
         ensures { result ≡ count_of (place self.now) }
     {
-        match &self.table {
-            Some(table) => count_in(table),
-            None => 0,
-        }
+        self.count
     }
 
     /// Whether one of them is of the command of that identifier.
@@ -246,7 +259,7 @@ impl<C> Queue<C> {
         ensures { result ≡ has_command (place self.now) cid }
     {
         match &self.table {
-            Some(table) => has_command_in(table, cid),
+            Some(table) => self.count > 0 && has_command_in(table, cid),
             None => false,
         }
     }

@@ -9,8 +9,8 @@ use crate::fault::DataFault;
 use std::alloc::{AllocError, Global};
 use std::marker::Model;
 
-/// The most data of one H2CData, MAXH2CDATA, in bytes.
-const DATA_MAX: u32 = 16_384;
+/// The most data of one H2CData, in bytes: what an ICResp says as MAXH2CDATA.
+pub const MAX_H2C_DATA: u32 = 16_384;
 
 /// How far a transfer has come.
 #[derive(Clone, Copy, Debug, PartialEq, Eq)]
@@ -85,7 +85,7 @@ impl<C> Transfer<C> {
         if datal as usize != bytes.len() {
             return Some(DataFault::LengthMismatch);
         }
-        if datal > DATA_MAX {
+        if datal > MAX_H2C_DATA {
             return Some(DataFault::TooLong);
         }
         let end = u64::from(offset) + u64::from(datal);

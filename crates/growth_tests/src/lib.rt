@@ -16,4 +16,6 @@ mod lists;
 #[cfg(test)]
 mod parts;
 #[cfg(test)]
+mod transfers;
+#[cfg(test)]
 mod views;
