@@ -1,5 +1,5 @@
 -- A controller is begun under an identifier that is free, by a capsule that names its subsystem and its host well.
-use Rattle.std.proofs.Common.{◌≡◌, ℕ, List, Option, Some, None, Result, Ok, Err, refl}
+use Rattle.std.proofs.Common.{◌≡◌, ℕ, List, Result, Ok, Err}
 use Rattle.fabrics_connect.specs.declared.decision.AdmitAs.{AdmitAs}
 use Rattle.fabrics_connect.specs.declared.decision.AdmitAs.TheVariants as admit
 use Rattle.fabrics_connect.specs.declared.decision.Decision.TheVariants.{Admit}
@@ -88,6 +88,6 @@ pub decided_founds : (w : World) (v : Conversation) (front : Front) → BeginsFr
 decided_founds w v front = decision_is w v front (Founds w front) (record {
   closes = (tt, tt);
   terminates = λ t. (tt, tt);
-  initializes = λ opened. (tt, tt);
+  initializes = λ opened alignment. (tt, tt);
   replies = capsule_founds w v front;
 })

@@ -1,6 +1,6 @@
 -- What is decided, case by case. What holds in each case of what a command comes to, and of what a front leads to, holds
 -- of whatever is decided: a law of decisions is shown of these cases, and knows no table of commands.
-use Rattle.std.proofs.Common.{◌≡◌, ℕ, Bool, true, false, ◌&&◌, List, Option, Some, None, Result, Ok, Err, refl, ap, ◌∙◌}
+use Rattle.std.proofs.Common.{◌≡◌, ℕ, Bool, true, false, ◌&&◌, List, Option, Some, None, Result, Ok, Err, refl, ap}
 use Rattle.std.specs.Prelude.{if◌then◌else◌, not, ◌==◌, nat_lt, length}
 use Rattle.admin_queue.specs.declared.outcome.Success.{Success as AdminSuccess}
 use Rattle.admin_queue.specs.Commands.{admin}
@@ -12,13 +12,15 @@ use Rattle.fabrics_connect.specs.declared.decision.Decision.TheVariants.{Admit, 
 use Rattle.fabrics_connect.specs.declared.row.Row.{Row}
 use Rattle.fabrics_connect.specs.Connect.{connect}
 use Rattle.io_queue.specs.declared.operation.Operation.{Operation}
-use Rattle.io_queue.specs.Decision.{decide as io_decide}
+use Rattle.io_queue.specs.declared.beginning.Begun.{Begun}
+use Rattle.io_queue.specs.declared.beginning.Begun.TheVariants.{Perform, Receive}
+use Rattle.io_queue.specs.Beginning.{begin as io_begin}
 use Rattle.nvt_fields.specs.declared.pdu_type.PduType.{PduType}
 use Rattle.nvt_fields.specs.declared.pdu_type.PduType.TheVariants.{IcReq, H2cTermReq, CapsuleCmd, H2cData}
 use Rattle.nvt_fields.specs.declared.status.Status.{Status}
-use Rattle.nvt_fields.specs.declared.termination.FatalErrorStatus.TheVariants.{InvalidHeaderField, LimitExceeded, SequenceError, UnsupportedParameter}
-use Rattle.nvt_fields.specs.Status.{command_sequence_error, invalid_field}
-use Rattle.pdu_codec.specs.Initialize.{hpda_at, ic_req_of, pfv_at}
+use Rattle.nvt_fields.specs.declared.termination.FatalErrorStatus.TheVariants.{LimitExceeded, UnsupportedParameter}
+use Rattle.nvt_fields.specs.Status.{command_sequence_error, invalid_field, sgl_type_invalid}
+use Rattle.pdu_codec.specs.Initialize.{ic_req_of, pfv_at}
 use Rattle.pdu_codec.specs.Sqe.{cid_of, fctype_of, fuse_of, opcode_of, property_of}
 use Rattle.pdu_cut.specs.Front.{Front, incomplete, whole, faulty}
 use Rattle.pdu_cut.specs.Pdu.{Pdu, data_part, header_part}
@@ -37,10 +39,11 @@ use Rattle.target_decision.specs.declared.session.Role.{Role}
 use Rattle.target_decision.specs.declared.session.Role.TheVariants.{Admin, Io}
 use Rattle.target_decision.specs.declared.session.Session.{Session}
 use Rattle.target_decision.specs.declared.session.Session.TheVariants.{Opened, Initialized, Connected, Ended}
-use Rattle.target_decision.specs.Capsule.{admin_answered, admin_by, command, command_in, connect_type, fabrics_command, fabrics_opcode, first_command, given_by, io_answered, io_by, io_of, is_ready_at, on_admin_queue, on_io_queue, property_get_of, property_get_type, property_set_of, property_set_type, queue_command, reply_of, set_by}
+use Rattle.target_decision.specs.Alignment.{aligned}
+use Rattle.target_decision.specs.Capsule.{admin_answered, admin_by, command, command_in, connect_type, fabrics_command, fabrics_opcode, first_command, given_by, io_begun, io_by, io_of, is_ready_at, property_get_of, property_get_type, property_set_of, property_set_type, queue_command, reply_of, set_by}
 use Rattle.target_decision.specs.Connect.{admitted, answered, connect_on}
 use Rattle.target_decision.specs.Controller.{registers_at}
-use Rattle.target_decision.specs.Decision.{decide, decide_in, entry_of, first_by, next_by, terminate}
+use Rattle.target_decision.specs.Decision.{decide, decide_in, entry_of, first_by, initialize_by, next_by, terminate}
 use Rattle.target_decision.specs.Outcome.{Outcome, done, given, refused}
 use Rattle.target_decision.specs.Session.{role_in}
 use Rattle.target_decision.specs.World.{World, admin_controller}
@@ -63,7 +66,7 @@ pub record Commands (w : World) (v : Conversation) (entry bytes : List ℕ) (P :
   pub administers : (cntlid : ℕ) → role_in v.session ≡ Some (Admin cntlid) → (s : AdminSuccess)
       → P (given s.result s.payload (consequence.Update cntlid (update.Command s.effect)))
   pub performs : (cntlid qid : ℕ) → role_in v.session ≡ Some (Io cntlid qid) → (port : ℕ) (subsystem : List ℕ) (op : Operation)
-      → io_decide w.config port subsystem entry (length bytes) ≡ Ok op → P (io_answered (Ok op))
+      → io_begin w.config port subsystem entry (length bytes) ≡ Ok (Perform op) → P (io_begun (Ok (Perform op)))
 
 module _ (w : World) (v : Conversation) (entry bytes : List ℕ) (P : Outcome → Type 0) (cases : Commands w v entry bytes P) where
   refused_by : (status : Status) → P (refused status)
@@ -106,16 +109,17 @@ module _ (w : World) (v : Conversation) (entry bytes : List ℕ) (P : Outcome �
       let outcome = admin w.pages w.config c entry in
       either P (not ready) (refused command_sequence_error) (admin_answered cntlid outcome) (refused_by command_sequence_error) (effect_is cntlid role outcome)
 
-  operation_is : (cntlid qid : ℕ) → role_in v.session ≡ Some (Io cntlid qid) → (port : ℕ) (subsystem : List ℕ) (o : Result Operation Status)
-      → io_decide w.config port subsystem entry (length bytes) ≡ o → P (io_answered o)
-  operation_is cntlid qid role port subsystem (Ok op) is = cases.performs cntlid qid role port subsystem op is
+  operation_is : (cntlid qid : ℕ) → role_in v.session ≡ Some (Io cntlid qid) → (port : ℕ) (subsystem : List ℕ) (o : Result Begun Status)
+      → io_begin w.config port subsystem entry (length bytes) ≡ o → P (io_begun o)
+  operation_is cntlid qid role port subsystem (Ok (Perform op)) is = cases.performs cntlid qid role port subsystem op is
+  operation_is cntlid qid role port subsystem (Ok (Receive len)) is = refused_by sgl_type_invalid
   operation_is cntlid qid role port subsystem (Err status) is = refused_by status
 
   io_of_is : (cntlid qid : ℕ) → role_in v.session ≡ Some (Io cntlid qid) → (subsystem : Option (List ℕ)) (port : ℕ)
       → P (io_of subsystem port w entry (length bytes))
   io_of_is cntlid qid role None port = refused_by command_sequence_error
   io_of_is cntlid qid role (Some subsystem) port =
-      operation_is cntlid qid role port subsystem (io_decide w.config port subsystem entry (length bytes)) refl
+      operation_is cntlid qid role port subsystem (io_begin w.config port subsystem entry (length bytes)) refl
 
   io_is : (cntlid qid : ℕ) → role_in v.session ≡ Some (Io cntlid qid) → (o : Option Row) → P (io_by o w entry (length bytes))
   io_is cntlid qid role None = refused_by command_sequence_error
@@ -153,19 +157,21 @@ module _ (w : World) (v : Conversation) (entry bytes : List ℕ) (P : Outcome �
 pub record Decisions (w : World) (v : Conversation) (front : Front) (P : Decision → Type 0) : Type 0 where
   pub closes : P decision.Close
   pub terminates : (t : Termination) → P (decision.Terminate t)
-  pub initializes : v.session ≡ Opened → P decision.Initialize
+  pub initializes : v.session ≡ Opened → (alignment : ℕ) → P (decision.Initialize alignment)
   pub replies : (pdu : Pdu) → front ≡ whole pdu → pdu.kind ≡ CapsuleCmd
       → P (decision.Reply (reply_of v.session (cid_of (entry_of pdu)) (command w v (entry_of pdu) (data_part pdu))))
 
 module _ (w : World) (v : Conversation) (front : Front) (P : Decision → Type 0) (cases : Decisions w v front P) where
-  initialize_is : (a b : Bool) → v.session ≡ Opened
-      → P (if a then terminate UnsupportedParameter pfv_at else if b then terminate InvalidHeaderField hpda_at else decision.Initialize)
-  initialize_is a b opened =
-      either P a _ _ (cases.terminates _) (either P b _ _ (cases.terminates _) (cases.initializes opened))
+  alignment_is : (o : Option ℕ) → v.session ≡ Opened → P (initialize_by o)
+  alignment_is (Some alignment) opened = cases.initializes opened alignment
+  alignment_is None opened = cases.terminates _
+
+  initialize_is : (a : Bool) (o : Option ℕ) → v.session ≡ Opened → P (if a then terminate UnsupportedParameter pfv_at else initialize_by o)
+  initialize_is a o opened = either P a _ _ (cases.terminates _) (alignment_is o opened)
 
   first_pdu_is : (pdu : Pdu) (kind : PduType) → v.session ≡ Opened → P (first_by kind pdu)
   first_pdu_is pdu IcReq opened =
-      initialize_is (not ((ic_req_of (header_part pdu)).pfv == 0)) (not ((ic_req_of (header_part pdu)).hpda == 0)) opened
+      initialize_is (not ((ic_req_of (header_part pdu)).pfv == 0)) (aligned (ic_req_of (header_part pdu)).hpda) opened
   first_pdu_is pdu H2cTermReq opened = cases.closes
   first_pdu_is pdu _ opened = cases.terminates _
 

@@ -4,19 +4,19 @@ use Rattle.block_store.specs.Stored.{Stored}
 use Rattle.io_queue.specs.declared.operation.Operation.{Operation}
 use Rattle.io_queue.specs.Execution.{Performs, SyncsIn, contents_at, returned}
 use Rattle.io_queue.specs.Operation.{disk_of}
-use Rattle.io_queue.specs.Reply.{data_pdu}
+use Rattle.io_queue.specs.Reply.{returned_pdus}
 use Rattle.nvt_fields.specs.declared.status.Status.{Status}
 use Rattle.pdu_cut.specs.Front.{Front}
 use Rattle.target_decision.specs.declared.decision.Answer.TheVariants as answer
 use Rattle.target_decision.specs.declared.decision.Decision.TheVariants as decision
 use Rattle.target_decision.specs.declared.decision.Reply.{Reply}
 use Rattle.target_decision.specs.Act.{Does}
-use Rattle.target_decision.specs.Decision.{bytes_at, response_of}
+use Rattle.target_decision.specs.Decision.{bytes_at, format_of, response_of}
 
-pub operation_done : (r : Reply) (op : Operation) (front : Front) (payload : Option (List ℕ)) (old new : List Stored) (output mid appended : List ℕ)
-    (status : Status) → r.answer ≡ answer.Performed op → Performs op (bytes_at front) r.cid old new output mid status
-    → SyncsIn op new status → appended ≡ mid ++ response_of r status 0 → Does (decision.Reply r) front payload old new output appended
-operation_done r op front payload old new output mid appended status is h lasts sends = record {
+pub operation_done : (alignment : ℕ) (r : Reply) (op : Operation) (front : Front) (payload : Option (List ℕ)) (old new : List Stored) (output mid appended : List ℕ)
+    (status : Status) → r.answer ≡ answer.Performed op → Performs op (bytes_at front) (format_of r alignment) old new output mid status
+    → SyncsIn op new status → appended ≡ mid ++ response_of r status 0 → Does alignment (decision.Reply r) front payload old new output appended
+operation_done alignment r op front payload old new output mid appended status is h lasts sends = record {
   medium = h.medium;
   did = rw is (record { tells = h.tells; meets = h.meets; lasts = subst lasting h.answer lasts });
   sends = rw is (sends ∙ ap (λ s. s ++ response_of r status 0) h.sends ∙ append_assoc output shown (response_of r status 0)
@@ -28,4 +28,4 @@ operation_done r op front payload old new output mid appended status is h lasts 
   lasting s = SyncsIn op new s
 
   shown : List ℕ
-  shown = data_pdu r.cid (returned op (contents_at old (disk_of op)) h.medium)
+  shown = returned_pdus (format_of r alignment) (returned op (contents_at old (disk_of op)) h.medium)

@@ -1,9 +1,12 @@
 -- What is decided is within the disks of the configuration.
-use Rattle.std.proofs.Common.{◌≡◌, ℕ, List, length, Result, Ok, Err, IfOk, refl}
+use Rattle.std.proofs.Common.{◌≡◌, ℕ, List, length, Result, Ok, Err, IfOk}
 use Rattle.config_rules.specs.Valid.{IsValid}
 use Rattle.fabrics_connect.specs.declared.decision.AdmitAs.{AdmitAs}
 use Rattle.fabrics_connect.specs.declared.decision.AdmitAs.TheVariants as admit
 use Rattle.io_queue.specs.declared.operation.Operation.{Operation}
+use Rattle.io_queue.specs.declared.beginning.Begun.{Begun}
+use Rattle.io_queue.specs.declared.beginning.Begun.TheVariants.{Perform, Receive}
+use Rattle.io_queue.specs.Beginning.{IsBegunWithin}
 use Rattle.io_queue.specs.Operation.{IsWithin}
 use Rattle.io_queue.proofs.Within.{decided_within as operation_within}
 use Rattle.nvt_fields.specs.declared.status.Status.{Status}
@@ -28,11 +31,12 @@ admitted_fits : (units : List ℕ) (a : AdmitAs) (entry bytes : List ℕ) → Is
 admitted_fits units (admit.Queue cntlid qid) entry bytes = tt
 admitted_fits units (admit.Controller new) entry bytes = tt
 
-operation_fits : (units : List ℕ) (r : Result Operation Status) (op : Operation) (brings : ℕ) → r ≡ Ok op → IfOk r (IsWithin units brings)
+operation_fits : (units : List ℕ) (r : Result Begun Status) (op : Operation) (brings : ℕ) → r ≡ Ok (Perform op) → IfOk r (IsBegunWithin units brings)
     → IsWithin units brings op
-operation_fits units (Ok p) op brings is h =
+operation_fits units (Ok (Perform p)) op brings is h =
     let same : p ≡ op = cc in
     rw same at h
+operation_fits units (Ok (Receive len)) op brings is h = cc
 operation_fits units (Err status) op brings is h = cc
 
 command_fits : (w : World) (v : Conversation) (entry bytes : List ℕ) → IsValid w.config → IsFit w.config.units bytes (command w v entry bytes)
@@ -55,7 +59,7 @@ pub decided_within : (w : World) (v : Conversation) (front : Front) → IsValid 
 decided_within w v front valid = decision_is w v front (λ d. PerformsWithin w.config.units d front) (record {
   closes = tt;
   terminates = λ t. tt;
-  initializes = λ opened. tt;
+  initializes = λ opened alignment. tt;
   replies = λ pdu is kind.
       rw is (reply_fits w.config.units v.session (cid_of (entry_of pdu)) (command w v (entry_of pdu) (data_part pdu)) pdu
       (command_fits w v (entry_of pdu) (data_part pdu) valid));

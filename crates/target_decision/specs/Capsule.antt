@@ -5,10 +5,11 @@ use Rattle.admin_queue.specs.Commands.{admin}
 use Rattle.admin_queue.specs.Controller.{AdminController}
 use Rattle.admin_queue.specs.Outcome.{Outcome as AdminOutcome}
 use Rattle.fabrics_connect.specs.declared.row.Row.{Row}
-use Rattle.io_queue.specs.declared.operation.Operation.{Operation}
-use Rattle.io_queue.specs.Decision.{decide as io_decide}
+use Rattle.io_queue.specs.declared.beginning.Begun.{Begun}
+use Rattle.io_queue.specs.declared.beginning.Begun.TheVariants.{Perform, Receive}
+use Rattle.io_queue.specs.Beginning.{begin as io_begin}
 use Rattle.nvt_fields.specs.declared.status.Status.{Status}
-use Rattle.nvt_fields.specs.Status.{invalid_field, command_sequence_error}
+use Rattle.nvt_fields.specs.Status.{invalid_field, command_sequence_error, sgl_type_invalid}
 use Rattle.pdu_codec.specs.declared.command.Property.{Property}
 use Rattle.pdu_codec.specs.Sqe.{opcode_of, fuse_of, fctype_of, property_of}
 use Rattle.property_regs.specs.declared.regs.InvalidField.{InvalidField}
@@ -97,15 +98,16 @@ on_admin_queue w cntlid entry =
 
 -- ---- on an I/O queue
 
--- an operation that is to be performed, or a status
-abbrev pub io_answered : Result Operation Status → Outcome
-io_answered (Ok op) = Ok (record { answer = answer.Performed op; consequence = consequence.Nothing })
-io_answered (Err status) = refused status
+-- an operation that is to be performed, or a status; until transfers are built, no host is asked for data
+abbrev pub io_begun : Result Begun Status → Outcome
+io_begun (Ok (Perform op)) = Ok (record { answer = answer.Performed op; consequence = consequence.Nothing })
+io_begun (Ok (Receive len)) = refused sgl_type_invalid
+io_begun (Err status) = refused status
 
 -- a command of a controller of this subsystem that was made through this port; a discovery controller has no I/O queue
 abbrev pub io_of : Option (List ℕ) → ℕ → World → List ℕ → ℕ → Outcome
 io_of None port w entry brings = refused command_sequence_error
-io_of (Some subsystem) port w entry brings = io_answered (io_decide w.config port subsystem entry brings)
+io_of (Some subsystem) port w entry brings = io_begun (io_begin w.config port subsystem entry brings)
 
 -- .. of one that is ready, or not
 abbrev pub io_by : Option Row → World → List ℕ → ℕ → Outcome

@@ -1,6 +1,5 @@
 -- What its own admin queue alone uses of a controller (Base 2.0, sections 3.1.3 and 3.9).
 use Rattle.std.specs.Prelude.{ℕ, Bool, true, false, Option, Some, None, if◌then◌else◌}
-use Rattle.admin_queue.specs.declared.outcome.Effect.{Effect}
 use Rattle.admin_queue.specs.declared.outcome.Effect.TheVariants as effect
 use Rattle.property_regs.specs.declared.kind.ControllerKind.{ControllerKind}
 use Rattle.property_regs.specs.declared.kind.ControllerKind.TheVariants.{Discovery}

@@ -7,7 +7,8 @@ use Rattle.io_queue.specs.declared.operation.Operation.{Operation}
 use Rattle.io_queue.specs.Act.{Medium}
 use Rattle.io_queue.specs.Execution.{Act, act_of, returned, status_by}
 use Rattle.io_queue.specs.Operation.{IsWithin, disk_of}
-use Rattle.io_queue.specs.Reply.{data_pdu}
+use Rattle.io_queue.specs.declared.reply.DataFormat.{DataFormat}
+use Rattle.io_queue.specs.Reply.{pdu_with, returned_pdus}
 use Rattle.nvt_fields.specs.FatalErrorStatus.{fatal_code_of}
 use Rattle.nvt_fields.specs.declared.status.Status.{Status}
 use Rattle.nvt_fields.specs.declared.pdu_type.PduType.{PduType}
@@ -29,6 +30,7 @@ use Rattle.target_decision.specs.declared.decision.Reply.{Reply}
 use Rattle.target_decision.specs.declared.session.Conversation.{Conversation}
 use Rattle.target_decision.specs.declared.session.Session.{Session}
 use Rattle.target_decision.specs.declared.session.Session.TheVariants.{Opened, Initialized, Connected, Ended}
+use Rattle.target_decision.specs.Alignment.{aligned}
 use Rattle.target_decision.specs.Capsule.{command, reply_of}
 use Rattle.target_decision.specs.World.{World, admin_controller_in}
 
@@ -37,11 +39,14 @@ use Rattle.target_decision.specs.World.{World, admin_controller_in}
 abbrev pub terminate : FatalErrorStatus → ℕ → Decision
 terminate fes fei = decision.Terminate (record { fes = fes; fei = fei })
 
--- an ICReq that comes first: until transfers are built, no alignment of data may be asked for
+abbrev pub initialize_by : Option ℕ → Decision
+initialize_by (Some alignment) = decision.Initialize alignment
+initialize_by None = terminate InvalidHeaderField hpda_at
+
+-- an ICReq that comes first
 abbrev pub initialize : ic_req.IcReq → Decision
 initialize request =
-    if not (request.pfv == 0) then terminate UnsupportedParameter pfv_at else
-    if not (request.hpda == 0) then terminate InvalidHeaderField hpda_at else decision.Initialize
+    if not (request.pfv == 0) then terminate UnsupportedParameter pfv_at else initialize_by (aligned request.hpda)
 
 -- the first PDU of a connection
 abbrev pub first_by : PduType → Pdu → Decision
@@ -84,7 +89,7 @@ decide w v (faulty fault head) = terminate fault.fes fault.fei
 
 -- whether a decision ends the connection
 abbrev pub is_end : Decision → Bool
-is_end decision.Initialize = false
+is_end (decision.Initialize alignment) = false
 is_end (decision.Reply r) = false
 is_end (decision.Terminate t) = true
 is_end decision.Close = true
@@ -104,7 +109,7 @@ payload_in (answer.Performed op) = None
 -- what a decision returns of its controller
 abbrev pub payload_of : Decision → Option Payload
 payload_of (decision.Reply r) = payload_in r.answer
-payload_of decision.Initialize = None
+payload_of (decision.Initialize alignment) = None
 payload_of (decision.Terminate t) = None
 payload_of decision.Close = None
 
@@ -112,18 +117,27 @@ payload_of decision.Close = None
 abbrev pub data_of : World → Session → Decision → Option (List ℕ)
 data_of w session d = payload_at w (admin_controller_in w session) (payload_of d)
 
--- what a reply says
+-- what a reply says, and the C2HData of what it returns
 pub record Said : Type 0 where
   pub status : Status
   pub result : ℕ
-  pub returned : Option (List ℕ)
+  pub data_pdus : List ℕ
 
 abbrev pub response_of : Reply → Status → ℕ → List ℕ
 response_of r status result = capsule_resp (record { result = result; sqhd = r.sqhd; cid = r.cid; status = status })
 
+-- what all C2HData of a reply have in common, to a host with this alignment of data
+abbrev pub format_of : Reply → ℕ → DataFormat
+format_of r alignment = record { cid = r.cid; hpda = alignment }
+
+-- what is returned of a controller goes in one C2HData
+abbrev pub whole_pdu : DataFormat → Option (List ℕ) → List ℕ
+whole_pdu format None = []
+whole_pdu format (Some bytes) = pdu_with format (record { offset = 0; len = length bytes; last = true }) bytes
+
 -- the data, where there are any, and then the response
 abbrev pub reply_wire : Reply → Said → List ℕ
-reply_wire r said = data_pdu r.cid said.returned ++ response_of r said.status said.result
+reply_wire r said = said.data_pdus ++ response_of r said.status said.result
 
 -- what a termination returns of the PDU in error: its header, or the 8 bytes that are faulty
 abbrev pub head_of : Front → List ℕ
@@ -140,24 +154,27 @@ bytes_at incomplete = []
 bytes_at (faulty fault head) = []
 
 -- what an answer says, with the data that it returns of its controller, where it returns any
-abbrev pub said_by : Answer → Option (List ℕ) → List ℕ → (ℕ → List (List ℕ)) → Medium → Said
-said_by (answer.Given g) payload bytes contents m = record { status = g.status; result = g.result; returned = payload }
-said_by (answer.Performed op) payload bytes contents m = record {
+abbrev pub said_by : DataFormat → Answer → Option (List ℕ) → List ℕ → (ℕ → List (List ℕ)) → Medium → Said
+said_by format (answer.Given g) payload bytes contents m =
+    record { status = g.status; result = g.result; data_pdus = whole_pdu format payload }
+said_by format (answer.Performed op) payload bytes contents m = record {
   status = status_by op bytes (contents (disk_of op)) m;
   result = 0;
-  returned = returned op (contents (disk_of op)) m;
+  data_pdus = returned_pdus format (returned op (contents (disk_of op)) m);
 }
 
--- the bytes that a decision sends on a front, with the data that it returns of its controller
-abbrev pub wire_of : Decision → Front → Option (List ℕ) → (ℕ → List (List ℕ)) → Medium → List ℕ
-wire_of decision.Initialize front payload contents m = ic_resp (record { pfv = 0; cpda = 0; dgst = 0; maxh2cdata = 16384 })
-wire_of (decision.Reply r) front payload contents m = reply_wire r (said_by r.answer payload (bytes_at front) contents m)
-wire_of (decision.Terminate t) front payload contents m = c2h_term_req (fatal_code_of t.fes) t.fei (head_of front)
-wire_of decision.Close front payload contents m = []
+-- the bytes that a decision sends on a front to a host with this alignment of data, with the data that it returns of its
+-- controller
+abbrev pub wire_of : ℕ → Decision → Front → Option (List ℕ) → (ℕ → List (List ℕ)) → Medium → List ℕ
+wire_of alignment (decision.Initialize asked) front payload contents m = ic_resp (record { pfv = 0; cpda = 0; dgst = 0; maxh2cdata = 16384 })
+wire_of alignment (decision.Reply r) front payload contents m =
+    reply_wire r (said_by (format_of r alignment) r.answer payload (bytes_at front) contents m)
+wire_of alignment (decision.Terminate t) front payload contents m = c2h_term_req (fatal_code_of t.fes) t.fei (head_of front)
+wire_of alignment decision.Close front payload contents m = []
 
--- .. in a session
-abbrev pub sent_by : World → (ℕ → List (List ℕ)) → Medium → Session → Decision → Front → List ℕ
-sent_by w contents m session d front = wire_of d front (data_of w session d) contents m
+-- .. on a connection
+abbrev pub sent_by : World → (ℕ → List (List ℕ)) → Medium → Conversation → Decision → Front → List ℕ
+sent_by w contents m v d front = wire_of v.alignment d front (data_of w v.session d) contents m
 
 abbrev pub operation_in : Answer → Option Operation
 operation_in (answer.Given g) = None
@@ -166,7 +183,7 @@ operation_in (answer.Performed op) = Some op
 -- the operation that a decision is to perform
 abbrev pub operation_of : Decision → Option Operation
 operation_of (decision.Reply r) = operation_in r.answer
-operation_of decision.Initialize = None
+operation_of (decision.Initialize alignment) = None
 operation_of (decision.Terminate t) = None
 operation_of decision.Close = None
 

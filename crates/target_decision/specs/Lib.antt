@@ -1,4 +1,5 @@
 pub mod Act
+pub mod Alignment
 pub mod Begin
 pub mod Capsule
 pub mod Connect

@@ -13,7 +13,7 @@ use Rattle.target_decision.specs.Queue.{new_queue, responded}
 
 -- a connection on which nothing has come yet
 abbrev pub opened_on : ℕ → Conversation
-opened_on port = record { port = port; session = Opened }
+opened_on port = record { port = port; session = Opened; alignment = 0 }
 
 -- whether it is ended: nothing more is consumed or sent
 abbrev pub is_ended : Session → Bool
@@ -44,7 +44,15 @@ replied (consequence.Join j) session = Connected (Io j.cntlid j.qid) (responded 
 replied _ session = responded_in session
 
 abbrev pub session_after : Session → Decision → Session
-session_after session decision.Initialize = Initialized
+session_after session (decision.Initialize alignment) = Initialized
 session_after session (decision.Reply r) = replied r.consequence session
 session_after session (decision.Terminate t) = Ended
 session_after session decision.Close = Ended
+
+-- the alignment of data that holds after it
+abbrev pub alignment_after : ℕ → Decision → ℕ
+alignment_after before (decision.Initialize alignment) = alignment
+alignment_after before _ = before
+
+abbrev pub turned : Conversation → Decision → Conversation
+turned v d = record v { session = session_after v.session d; alignment = alignment_after v.alignment d }

@@ -9,13 +9,13 @@ ghost use Rattle.pdu_cut.specs.Pdu.{data_part};
 ghost use Rattle.target_decision.specs.Begin.{NamesIn, NamesWell, row_decided};
 ghost use Rattle.target_decision.specs.Act.{Does, room_of};
 ghost use Rattle.target_decision.specs.Decision.{PerformsWithin, consumed_of, data_of, entry_of, head_of};
-ghost use Rattle.target_decision.specs.Session.{session_after};
+ghost use Rattle.target_decision.specs.Session.{turned};
 ghost use Rattle.target_decision.specs.World.{world_in};
 
 use crate::consequence::Consequence;
 use crate::data::{Data, len_in};
 use crate::decision::{Answer, Decision, Reply};
-use crate::session::Session;
+use crate::session::Conversation;
 use crate::wire::{self, WIRE_MAX, head_of};
 use crate::world::World;
 use block_store::{Disk, Store};
@@ -30,31 +30,31 @@ use std::alloc::{AllocError, Global};
 pub fn perform<D: Disk>(
     world: &World<'_>,
     stores: &mut [Store<D>],
-    session: &mut Session,
+    conversation: &mut Conversation,
     output: &mut BytesMut,
     decision: &Decision,
     front: &Cut<'_>,
 ) -> Result<(), AllocError>
     requires head { length (head_of (front_shown front.now)) ≤ 128 }
     requires within { PerformsWithin (sizes stores.old) decision.now (front_shown front.now) }
-    ensures session { OnOk result (session.new ≡ session_after session.old decision.now) }
-    ensures does { let payload = data_of (world_in world.now) session.old decision.now in
-        OnOk result (Does decision.now (front_shown front.now) payload stores.old stores.new
-        output.old.items output.new.items) }
-    ensures err { OnErr result ((session.new ≡ session.old) × (stores.new ≡ stores.old)
+    ensures conversation { OnOk result (conversation.new ≡ turned conversation.old decision.now) }
+    ensures does { let payload = data_of (world_in world.now) conversation.old.session decision.now in
+        OnOk result (Does conversation.old.alignment decision.now (front_shown front.now) payload
+        stores.old stores.new output.old.items output.new.items) }
+    ensures err { OnErr result ((conversation.new ≡ conversation.old) × (stores.new ≡ stores.old)
         × (output.new.items ≡ output.old.items)) }
 {
-    let data = Data::of(world, session, decision);
+    let data = Data::of(world, &conversation.session, decision);
     let returned = len_in(&data) + room_of(decision);
     output.reserve(WIRE_MAX + head_of(front).len() + returned)?;
-    wire::write(output, stores, decision, front, &data);
-    session.turn(decision);
+    wire::write(output, stores, conversation.alignment, decision, front, &data);
+    conversation.turn(decision);
     Ok(())
 }
 
 // How many bytes a decision may send of what it reads.
 fn room_of(decision: &Decision) -> usize
-    requires { room_of decision.now < 2 ^ 16 }
+    requires { room_of decision.now < 2 ^ 18 }
     ensures { result ≡ room_of decision.now }
 {
     match decision {

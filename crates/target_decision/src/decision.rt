@@ -6,6 +6,7 @@ ghost use Rattle.target_decision.specs.Decision.{decide, decide_pdu, first_by, i
 ghost use Rattle.target_decision.specs.Decision.{PerformsWithin, is_end, next_by, terminate};
 ghost use Rattle.target_decision.specs.World.{world_in};
 
+use crate::alignment::Alignment;
 use crate::capsule;
 use crate::consequence::Consequence;
 use crate::session::{Conversation, Session};
@@ -22,8 +23,8 @@ const TTAG_AT: u32 = 10;
 /// What is owed to a PDU.
 #[derive(Clone, Copy)]
 pub enum Decision {
-    /// The connection is initialized, and an ICResp says so.
-    Initialize,
+    /// The connection is initialized, with this alignment of data to the host, and an ICResp says so.
+    Initialize(Alignment),
     /// A command is answered.
     Reply(Reply),
     /// The connection is ended by a C2HTermReq.
@@ -131,17 +132,16 @@ fn next(world: &World<'_>, v: &Conversation, pdu: &PduView<'_>) -> Decision
     }
 }
 
-// Until transfers are built, a host may ask for no alignment of data.
 fn initialize(request: &IcReq) -> Decision
     ensures { result ≡ initialize request.now }
 {
     if request.pfv != 0 {
         return terminate(FatalErrorStatus::UnsupportedParameter, IcReq::PFV_AT as u32);
     }
-    if request.hpda != 0 {
-        return terminate(FatalErrorStatus::InvalidHeaderField, IcReq::HPDA_AT as u32);
+    match Alignment::new(request.hpda) {
+        Some(alignment) => Decision::Initialize(alignment),
+        None => terminate(FatalErrorStatus::InvalidHeaderField, IcReq::HPDA_AT as u32),
     }
-    Decision::Initialize
 }
 
 pub(crate) fn terminate(fes: FatalErrorStatus, fei: u32) -> Decision

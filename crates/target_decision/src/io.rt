@@ -1,7 +1,7 @@
 //! I/O commands of a controller that is ready.
 ghost use Rattle.std.specs.Prelude.{◌≡◌};
 ghost use Rattle.std.specs.Option.{option_copied};
-ghost use Rattle.target_decision.specs.Capsule.{io_answered, io_at, io_by};
+ghost use Rattle.target_decision.specs.Capsule.{io_begun, io_at, io_by};
 ghost use Rattle.target_decision.specs.World.{world_in};
 
 use crate::capsule::{Outcome, Success, refused};
@@ -9,7 +9,7 @@ use crate::consequence::Consequence;
 use crate::decision::Answer;
 use crate::world::World;
 use fabrics_connect::Row;
-use io_queue::{IoController, Operation, decide};
+use io_queue::{Begun, IoController, begin};
 use nvt_fields::Status;
 use pdu_codec::Sqe;
 
@@ -38,21 +38,23 @@ fn command_by(world: &World<'_>, row: Option<&Row>, sqe: &Sqe<'_>, brings: u64) 
                 port: *port,
                 subsystem,
             };
-            answered(decide(world.config, &controller, sqe, brings))
+            begun(begin(world.config, &controller, sqe, brings))
         }
         _ => refused(Status::COMMAND_SEQUENCE_ERROR),
     }
 }
 
-// The outcome of a command that is to do this, or is refused.
-fn answered(decided: Result<Operation, Status>) -> Outcome
-    ensures { result ≡ io_answered decided }
+// The outcome of a command that begins so, or is refused. Until transfers are built, no host is asked
+// for data.
+fn begun(begun: Result<Begun, Status>) -> Outcome
+    ensures { result ≡ io_begun begun }
 {
-    match decided {
-        Ok(operation) => Ok(Success {
+    match begun {
+        Ok(Begun::Perform(operation)) => Ok(Success {
             answer: Answer::Performed(operation),
             consequence: Consequence::Nothing,
         }),
+        Ok(Begun::Receive(_)) => refused(Status::SGL_TYPE_INVALID),
         Err(status) => refused(status),
     }
 }

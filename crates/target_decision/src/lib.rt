@@ -7,6 +7,7 @@
 
 mod act;
 mod admin;
+mod alignment;
 mod capsule;
 mod connect;
 mod consequence;
@@ -21,6 +22,7 @@ mod wire;
 mod world;
 
 pub use act::{consumed_of, new_row, perform};
+pub use alignment::Alignment;
 pub use consequence::{Beginning, ConfigurationSet, Consequence, Joining, Update};
 pub use controller::Controller;
 pub use decision::{Answer, Decision, Given, Reply, Termination, decide};

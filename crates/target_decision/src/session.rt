@@ -1,8 +1,9 @@
 //! How far target and host have come on a connection.
 ghost use Rattle.std.specs.Prelude.{◌≡◌};
 ghost use Rattle.target_decision.specs.Queue.{new_queue, responded};
-ghost use Rattle.target_decision.specs.Session.{is_ended, opened_on, replied, session_after};
+ghost use Rattle.target_decision.specs.Session.{is_ended, opened_on, replied, session_after, turned};
 
+use crate::alignment::Alignment;
 use crate::consequence::Consequence;
 use crate::decision::Decision;
 use crate::queue::Queue;
@@ -13,6 +14,8 @@ pub struct Conversation {
     /// The port that it was opened on.
     pub port: u16,
     pub session: Session,
+    /// What its ICReq asked for.
+    pub alignment: Alignment,
 }
 
 impl Conversation {
@@ -23,7 +26,18 @@ impl Conversation {
         Conversation {
             port,
             session: Session::Opened,
+            alignment: Alignment::none(),
         }
+    }
+
+    /// Goes where a decision leads it.
+    pub(crate) fn turn(&mut self, decision: &Decision)
+        ensures { self.new ≡ turned self.old decision.now }
+    {
+        if let Decision::Initialize(alignment) = decision {
+            self.alignment = *alignment;
+        }
+        self.session.turn(decision);
     }
 }
 
@@ -51,11 +65,11 @@ pub enum Role {
 
 impl Session {
     /// Goes where a decision leads it.
-    pub(crate) fn turn(&mut self, decision: &Decision)
+    fn turn(&mut self, decision: &Decision)
         ensures { self.new ≡ session_after self.old decision.now }
     {
         match decision {
-            Decision::Initialize => *self = Session::Initialized,
+            Decision::Initialize(_) => *self = Session::Initialized,
             Decision::Reply(reply) => self.reply(&reply.consequence),
             Decision::Terminate(_) | Decision::Close => *self = Session::Ended,
         }

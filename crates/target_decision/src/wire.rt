@@ -3,19 +3,19 @@ ghost use Rattle.std.specs.Prelude.{◌≡◌, ◌+◌, ◌≤◌, ◌++◌, Som
 ghost use Rattle.admin_queue.specs.Payload.{payload_len};
 ghost use Rattle.target_decision.specs.Data.{bytes_in, bytes_of, len_in};
 ghost use Rattle.io_queue.specs.Execution.{sizes};
-ghost use Rattle.io_queue.specs.Reply.{data_pdu};
 ghost use Rattle.pdu_cut.specs.Cut.{front_shown};
 ghost use Rattle.target_decision.specs.Act.{Does, room_in, room_of};
-ghost use Rattle.target_decision.specs.Decision.{PerformsWithin, WithinIn, bytes_at, head_of, operation_in, response_of};
+ghost use Rattle.target_decision.specs.Decision.{PerformsWithin, WithinIn, bytes_at, format_of, head_of, operation_in, response_of, whole_pdu};
 ghost use Rattle.nvt_fields.specs.FatalErrorStatus.{fatal_code_of};
 ghost use Rattle.pdu_codec.specs.Initialize.{ic_resp};
 ghost use Rattle.pdu_codec.specs.TermReq.{c2h_term_req};
 
+use crate::alignment::Alignment;
 use crate::data::Data;
 use crate::decision::{Answer, Decision, Reply, Termination};
 use block_store::{Disk, Store};
 use bytes::BytesMut;
-use io_queue::perform;
+use io_queue::{DataFormat, perform};
 use nvt_fields::Status;
 use pdu_codec::{C2hHead, CapsuleResp, IcResp, TermReq};
 use pdu_cut::Cut;
@@ -23,14 +23,16 @@ use pdu_cut::Cut;
 /// The most data bytes that the target takes in one H2CData.
 const MAX_H2C_DATA: u32 = 16_384;
 
-/// The most bytes that a decision sends beside its data and the header in error: an ICResp's.
-pub(crate) const WIRE_MAX: usize = 128;
+/// The most bytes that a decision sends beside its data and the header in error: what stands before the
+/// data of a C2HData, and a response.
+pub(crate) const WIRE_MAX: usize = 128 + 24;
 
 /// Performs the operation of a decision on this front, and appends its PDUs, with the data that it
 /// returns of its controller.
 pub(crate) fn write<D: Disk>(
     output: &mut BytesMut,
     stores: &mut [Store<D>],
+    alignment: Alignment,
     decision: &Decision,
     front: &Cut<'_>,
     returned: &Option<Data<'_>>,
@@ -39,12 +41,12 @@ pub(crate) fn write<D: Disk>(
         WIRE_MAX + length head + len_in returned.now + room_of decision.now ≤ output.old.spare }
     requires head { length (head_of (front_shown front.now)) ≤ 128 }
     requires within { PerformsWithin (sizes stores.old) decision.now (front_shown front.now) }
-    ensures { Does decision.now (front_shown front.now) (bytes_in returned.now)
+    ensures { Does alignment decision.now (front_shown front.now) (bytes_in returned.now)
         stores.old stores.new output.old.items output.new.items }
 {
     match decision {
-        Decision::Initialize => write_initialized(output),
-        Decision::Reply(reply) => write_reply(output, stores, reply, front, returned),
+        Decision::Initialize(_) => write_initialized(output),
+        Decision::Reply(reply) => write_reply(output, stores, alignment, reply, front, returned),
         Decision::Terminate(termination) => {
             write_termination(output, termination, head_of(front));
         }
@@ -55,25 +57,37 @@ pub(crate) fn write<D: Disk>(
 fn write_reply<D: Disk>(
     output: &mut BytesMut,
     stores: &mut [Store<D>],
+    alignment: Alignment,
     reply: &Reply,
     front: &Cut<'_>,
     returned: &Option<Data<'_>>,
 )
-    requires room { 48 + len_in returned.now + room_in (operation_in reply.now.answer) ≤ output.old.spare }
+    requires room { 152 + len_in returned.now + room_in (operation_in reply.now.answer) ≤ output.old.spare }
     requires within { let bytes = bytes_at (front_shown front.now) in
         WithinIn (sizes stores.old) (operation_in reply.now.answer) bytes }
-    ensures { Does (Decision.Reply reply.now) (front_shown front.now) (bytes_in returned.now)
+    ensures { Does alignment (Decision.Reply reply.now) (front_shown front.now) (bytes_in returned.now)
         stores.old stores.new output.old.items output.new.items }
 {
     match &reply.answer {
         Answer::Given(given) => {
-            write_data(output, reply.cid, returned);
+            write_data(output, format_of(reply, alignment), returned);
             write_response(output, reply, given.status, given.result);
         }
         Answer::Performed(operation) => {
-            let status = perform(stores, operation, bytes_at(front), reply.cid, output);
+            let status = perform(stores, operation, bytes_at(front), format_of(reply, alignment), output);
             write_response(output, reply, status, 0);
         }
+    }
+}
+
+// The C2HData of a reply.
+fn format_of(reply: &Reply, alignment: Alignment) -> DataFormat
+    ensures value { result ≡ format_of reply.now alignment }
+    ensures bound { result.hpda ≤ 31 }
+{
+    DataFormat {
+        cid: reply.cid,
+        hpda: alignment.hpda(),
     }
 }
 
@@ -92,27 +106,29 @@ fn write_initialized(output: &mut BytesMut)
 }
 
 // The data of a reply, if there are any, written straight into their place in the output.
-fn write_data(output: &mut BytesMut, cid: u16, returned: &Option<Data<'_>>)
-    requires { 24 + len_in returned.now ≤ output.old.spare }
-    ensures items { output.new.items ≡ output.old.items ++ data_pdu cid (bytes_in returned.now) }
-    ensures spare { output.old.spare ≤ output.new.spare + 24 + len_in returned.now }
+fn write_data(output: &mut BytesMut, format: DataFormat, returned: &Option<Data<'_>>)
+    requires room { 128 + len_in returned.now ≤ output.old.spare }
+    requires alignment { format.hpda ≤ 31 }
+    ensures items { output.new.items ≡ output.old.items ++ whole_pdu format (bytes_in returned.now) }
+    ensures spare { output.old.spare ≤ output.new.spare + 128 + len_in returned.now }
 {
     if let Some(payload) = returned {
-        write_payload(output, cid, payload);
+        write_payload(output, format, payload);
     }
 }
 
-fn write_payload(output: &mut BytesMut, cid: u16, payload: &Data<'_>)
-    requires { 24 + payload_len payload.now.payload ≤ output.old.spare }
-    ensures items { output.new.items ≡ output.old.items ++ data_pdu cid (Some (bytes_of payload.now)) }
-    ensures spare { output.old.spare ≤ output.new.spare + 24 + payload_len payload.now.payload }
+fn write_payload(output: &mut BytesMut, format: DataFormat, payload: &Data<'_>)
+    requires room { 128 + payload_len payload.now.payload ≤ output.old.spare }
+    requires alignment { format.hpda ≤ 31 }
+    ensures items { output.new.items ≡ output.old.items ++ whole_pdu format (Some (bytes_of payload.now)) }
+    ensures spare { output.old.spare ≤ output.new.spare + 128 + payload_len payload.now.payload }
 {
     let len = payload.len();
     let head = C2hHead {
-        cid,
+        cid: format.cid,
         offset: 0,
         last: true,
-        hpda: 0,
+        hpda: format.hpda,
         len: len as u32,
     };
     head.write(output).unwrap();
