@@ -195,6 +195,6 @@ pub fn consequence_of(decision: &Decision) -> Consequence
 {
     match decision {
         Decision::Reply(reply) => reply.consequence,
-        Decision::Initialize | Decision::Terminate(_) | Decision::Close => Consequence::Nothing,
+        Decision::Initialize(_) | Decision::Terminate(_) | Decision::Close => Consequence::Nothing,
     }
 }

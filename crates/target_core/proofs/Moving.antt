@@ -25,7 +25,7 @@ use Rattle.target_history.specs.declared.ending.Ending.{Ending}
 use Rattle.target_history.specs.declared.ending.Ending.TheVariants as ending
 use Rattle.target_history.specs.Ending.{ending_edited, ending_lost, ends_by}
 use Rattle.target_history.specs.Event.{Event, edited, front_in, medium_in, opened, given_up, ticked}
-use Rattle.target_history.specs.Happening.{Happening, config_after, decided, ending_of, ends_live, row_kept, sends_on, session_decided}
+use Rattle.target_history.specs.Happening.{Happening, alignment_decided, config_after, decided, ending_of, ends_live, row_kept, sends_on, session_decided}
 use Rattle.target_core.proofs.Settling.{same_at}
 
 abbrev pub tables_of : TargetState → TablesState
@@ -37,6 +37,7 @@ turned w blocks m d found e gone c = record {
   conversation = record {
     port = c.conversation.port;
     session = if ends_by e gone c.conversation then Ended else session_decided c.conversation.session d;
+    alignment = alignment_decided c.conversation.alignment d;
   };
   output = c.output ++ sends_on w blocks m (Some c.conversation) d found;
 }
@@ -48,6 +49,7 @@ moved_is x k c met =
       conversation = record {
         port = c.conversation.port;
         session = if ends_by (ending_of x) (ends_live x) c.conversation then Ended else session_decided c.conversation.session (decided x k);
+        alignment = alignment_decided c.conversation.alignment (decided x k);
       };
       output = c.output ++ sends_on x.world x.blocks (medium_in x.event) o (decided x k) (front_in x.event);
     } in d) met
@@ -55,9 +57,9 @@ moved_is x k c met =
 settled_turned : (w : World) (blocks : ℕ → List (List ℕ)) (m : Medium) (found : Front) (e : Ending) (gone : ℕ → Bool) (c : ConnectionState) → settled e gone c ≡ turned w blocks m None found e gone c
 settled_turned w blocks m found e gone c = by (ends_by e gone c.conversation) where
   by : (ended : Bool)
-      → (if ended then record { conversation = record { port = c.conversation.port; session = Ended }; output = c.output } else c)
+      → (if ended then record c { conversation = record c.conversation { session = Ended } } else c)
       ≡ (let d : ConnectionState = record {
-        conversation = record { port = c.conversation.port; session = if ended then Ended else c.conversation.session };
+        conversation = record c.conversation { session = if ended then Ended else c.conversation.session };
         output = c.output ++ [];
       } in d)
   by true = simp append-nil

@@ -13,7 +13,7 @@ use Rattle.target_decision.specs.declared.session.Session.TheVariants.{Opened, I
 use Rattle.target_decision.specs.Session.{replied, session_after}
 use Rattle.target_history.specs.declared.ending.Ending.{Ending}
 use Rattle.target_history.specs.declared.ending.Ending.TheVariants as ending
-use Rattle.target_history.specs.Ending.{ending_decided, ending_replied, ending_updated, ends_by, ends_session}
+use Rattle.target_history.specs.Ending.{ending_decided, ending_replied, ending_updated, ends_session, is_on_port}
 
 -- ---- where nothing ends
 
@@ -45,7 +45,7 @@ either_ended false false = refl
 
 -- a reply ends its own connection in no other way than it would have before it
 abbrev ends_in : Ending → (ℕ → Bool) → ℕ → Session → Bool
-ends_in e gone port s = ends_by e gone (record { port = port; session = s })
+ends_in e gone port s = is_on_port e port || ends_session e gone s
 
 responds : (e : Ending) (gone : ℕ → Bool) (port : ℕ) (s : Session)
     → (if ends_in e gone port (replied consequence.Nothing s) then Ended else replied consequence.Nothing s)
@@ -74,7 +74,7 @@ replies (consequence.Join j) gone port s quiet = nothing_in gone port (quiet ref
 pub decision_settles : (d : Decision) (gone : ℕ → Bool) (port : ℕ) (s : Session) → QuietWhere (ending_decided s d) gone
     → (if ends_in (ending_decided s d) gone port (session_after s d) then Ended else session_after s d)
     ≡ (if ends_in (ending_decided s d) gone port s then Ended else session_after s d)
-decision_settles decision.Initialize gone port s quiet = nothing_in gone port (quiet refl) s Initialized
+decision_settles (decision.Initialize alignment) gone port s quiet = nothing_in gone port (quiet refl) s Initialized
 decision_settles (decision.Reply r) gone port s quiet = replies r.consequence gone port s quiet
 decision_settles (decision.Terminate t) gone port s quiet =
     either_ended (ends_in (ending_decided s (decision.Terminate t)) gone port Ended) (ends_in (ending_decided s (decision.Terminate t)) gone port s)

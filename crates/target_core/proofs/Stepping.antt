@@ -26,7 +26,7 @@ use Rattle.target_decision.specs.declared.session.Session.{Session}
 use Rattle.target_decision.specs.declared.session.Session.TheVariants.{Ended}
 use Rattle.target_decision.specs.Begin.{row_by, row_decided}
 use Rattle.target_decision.specs.Decision.{act_by, bytes_at, consumed_of, decide, is_end, operation_of, sent_by}
-use Rattle.target_decision.specs.Session.{is_ended, session_after}
+use Rattle.target_decision.specs.Session.{is_ended, session_after, turned as turned_by}
 use Rattle.target_decision.specs.World.{World}
 use Rattle.target_history.specs.declared.ending.Ending.{Ending}
 use Rattle.target_history.specs.Ending.{ending_decided, ends_by}
@@ -67,18 +67,18 @@ turns : (w : World) (blocks : ℕ → List (List ℕ)) (m : Medium) (d : Decisio
     → settled (ending_decided c.conversation.session d) gone (acted w blocks m d found c)
     ≡ turned w blocks m (Some d) found (ending_decided c.conversation.session d) gone c
 turns w blocks m d found gone c quiet =
-    by (ends_by (ending_decided c.conversation.session d) gone (record { port = c.conversation.port; session = session_after c.conversation.session d }))
+    by (ends_by (ending_decided c.conversation.session d) gone (turned_by c.conversation d))
     ∙ ap (λ (s : Session). let r : ConnectionState = record {
-      conversation = record { port = c.conversation.port; session = s };
-      output = c.output ++ sent_by w blocks m c.conversation.session d found;
+      conversation = record (turned_by c.conversation d) { session = s };
+      output = c.output ++ sent_by w blocks m c.conversation d found;
     } in r) (decision_settles d gone c.conversation.port c.conversation.session quiet)
   where
     by : (ended : Bool)
-        → (if ended then record { conversation = record { port = c.conversation.port; session = Ended }; output = c.output ++ sent_by w blocks m c.conversation.session d found }
+        → (if ended then record (acted w blocks m d found c) { conversation = record (turned_by c.conversation d) { session = Ended } }
         else acted w blocks m d found c)
         ≡ (let r : ConnectionState = record {
-          conversation = record { port = c.conversation.port; session = if ended then Ended else session_after c.conversation.session d };
-          output = c.output ++ sent_by w blocks m c.conversation.session d found;
+          conversation = record (turned_by c.conversation d) { session = if ended then Ended else session_after c.conversation.session d };
+          output = c.output ++ sent_by w blocks m c.conversation d found;
         } in r)
     by true = refl
     by false = refl
@@ -121,7 +121,7 @@ stream_at found held o false here = stream_stays o
 -- the row that a decision makes is the one that its event makes
 row_so : (d : Decision) (port : ℕ) (found : Front) → row_decided d port found ≡ row_by (consequence_decided (Some d)) port found
 row_so (decision.Reply r) port found = refl
-row_so decision.Initialize port found = refl
+row_so (decision.Initialize alignment) port found = refl
 row_so (decision.Terminate t) port found = refl
 row_so decision.Close port found = refl
 

@@ -8,7 +8,7 @@ use Rattle.target_decision.specs.declared.decision.Decision.{Decision}
 use Rattle.target_decision.specs.declared.session.Conversation.{Conversation}
 use Rattle.target_decision.specs.declared.session.Session.TheVariants.{Ended}
 use Rattle.target_decision.specs.Decision.{act_by, bytes_at, operation_of, sent_by}
-use Rattle.target_decision.specs.Session.{opened_on, session_after}
+use Rattle.target_decision.specs.Session.{opened_on, turned}
 use Rattle.target_decision.specs.World.{World}
 use Rattle.target_history.specs.declared.ending.Ending.{Ending}
 use Rattle.target_history.specs.Ending.{ends_by}
@@ -24,11 +24,8 @@ fresh_on port = record { conversation = opened_on port; output = [] }
 -- after what was decided on this front is done to it, where the disks held this and did that
 abbrev pub acted : World → (ℕ → List (List ℕ)) → Medium → Decision → Front → ConnectionState → ConnectionState
 acted w contents m d front c = record {
-  conversation = record {
-    port = c.conversation.port;
-    session = session_after c.conversation.session d;
-  };
-  output = c.output ++ sent_by w contents m c.conversation.session d front;
+  conversation = turned c.conversation d;
+  output = c.output ++ sent_by w contents m c.conversation d front;
 }
 
 -- what was decided on this front is done to it, with these disks
@@ -43,5 +40,5 @@ pub record Acts (w : World) (d : Decision) (front : Front) (old new : Connection
 abbrev pub settled : Ending → (ℕ → Bool) → ConnectionState → ConnectionState
 settled ending ended c =
     if ends_by ending ended c.conversation
-    then record { conversation = record { port = c.conversation.port; session = Ended }; output = c.output }
+    then record c { conversation = record c.conversation { session = Ended } }
     else c

@@ -90,7 +90,7 @@ impl Connection {
         perform(
             world,
             stores,
-            &mut self.conversation.session,
+            &mut self.conversation,
             &mut self.output,
             decision,
             front,

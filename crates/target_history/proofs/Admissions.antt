@@ -52,7 +52,7 @@ AdmitsIn row role port (Err refusal) = Unit {0}
 -- .. and what a decision does, which initializes a connection without a queue alone
 abbrev pub Admits : (ℕ → Option Row) → Option Role → ℕ → Decision → Type 0
 Admits row role port (decision.Reply r) = AdmitsBy row role port r.consequence
-Admits row role port decision.Initialize = role ≡ None
+Admits row role port (decision.Initialize alignment) = role ≡ None
 Admits row role port _ = Unit {0}
 
 abbrev pub AdmitsAt : (ℕ → Option Row) → Option Role → ℕ → Option Decision → Type 0
@@ -108,7 +108,7 @@ decide_admits : (w : World) (v : Conversation) (front : Front) → Admits w.row 
 decide_admits w v front = decision_is w v front (Admits w.row (role_in v.session) v.port) (record {
   closes = tt;
   terminates = λ t. tt;
-  initializes = λ opened. ap role_in opened;
+  initializes = λ opened alignment. ap role_in opened;
   replies = λ pdu is kind.
       reply_admits w.row (role_in v.session) v.port v.session (cid_of (entry_of pdu)) (command w v (entry_of pdu) (data_part pdu))
       (command_admits w v (entry_of pdu) (data_part pdu));

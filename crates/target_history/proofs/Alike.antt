@@ -8,8 +8,9 @@ use Rattle.fabrics_connect.specs.declared.decision.Decision as connect_decision
 use Rattle.fabrics_connect.specs.declared.row.Row.{Row}
 use Rattle.fabrics_connect.specs.Command.{Parameters, parameters_of}
 use Rattle.fabrics_connect.specs.Connect.{admitted, begun, connect, joined_by, names_verdict, permission_verdict}
+use Rattle.io_queue.specs.declared.reply.DataFormat.{DataFormat}
 use Rattle.io_queue.specs.Act.{Medium}
-use Rattle.io_queue.proofs.Deciding.{decided_alike}
+use Rattle.io_queue.proofs.Deciding.{begun_alike}
 use Rattle.nvt_fields.specs.declared.pdu_type.PduType.{PduType}
 use Rattle.nvt_fields.specs.declared.pdu_type.PduType.TheVariants.{IcReq, IcResp, H2cTermReq, C2hTermReq, CapsuleCmd, CapsuleResp, H2cData, C2hData, R2t}
 use Rattle.nvt_fields.specs.Status.{command_sequence_error}
@@ -26,9 +27,9 @@ use Rattle.target_decision.specs.declared.session.Role.{Role}
 use Rattle.target_decision.specs.declared.session.Role.TheVariants.{Admin, Io}
 use Rattle.target_decision.specs.declared.session.Session.{Session}
 use Rattle.target_decision.specs.declared.session.Session.TheVariants.{Opened, Initialized, Connected, Ended}
-use Rattle.target_decision.specs.Capsule.{admin_at, admin_by, command_in, connect_type, fabrics_opcode, first_command, io_answered, io_at, io_by, io_of, is_ready_at, on_admin_queue, queue_command}
+use Rattle.target_decision.specs.Capsule.{admin_at, admin_by, command_in, connect_type, fabrics_opcode, first_command, io_begun, io_at, io_by, io_of, is_ready_at, on_admin_queue, queue_command}
 use Rattle.target_decision.specs.Connect.{answered, connect_on}
-use Rattle.target_decision.specs.Decision.{bytes_at, data_of, decide, decide_in, entry_of, next_by, operation_in, operation_of, payload_at, payload_of, reply_wire, said_by, sent_by, wire_of}
+use Rattle.target_decision.specs.Decision.{bytes_at, data_of, decide, decide_in, entry_of, format_of, next_by, operation_in, operation_of, payload_at, payload_of, reply_wire, said_by, sent_by, wire_of}
 use Rattle.target_decision.specs.Outcome.{Outcome, refuse, refused}
 use Rattle.target_decision.specs.Session.{is_ended}
 use Rattle.target_decision.specs.World.{World, admin_controller}
@@ -103,7 +104,7 @@ io_is_from (Some row) w entry brings = refl
 of_alike : (subsystem : Option (List ℕ)) (port : ℕ) (v w : World) (entry : List ℕ) (brings : ℕ) → SubsystemAlike subsystem port v w
     → io_of subsystem port v entry brings ≡ io_of subsystem port w entry brings
 of_alike None port v w entry brings h = refl
-of_alike (Some nqn) port v w entry brings h = ap io_answered (decided_alike v.config w.config port nqn entry brings h)
+of_alike (Some nqn) port v w entry brings h = ap io_begun (begun_alike v.config w.config port nqn entry brings h)
 
 seen_alike : (o : Option IoSeen) (v w : World) (entry : List ℕ) (brings : ℕ) → AreSeenAlike o v w → io_from o v entry brings ≡ io_from o w entry brings
 seen_alike None v w entry brings h = refl
@@ -140,24 +141,24 @@ next_alike R2t v w c pdu h = refl
 both : (a b : Bool) → a ≡ true → b ≡ true → (a && b) ≡ true
 both a b h k = rw (h, k) refl
 
-abbrev on_port : ℕ → Session → Conversation
-on_port port session = record { port = port; session = session }
+abbrev on_port : ℕ → ℕ → Session → Conversation
+on_port port alignment session = record { port = port; session = session; alignment = alignment }
 
-pdu_alike : (v w : World) (port : ℕ) (s : Session) (pdu : Pdu) → SessionAlike v w port (whole pdu) s
-    → decide_in s v (on_port port s) pdu ≡ decide_in s w (on_port port s) pdu
-pdu_alike v w port Opened pdu h = refl
-pdu_alike v w port Initialized pdu h =
+pdu_alike : (v w : World) (port alignment : ℕ) (s : Session) (pdu : Pdu) → SessionAlike v w port (whole pdu) s
+    → decide_in s v (on_port port alignment s) pdu ≡ decide_in s w (on_port port alignment s) pdu
+pdu_alike v w port alignment Opened pdu h = refl
+pdu_alike v w port alignment Initialized pdu h =
     let entry = entry_of pdu in
     let connects : Bool = (opcode_of entry == fabrics_opcode) && (fctype_of entry == connect_type) in
-    next_alike pdu.kind v w (on_port port Initialized) pdu
+    next_alike pdu.kind v w (on_port port alignment Initialized) pdu
     (λ is. first_alike v w port entry (data_part pdu) (λ (c : connects ≡ true). h (both (is_command pdu.kind) connects is c)))
-pdu_alike v w port (Connected role queue) pdu h =
-    next_alike pdu.kind v w (on_port port (Connected role queue)) pdu (λ is. queue_alike v w role (entry_of pdu) (data_part pdu) h)
-pdu_alike v w port Ended pdu h = refl
+pdu_alike v w port alignment (Connected role queue) pdu h =
+    next_alike pdu.kind v w (on_port port alignment (Connected role queue)) pdu (λ is. queue_alike v w role (entry_of pdu) (data_part pdu) h)
+pdu_alike v w port alignment Ended pdu h = refl
 
 decide_alike : (v w : World) (c : Conversation) (front : Front) → SessionAlike v w c.port front c.session → decide v c front ≡ decide w c front
 decide_alike v w c incomplete h = refl
-decide_alike v w c (whole pdu) h = pdu_alike v w c.port c.session pdu h
+decide_alike v w c (whole pdu) h = pdu_alike v w c.port c.alignment c.session pdu h
 decide_alike v w c (faulty fault head) h = refl
 
 -- ---- what is sent
@@ -181,17 +182,17 @@ data_alike v w port (Connected (Admin cntlid) queue) front d h = admin_data v w 
 data_alike v w port (Connected (Io cntlid qid) queue) front d h = payload_alike v w None (payload_of d) tt
 data_alike v w port Ended front d h = payload_alike v w None (payload_of d) tt
 
-said_alike : (a : Answer) (payload : Option (List ℕ)) (bytes : List ℕ) (b c : ℕ → List (List ℕ)) (m : Medium) → DiskAlike (operation_in a) b c
-    → said_by a payload bytes b m ≡ said_by a payload bytes c m
-said_alike (answer.Given g) payload bytes b c m h = refl
-said_alike (answer.Performed op) payload bytes b c m h = rw h refl
+said_alike : (format : DataFormat) (a : Answer) (payload : Option (List ℕ)) (bytes : List ℕ) (b c : ℕ → List (List ℕ)) (m : Medium) → DiskAlike (operation_in a) b c
+    → said_by format a payload bytes b m ≡ said_by format a payload bytes c m
+said_alike format (answer.Given g) payload bytes b c m h = refl
+said_alike format (answer.Performed op) payload bytes b c m h = rw h refl
 
-wire_alike : (d : Decision) (front : Front) (payload : Option (List ℕ)) (b c : ℕ → List (List ℕ)) (m : Medium) → DiskAlike (operation_of d) b c
-    → wire_of d front payload b m ≡ wire_of d front payload c m
-wire_alike decision.Initialize front payload b c m h = refl
-wire_alike (decision.Reply r) front payload b c m h = ap (reply_wire r) (said_alike r.answer payload (bytes_at front) b c m h)
-wire_alike (decision.Terminate t) front payload b c m h = refl
-wire_alike decision.Close front payload b c m h = refl
+wire_alike : (alignment : ℕ) (d : Decision) (front : Front) (payload : Option (List ℕ)) (b c : ℕ → List (List ℕ)) (m : Medium) → DiskAlike (operation_of d) b c
+    → wire_of alignment d front payload b m ≡ wire_of alignment d front payload c m
+wire_alike alignment (decision.Initialize asked) front payload b c m h = refl
+wire_alike alignment (decision.Reply r) front payload b c m h = ap (reply_wire r) (said_alike (format_of r alignment) r.answer payload (bytes_at front) b c m h)
+wire_alike alignment (decision.Terminate t) front payload b c m h = refl
+wire_alike alignment decision.Close front payload b c m h = refl
 
 abbrev decided_by : Bool → World → Option Conversation → Front → Option Decision
 decided_by stepping w o front = if stepping then decided_on w o front else None
@@ -209,9 +210,9 @@ sends_by true v w b c m (Some k) front h i = by (is_ended k.session) i where
       → sends_on v b m (Some k) (over_or over v) front ≡ sends_on w c m (Some k) (over_or over w) front
   by true i = refl
   by false i =
-      ap (λ (payload : Option (List ℕ)). wire_of (decide v k front) front payload b m) (data_alike v w k.port k.session front (decide v k front) (h refl))
-      ∙ wire_alike (decide v k front) front (data_of w k.session (decide v k front)) b c m i
-      ∙ ap (λ (d : Decision). sent_by w c m k.session d front) (decide_alike v w k front (h refl))
+      ap (λ (payload : Option (List ℕ)). wire_of k.alignment (decide v k front) front payload b m) (data_alike v w k.port k.session front (decide v k front) (h refl))
+      ∙ wire_alike k.alignment (decide v k front) front (data_of w k.session (decide v k front)) b c m i
+      ∙ ap (λ (d : Decision). sent_by w c m k d front) (decide_alike v w k front (h refl))
 
 sends_alike : (k : ℕ) (x y : Happening) → SameFor k x y → sends x k ≡ sends y k
 sends_alike k x y same =

@@ -1,5 +1,5 @@
 -- A controller begins by a Connect that admits it.
-use Rattle.std.proofs.Common.{◌≡◌, ℕ, Bool, true, false, List, Option, Some, None, Result, Ok, Err, refl}
+use Rattle.std.proofs.Common.{◌≡◌, ℕ, Bool, true, false, List, Option, Some, None, Ok, Err}
 use Rattle.std.specs.Prelude.{if◌then◌else◌}
 use Rattle.fabrics_connect.specs.declared.decision.AdmitAs.{AdmitAs}
 use Rattle.fabrics_connect.specs.declared.decision.AdmitAs.TheVariants as admit
@@ -63,7 +63,7 @@ decide_begun : (w : World) (v : Conversation) (front : Front) → Begun w v.port
 decide_begun w v front = decision_is w v front (Begun w v.port front) (record {
   closes = tt;
   terminates = λ t. tt;
-  initializes = λ opened. tt;
+  initializes = λ opened alignment. tt;
   replies = λ pdu is kind.
       rw is (reply_begun w v.port pdu v.session (cid_of (entry_of pdu)) (command w v (entry_of pdu) (data_part pdu))
       (command_begun w v (entry_of pdu) (data_part pdu)));

@@ -21,7 +21,7 @@ use Rattle.target_decision.specs.World.{World}
 use Rattle.target_decision.proofs.Deciding.{decision_is}
 use Rattle.target_history.specs.Event.{Event, edited, front_in, opened, opens, stepped, steps, given_up, ticked}
 use Rattle.target_history.specs.Happening.{Happening, decided, decided_on}
-use Rattle.target_history.specs.History.{Admission, admission_by, admission_of, admission_or, conversation_of, has_ended, is_initialized, is_known, port_of, responses_by, responses_since, session_with}
+use Rattle.target_history.specs.History.{Admission, admission_by, admission_of, admission_or, alignment_of, conversation_of, has_ended, is_initialized, is_known, port_of, responses_by, responses_since, session_with}
 use Rattle.target_history.specs.Laws.{HeadsCountResponses, sqsize_of}
 use Rattle.target_history.proofs.Steps.{first_head, one_more}
 
@@ -39,7 +39,7 @@ decide_heads : (w : World) (v : Conversation) (front : Front) → HeadIs v.sessi
 decide_heads w v front = decision_is w v front (HeadIs v.session) (record {
   closes = tt;
   terminates = λ t. tt;
-  initializes = λ opened. tt;
+  initializes = λ opened alignment. tt;
   replies = λ pdu is kind. reply_heads v.session (cid_of (entry_of pdu)) (command w v (entry_of pdu) (data_part pdu));
 })
 
@@ -55,13 +55,13 @@ decided_heads false w v front r h =
     let same : decide w v front ≡ decision.Reply r = cc in
     heads_same v.session (decide w v front) (decision.Reply r) same (decide_heads w v front)
 
-told : (stepping known ended : Bool) (w : World) (port : ℕ) (s : Session) (front : Front) (r : Reply)
-    → (if stepping then decided_on w (if known then Some (record { port = port; session = if ended then Ended else s }) else None) front else None)
+told : (stepping known ended : Bool) (w : World) (port alignment : ℕ) (s : Session) (front : Front) (r : Reply)
+    → (if stepping then decided_on w (if known then Some (record { port = port; session = if ended then Ended else s; alignment = alignment }) else None) front else None)
     ≡ Some (decision.Reply r) → r.sqhd ≡ head_after s r.consequence
-told false known ended w port s front r h = cc
-told true false ended w port s front r h = cc
-told true true true w port s front r h = cc
-told true true false w port s front r h = decided_heads (is_ended s) w (record { port = port; session = s }) front r h
+told false known ended w port alignment s front r h = cc
+told true false ended w port alignment s front r h = cc
+told true true true w port alignment s front r h = cc
+told true true false w port alignment s front r h = decided_heads (is_ended s) w (record { port = port; session = s; alignment = alignment }) front r h
 
 -- ---- the head counts
 
@@ -89,7 +89,7 @@ counts_here : (x : Happening) (before : List Happening) (k : ℕ) (r : Reply)
     → x.conversation k ≡ conversation_of before k → decided x k ≡ Some (decision.Reply r)
     → r.sqhd ≡ responses_since (x ∷ before) k % (sqsize_of (admission_of (x ∷ before) k) + 1)
 counts_here x before k r met h =
-    let carries = told (steps x.event k) (is_known before k) (has_ended before k) x.world (port_of before k)
+    let carries = told (steps x.event k) (is_known before k) (has_ended before k) x.world (port_of before k) (alignment_of before k)
     (session_with (admission_of before k) (is_initialized before k) (responses_since before k)) (front_in x.event) r (rw met at h) in
     let closed = no_open x.event k (decided_on x.world (x.conversation k) (front_in x.event)) (decision.Reply r) h in
     rw (h, closed) (carries ∙ head_counts r.consequence (admission_of before k) (is_initialized before k) (responses_since before k))

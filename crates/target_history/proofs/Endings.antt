@@ -51,7 +51,7 @@ taken_is : (o : Option Conversation) (w : World) (front : Front) (d : Option Dec
     → consequence_decided d ≡ ch → (ch ≡ consequence.Nothing → ⊥) → ending_taken o d ≡ ending_replied ch
 taken_is None w front d ch is h changes = absurd (changes (sym h ∙ ap consequence_decided (sym is)))
 taken_is (Some v) w front None ch is h changes = absurd (changes (sym h))
-taken_is (Some v) w front (Some decision.Initialize) ch is h changes = absurd (changes (sym h))
+taken_is (Some v) w front (Some (decision.Initialize alignment)) ch is h changes = absurd (changes (sym h))
 taken_is (Some v) w front (Some (decision.Reply r)) ch is h changes = ap ending_replied h
 taken_is (Some v) w front (Some (decision.Terminate t)) ch is h changes = absurd (changes (sym h))
 taken_is (Some v) w front (Some decision.Close) ch is h changes = absurd (changes (sym h))
@@ -289,7 +289,7 @@ reply_no_timer _ o = refl
 taken_no_timer : (v : Option Conversation) (d : Option Decision) (o : Option Controller) → ends_timer (ending_taken v d) o ≡ false
 taken_no_timer None d o = refl
 taken_no_timer (Some v) None o = refl
-taken_no_timer (Some v) (Some decision.Initialize) o = refl
+taken_no_timer (Some v) (Some (decision.Initialize alignment)) o = refl
 taken_no_timer (Some v) (Some (decision.Reply r)) o = reply_no_timer r.consequence o
 taken_no_timer (Some v) (Some (decision.Terminate t)) o = lost_no_timer v.session o
 taken_no_timer (Some v) (Some decision.Close) o = lost_no_timer v.session o

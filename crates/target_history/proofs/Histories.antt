@@ -5,9 +5,7 @@ use Rattle.config_rules.specs.Configuration.{Configuration}
 use Rattle.discovery_view.specs.Page.{discovery_page}
 use Rattle.discovery_view.specs.Records.{records_of}
 use Rattle.pdu_cut.specs.Front.{Front}
-use Rattle.target_decision.specs.declared.decision.Decision.{Decision}
 use Rattle.target_decision.specs.declared.session.Conversation.{Conversation}
-use Rattle.target_decision.specs.declared.session.Session.{Session}
 use Rattle.target_decision.specs.declared.session.Session.TheVariants.{Ended}
 use Rattle.target_decision.specs.Decision.{decide}
 use Rattle.target_decision.specs.Session.{is_ended}
@@ -16,19 +14,19 @@ use Rattle.target_decision.specs.World.{World}
 use Rattle.target_decision.proofs.Deciding.{decision_is}
 use Rattle.target_history.specs.Event.{Event, edited, front_in, medium_in, opens, steps}
 use Rattle.target_history.specs.Happening.{Happening, config_after, decided_on, responses, responses_decided, sends, sends_on}
-use Rattle.target_history.specs.History.{Opening, blocks_of, config_of, generation_after, generation_of, happened, has_ended, is_known, port_of, meets_after, sent, session_of, world_of}
+use Rattle.target_history.specs.History.{Opening, alignment_of, blocks_of, config_of, generation_after, generation_of, happened, has_ended, is_known, port_of, meets_after, sent, session_of, world_of}
 use Rattle.target_history.specs.Laws.{DeletedPortsEnd, EndedAreSentNothing, PagesChangeByEdits, ResponsesAnswerCapsules, capsules_of, is_capsule, is_edit, responses_of}
 use Rattle.target_history.proofs.Tests.{same_here}
 
 -- ---- an ended connection
 
-silent_on : (w : World) (blocks : ℕ → List (List ℕ)) (m : Medium) (known stepping : Bool) (port : ℕ) (front : Front)
-    → sends_on w blocks m (if known then Some (record { port = port; session = Ended }) else None)
-    (if stepping then decided_on w (if known then Some (record { port = port; session = Ended }) else None) front else None) front ≡ []
-silent_on w blocks m true true port front = refl
-silent_on w blocks m true false port front = refl
-silent_on w blocks m false true port front = refl
-silent_on w blocks m false false port front = refl
+silent_on : (w : World) (blocks : ℕ → List (List ℕ)) (m : Medium) (known stepping : Bool) (port alignment : ℕ) (front : Front)
+    → sends_on w blocks m (if known then Some (record { port = port; session = Ended; alignment = alignment }) else None)
+    (if stepping then decided_on w (if known then Some (record { port = port; session = Ended; alignment = alignment }) else None) front else None) front ≡ []
+silent_on w blocks m true true port alignment front = refl
+silent_on w blocks m true false port alignment front = refl
+silent_on w blocks m false true port alignment front = refl
+silent_on w blocks m false false port alignment front = refl
 
 ended_session : (h : List Happening) (k : ℕ) → has_ended h k ≡ true → session_of h k ≡ Ended
 ended_session h k ended = rw ended refl
@@ -37,7 +35,7 @@ ended_sends : (disks : Opening) (events : List Event) (event : Event) (k : ℕ) 
     → sends (meets_after disks (happened disks events) event) k ≡ []
 ended_sends disks events event k ended =
     let before = happened disks events in
-    rw (ended_session before k ended) (silent_on (world_of disks before) (blocks_of disks before) (medium_in event) (is_known before k) (steps event k) (port_of before k) (front_in event))
+    rw (ended_session before k ended) (silent_on (world_of disks before) (blocks_of disks before) (medium_in event) (is_known before k) (steps event k) (port_of before k) (alignment_of before k) (front_in event))
 
 pub ended_are_sent_nothing : EndedAreSentNothing
 ended_are_sent_nothing = record {
@@ -65,7 +63,7 @@ front_responds : (w : World) (v : Conversation) (front : Front) → responses_de
 front_responds w v front = decision_is w v front (λ d. responses_decided (Some d) ≤ counted (is_capsule front)) (record {
   closes = nothing_responds (is_capsule front);
   terminates = λ t. nothing_responds (is_capsule front);
-  initializes = λ opened. nothing_responds (is_capsule front);
+  initializes = λ opened alignment. nothing_responds (is_capsule front);
   replies = λ pdu is kind. rw (is, kind) (omega arith);
 })
 

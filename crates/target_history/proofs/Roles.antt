@@ -20,7 +20,7 @@ use Rattle.target_decision.specs.declared.session.Role.TheVariants.{Admin, Io}
 use Rattle.target_decision.specs.declared.session.Session.{Session}
 use Rattle.target_decision.specs.declared.session.Session.TheVariants.{Opened, Initialized, Connected, Ended}
 use Rattle.target_decision.specs.Consequence.{role_by}
-use Rattle.target_decision.specs.Session.{replied, responded_in, role_in}
+use Rattle.target_decision.specs.Session.{opened_on, replied, responded_in, role_in}
 use Rattle.target_decision.specs.World.{World}
 use Rattle.target_history.specs.declared.ending.Ending.{Ending}
 use Rattle.target_history.specs.declared.ending.Ending.TheVariants as ending
@@ -125,7 +125,7 @@ module _ (x : Happening) (k : ℕ) (role : Role) (v : Conversation) (met : x.con
 
   turned_is : (d : Option Decision) → decided x k ≡ d → role_in (session_decided v.session d) ≡ Some role → Stays x k role ⊎ Comes x k role
   turned_is None is h = inl (stays_by None is refl h)
-  turned_is (Some decision.Initialize) is h = cc
+  turned_is (Some (decision.Initialize alignment)) is h = cc
   turned_is (Some (decision.Reply r)) is h = replied_is r r.consequence is refl h
   turned_is (Some (decision.Terminate t)) is h = cc
   turned_is (Some decision.Close) is h = cc
@@ -143,7 +143,7 @@ pub after_is : (x : Happening) (k : ℕ) (role : Role) → role_at (conversation
     → Stays x k role ⊎ Comes x k role
 after_is x k role h = by (opens x.event k) (gives_up x.event k) (x.conversation k) refl refl refl h where
   by : (opening giving : Bool) (o : Option Conversation) → opens x.event k ≡ opening → gives_up x.event k ≡ giving → x.conversation k ≡ o
-      → role_at (if opening then Some (record { port = port_in x.event; session = Opened }) else if giving then None else option_map (conversation_moved x k) o) ≡ Some role
+      → role_at (if opening then Some (opened_on (port_in x.event)) else if giving then None else option_map (conversation_moved x k) o) ≡ Some role
       → Stays x k role ⊎ Comes x k role
   by true giving o op gi met h = cc
   by false true o op gi met h = cc
@@ -184,7 +184,7 @@ step_loses : (x : Happening) (n : ℕ) (o : Option Conversation) (d : Option Dec
     → LostFrom x (ending_taken o d)
 step_loses x n None d met leaving = tt
 step_loses x n (Some v) None met leaving = tt
-step_loses x n (Some v) (Some decision.Initialize) met leaving = tt
+step_loses x n (Some v) (Some (decision.Initialize alignment)) met leaving = tt
 step_loses x n (Some v) (Some (decision.Reply r)) met leaving = reply_loses x r.consequence
 step_loses x n (Some v) (Some (decision.Terminate t)) met leaving = session_loses x n v.session (ap role_at met) (leaving refl)
 step_loses x n (Some v) (Some decision.Close) met leaving = session_loses x n v.session (ap role_at met) (leaving refl)
@@ -232,7 +232,7 @@ given_up_lost (Some v) role is = session_lost v.session role is
 step_lost : (o : Option Conversation) (d : Option Decision) (role : Role) → role_at o ≡ Some role → is_end_decided d ≡ true → ending_taken o d ≡ lost_of role
 step_lost None d role is ends = cc
 step_lost (Some v) None role is ends = cc
-step_lost (Some v) (Some decision.Initialize) role is ends = cc
+step_lost (Some v) (Some (decision.Initialize alignment)) role is ends = cc
 step_lost (Some v) (Some (decision.Reply r)) role is ends = cc
 step_lost (Some v) (Some (decision.Terminate t)) role is ends = session_lost v.session role is
 step_lost (Some v) (Some decision.Close) role is ends = session_lost v.session role is
@@ -278,7 +278,7 @@ replied_remains row port s role _ is h = responded_role s ∙ is
 turned_remains : (row : ℕ → Option Row) (port : ℕ) (s : Session) (role : Role) (d : Option Decision) → role_in s ≡ Some role → AdmitsAt row (role_in s) port d
     → is_end_decided d ≡ false → role_in (session_decided s d) ≡ Some role
 turned_remains row port s role None is h goes = is
-turned_remains row port s role (Some decision.Initialize) is h goes = absurd (some_none role (sym is ∙ h))
+turned_remains row port s role (Some (decision.Initialize alignment)) is h goes = absurd (some_none role (sym is ∙ h))
 turned_remains row port s role (Some (decision.Reply r)) is h goes = replied_remains row port s role r.consequence is h
 turned_remains row port s role (Some (decision.Terminate t)) is h goes = cc
 turned_remains row port s role (Some decision.Close) is h goes = cc
@@ -314,7 +314,7 @@ reply_made _ s role h = cc
 
 turn_made : (d : Option Decision) (s : Session) (role : Role) → role_by (consequence_decided d) ≡ Some role → role_in (session_decided s d) ≡ Some role
 turn_made None s role h = cc
-turn_made (Some decision.Initialize) s role h = cc
+turn_made (Some (decision.Initialize alignment)) s role h = cc
 turn_made (Some (decision.Reply r)) s role h = reply_made r.consequence s role h
 turn_made (Some (decision.Terminate t)) s role h = cc
 turn_made (Some decision.Close) s role h = cc

@@ -23,7 +23,7 @@ use Rattle.target_decision.specs.World.{World}
 use Rattle.target_history.specs.declared.ending.Ending.{Ending}
 use Rattle.target_history.specs.declared.ending.Ending.TheVariants as ending
 use Rattle.target_history.specs.Ending.{ends_role, ends_row_at, ends_timer, is_barred, is_on_port, resets}
-use Rattle.target_history.specs.Event.{Event, edited, opened, opens, stepped, given_up, ticked}
+use Rattle.target_history.specs.Event.{Event, opens, stepped}
 use Rattle.target_history.specs.Happening.{Happening, Start, begins, begins_by, consequence_of, config_after, conversation_after, ending_of, ends_live, port_at, started}
 use Rattle.target_history.specs.History.{Opening, config_of, controller_of, conversation_of, drops_by, happened, has_queue, is_known, joins_by, meets_after, registers_of, row_of, row_with, start_of, start_or}
 use Rattle.target_history.specs.Laws.{ControllersLiveByTheirAdmins, OpenVacant, QueueIdsAreOfConnections, QueuesAreOnTheirPort, is_queue_of, is_role_of, role_at, role_of}

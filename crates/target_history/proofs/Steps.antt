@@ -19,8 +19,8 @@ use Rattle.target_decision.specs.World.{World}
 use Rattle.target_decision.proofs.Deciding.{decision_is}
 use Rattle.target_history.specs.Ending.{ends_by}
 use Rattle.target_history.specs.Event.{front_in, gives_up, opens, port_in, steps}
-use Rattle.target_history.specs.Happening.{Happening, consequence_decided, conversation_after, conversation_moved, decided_on, ending_of, ends, ends_live, initializes, is_end_decided, is_initialize, responses, responses_decided, session_decided}
-use Rattle.target_history.specs.History.{Admission, admission_by, admission_of, admission_or, admits, conversation_of, has_ended, is_initialized, is_known, port_of, responses_by, responses_since, session_of, session_with}
+use Rattle.target_history.specs.Happening.{Happening, alignment_decided, consequence_decided, conversation_after, conversation_moved, decided, decided_on, ending_of, ends, ends_live, initializes, is_end_decided, is_initialize, responses, responses_decided, session_decided}
+use Rattle.target_history.specs.History.{Admission, admission_by, admission_of, admission_or, admits, alignment_of, conversation_of, has_ended, is_initialized, is_known, port_of, responses_by, responses_since, session_of, session_with}
 use Rattle.target_history.proofs.Heads.{head_goes_round}
 
 -- ---- a queue's head
@@ -67,81 +67,83 @@ turns None false false i a n none first =
     let same : 0 + n ≡ n = omega arith in
     ap (session_with a i) same
 turns (Some d) e true i a n none first = let h = none refl in cc
-turns (Some decision.Initialize) true false i a n none first = refl
+turns (Some (decision.Initialize alignment)) true false i a n none first = refl
 turns (Some (decision.Reply r)) true false i a n none first = refl
 turns (Some (decision.Terminate t)) true false i a n none first = refl
 turns (Some decision.Close) true false i a n none first = refl
-turns (Some decision.Initialize) false false i a n none first = rw (first refl) refl
+turns (Some (decision.Initialize alignment)) false false i a n none first = rw (first refl) refl
 turns (Some (decision.Reply r)) false false i a n none first = replies r.consequence a i n
 turns (Some (decision.Terminate t)) false false i a n none first = refl
 turns (Some decision.Close) false false i a n none first = refl
 
 -- ---- what may be decided
 
-abbrev on_queue : ℕ → Role → Queue → Conversation
-on_queue port role q = record { port = port; session = Connected role q }
+abbrev on_queue : ℕ → ℕ → Role → Queue → Conversation
+on_queue port alignment role q = record { port = port; session = Connected role q; alignment = alignment }
 
 -- a connection that has a queue is not initialized again
-never_again : (w : World) (port : ℕ) (role : Role) (q : Queue) (front : Front) → is_initialize (Some (decide w (on_queue port role q) front)) ≡ false
-never_again w port role q front = decision_is w (on_queue port role q) front (λ d. is_initialize (Some d) ≡ false) (record {
+never_again : (w : World) (port alignment : ℕ) (role : Role) (q : Queue) (front : Front) → is_initialize (Some (decide w (on_queue port alignment role q) front)) ≡ false
+never_again w port alignment role q front = decision_is w (on_queue port alignment role q) front (λ d. is_initialize (Some d) ≡ false) (record {
   closes = refl;
   terminates = λ t. refl;
-  initializes = λ opened. cc;
+  initializes = λ opened asked. cc;
   replies = λ pdu is kind. refl;
 })
 
 -- nothing is decided on a connection that is ended
-none_by : (stepping ended : Bool) (w : World) (port : ℕ) (s : Session) (front : Front) → ended ≡ true
-    → (if stepping then decided_on w (Some (record { port = port; session = if ended then Ended else s })) front else None) ≡ None
-none_by false ended w port s front h = refl
-none_by true true w port s front h = refl
-none_by true false w port s front h = cc
+none_by : (stepping ended : Bool) (w : World) (port alignment : ℕ) (s : Session) (front : Front) → ended ≡ true
+    → (if stepping then decided_on w (Some (record { port = port; session = if ended then Ended else s; alignment = alignment })) front else None) ≡ None
+none_by false ended w port alignment s front h = refl
+none_by true true w port alignment s front h = refl
+none_by true false w port alignment s front h = cc
 
 -- .. and Initialize on none that has a queue
-first_by : (stepping ended i : Bool) (w : World) (port : ℕ) (a : Option Admission) (n : ℕ) (front : Front)
-    → is_initialize (if stepping then decided_on w (Some (record { port = port; session = if ended then Ended else session_with a i n })) front else None) ≡ true
+first_by : (stepping ended i : Bool) (w : World) (port alignment : ℕ) (a : Option Admission) (n : ℕ) (front : Front)
+    → is_initialize (if stepping then decided_on w (Some (record { port = port; session = if ended then Ended else session_with a i n; alignment = alignment })) front else None) ≡ true
     → a ≡ None
-first_by stepping ended i w port None n front h = refl
-first_by false ended i w port (Some a) n front h = cc
-first_by true true i w port (Some a) n front h = cc
-first_by true false i w port (Some a) n front h =
+first_by stepping ended i w port alignment None n front h = refl
+first_by false ended i w port alignment (Some a) n front h = cc
+first_by true true i w port alignment (Some a) n front h = cc
+first_by true false i w port alignment (Some a) n front h =
     let q : Queue = record { sqsize = a.sqsize; head = n % (a.sqsize + 1) } in
-    let clash : true ≡ false = sym h ∙ never_again w port a.role q front in cc
+    let clash : true ≡ false = sym h ∙ never_again w port alignment a.role q front in cc
 
 -- ---- one more event
 
-abbrev conversation_with : Bool → ℕ → Session → Option Conversation
-conversation_with known port session = if known then Some (record { port = port; session = session }) else None
+abbrev conversation_with : Bool → ℕ → ℕ → Session → Option Conversation
+conversation_with known port alignment session =
+    if known then Some (record { port = port; session = session; alignment = alignment }) else None
 
 session_step : (x : Happening) (before : List Happening) (k : ℕ)
-    → x.conversation k ≡ Some (record { port = port_of before k; session = session_of before k })
+    → x.conversation k ≡ Some (record { port = port_of before k; session = session_of before k; alignment = alignment_of before k })
     → (if ends x k || has_ended before k then Ended else
     session_with (admission_or (admits x k) (admission_of before k)) (initializes x k || is_initialized before k)
     (responses x k + responses_by (admits x k) (responses_since before k)))
-    ≡ (conversation_moved x k (record { port = port_of before k; session = session_of before k })).session
+    ≡ (conversation_moved x k (record { port = port_of before k; session = session_of before k; alignment = alignment_of before k })).session
 session_step x before k met =
-    let v : Conversation = record { port = port_of before k; session = session_of before k } in
+    let v : Conversation = record { port = port_of before k; session = session_of before k; alignment = alignment_of before k } in
     let d : Option Decision = (if steps x.event k then decided_on x.world (Some v) (front_in x.event) else None) in
     rw met (turns d (ends_by (ending_of x) (ends_live x) v)
     (has_ended before k) (is_initialized before k) (admission_of before k) (responses_since before k)
-    (none_by (steps x.event k) (has_ended before k) x.world (port_of before k) _ (front_in x.event))
-    (first_by (steps x.event k) (has_ended before k) (is_initialized before k) x.world (port_of before k) (admission_of before k)
+    (none_by (steps x.event k) (has_ended before k) x.world (port_of before k) (alignment_of before k) _ (front_in x.event))
+    (first_by (steps x.event k) (has_ended before k) (is_initialized before k) x.world (port_of before k) (alignment_of before k) (admission_of before k)
     (responses_since before k) (front_in x.event)))
 
 -- What one more event makes of a connection.
 pub conversation_step : (x : Happening) (before : List Happening) (k : ℕ) → x.conversation k ≡ conversation_of before k
     → conversation_of (x ∷ before) k ≡ conversation_after x k (conversation_of before k)
 conversation_step x before k met = by (opens x.event k) (gives_up x.event k) (is_known before k) met where
-  by : (opening giving known : Bool) → x.conversation k ≡ conversation_with known (port_of before k) (session_of before k)
+  by : (opening giving known : Bool) → x.conversation k ≡ conversation_with known (port_of before k) (alignment_of before k) (session_of before k)
       → conversation_with (opening || (not giving && known)) (if opening then port_in x.event else port_of before k)
+      (if opening then 0 else alignment_decided (alignment_of before k) (decided x k))
       (if not opening && (ends x k || has_ended before k) then Ended else
       session_with (if opening then None else admission_or (admits x k) (admission_of before k))
       (not opening && (initializes x k || is_initialized before k))
       (responses x k + responses_by (admits x k) (responses_since before k)))
       ≡ (if opening then Some (opened_on (port_in x.event)) else
-      if giving then None else option_map (conversation_moved x k) (conversation_with known (port_of before k) (session_of before k)))
+      if giving then None else option_map (conversation_moved x k) (conversation_with known (port_of before k) (alignment_of before k) (session_of before k)))
   by true giving known met = refl
   by false true known met = refl
   by false false false met = refl
   by false false true met =
-      ap (λ (s : Session). let v : Conversation = record { port = port_of before k; session = s } in Some v) (session_step x before k met)
+      ap (λ (s : Session). let v : Conversation = record { port = port_of before k; session = s; alignment = alignment_decided (alignment_of before k) (decided x k) } in Some v) (session_step x before k met)

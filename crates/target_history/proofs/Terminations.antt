@@ -1,7 +1,7 @@
 -- A step ends its own connection by its own decision alone: of what a reply ends, a reset comes on the admin queue of its
 -- controller, and ends I/O queues.
-use Rattle.std.proofs.Common.{◌≡◌, ℕ, Bool, true, false, not, ◌&&◌, ◌||◌, List, ◌∷◌, Option, Some, None, Result, Ok, Err, refl, sym, ap, ◌∙◌, inl, inr}
-use Rattle.std.specs.Prelude.{if◌then◌else◌, ◌==◌}
+use Rattle.std.proofs.Common.{◌≡◌, ℕ, Bool, true, false, not, ◌&&◌, ◌||◌, List, ◌∷◌, Option, Some, None, Ok, Err, refl, sym, ap, ◌∙◌, inl, inr}
+use Rattle.std.specs.Prelude.{if◌then◌else◌}
 use Rattle.fabrics_connect.specs.declared.decision.AdmitAs.{AdmitAs}
 use Rattle.fabrics_connect.specs.declared.decision.AdmitAs.TheVariants as admit
 use Rattle.pdu_codec.specs.Sqe.{cid_of}
@@ -12,7 +12,6 @@ use Rattle.property_regs.specs.declared.regs.Change.{Change}
 use Rattle.target_decision.specs.declared.consequence.ConfigurationSet.{ConfigurationSet}
 use Rattle.target_decision.specs.declared.consequence.Consequence.{Consequence}
 use Rattle.target_decision.specs.declared.consequence.Consequence.TheVariants as consequence
-use Rattle.target_decision.specs.declared.consequence.Update.{Update}
 use Rattle.target_decision.specs.declared.consequence.Update.TheVariants as update
 use Rattle.target_decision.specs.declared.decision.Decision.{Decision}
 use Rattle.target_decision.specs.declared.decision.Decision.TheVariants as decision
@@ -33,7 +32,7 @@ use Rattle.target_history.specs.declared.ending.Ending.TheVariants as ending
 use Rattle.target_history.specs.Ending.{ending_replied, ending_set, ends_by}
 use Rattle.target_history.specs.Event.{Event, edited, front_in, opened, opens, stepped, steps, given_up, ticked}
 use Rattle.target_history.specs.Happening.{Happening, consequence_decided, consequence_of, decided, decided_on, ending_of, ending_taken, ends_at, ends_live, is_end_decided, terminates}
-use Rattle.target_history.specs.History.{conversation_of, has_ended, is_known, port_of}
+use Rattle.target_history.specs.History.{alignment_of, conversation_of, has_ended, is_known, port_of}
 use Rattle.target_history.specs.Laws.{is_io_queue_of, role_at}
 use Rattle.target_history.specs.Terminations.{StepsEndTheirOwn}
 use Rattle.target_history.proofs.Endings.{resets_end_their_queues_alone}
@@ -80,7 +79,7 @@ decide_updates : (w : World) (v : Conversation) (front : Front) → Updates (rol
 decide_updates w v front = decision_is w v front (Updates (role_in v.session)) (record {
   closes = tt;
   terminates = λ t. tt;
-  initializes = λ opened. tt;
+  initializes = λ opened alignment. tt;
   replies = λ pdu is kind.
       reply_updates (role_in v.session) v.session (cid_of (entry_of pdu)) (command w v (entry_of pdu) (data_part pdu))
       (command_updates w v (entry_of pdu) (data_part pdu));
@@ -168,7 +167,7 @@ goes_on x k stepping going = by (x.conversation k) (decided x k) refl refl (own_
   by : (o : Option Conversation) (d : Option Decision) → x.conversation k ≡ o → decided x k ≡ d → UpdatesAt (role_at o) d → ends_at x (x.conversation k) ≡ false
   by None d met is sets = ap (λ (o : Option Conversation). ends_at x o) met
   by (Some v) None met is sets = nothing_at x (x.conversation k) (taken (Some v) None met is)
-  by (Some v) (Some decision.Initialize) met is sets = nothing_at x (x.conversation k) (taken (Some v) (Some decision.Initialize) met is)
+  by (Some v) (Some (decision.Initialize alignment)) met is sets = nothing_at x (x.conversation k) (taken (Some v) (Some (decision.Initialize alignment)) met is)
   by (Some v) (Some (decision.Reply r)) met is sets =
       replied_at x k v r.consequence met (makes (Some (decision.Reply r)) is) sets (taken (Some v) (Some (decision.Reply r)) met is)
   by (Some v) (Some (decision.Terminate t)) met is sets = let over : true ≡ false = ending_decided_so (Some (decision.Terminate t)) is in cc
@@ -176,14 +175,14 @@ goes_on x k stepping going = by (x.conversation k) (decided x k) refl refl (own_
 
 -- ---- ended connections
 
-none_at : (stepping known : Bool) (w : World) (port : ℕ) (front : Front)
-    → (if stepping then decided_on w (if known then Some (record { port = port; session = Ended }) else None) front else None) ≡ None
-none_at true true w port front = refl
-none_at true false w port front = refl
-none_at false known w port front = refl
+none_at : (stepping known : Bool) (w : World) (port alignment : ℕ) (front : Front)
+    → (if stepping then decided_on w (if known then Some (record { port = port; session = Ended; alignment = alignment }) else None) front else None) ≡ None
+none_at true true w port alignment front = refl
+none_at true false w port alignment front = refl
+none_at false known w port alignment front = refl
 
 ended_met : (x : Happening) (before : List Happening) (k : ℕ) → x.conversation k ≡ conversation_of before k → has_ended before k ≡ true
-    → x.conversation k ≡ (if is_known before k then Some (record { port = port_of before k; session = Ended }) else None)
+    → x.conversation k ≡ (if is_known before k then Some (record { port = port_of before k; session = Ended; alignment = alignment_of before k }) else None)
 ended_met x before k met ended = met ∙ rw ended refl
 
 -- no step ends a connection that is ended
@@ -192,7 +191,7 @@ ended_goes_on : (x : Happening) (before : List Happening) (k : ℕ) → x.conver
 ended_goes_on x before k met ended =
     let none : decided x k ≡ None =
     ap (λ (o : Option Conversation). if steps x.event k then decided_on x.world o (front_in x.event) else None) (ended_met x before k met ended)
-    ∙ none_at (steps x.event k) (is_known before k) x.world (port_of before k) (front_in x.event) in
+    ∙ none_at (steps x.event k) (is_known before k) x.world (port_of before k) (alignment_of before k) (front_in x.event) in
     ap is_end_decided none
 
 steps_own : (stepping : Bool) (d : Option Decision) → is_end_decided (if stepping then d else None) ≡ true → stepping ≡ true

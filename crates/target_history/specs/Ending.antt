@@ -52,7 +52,7 @@ ending_replied _ = ending.Nothing
 
 -- what was decided in this session
 abbrev pub ending_decided : Session → Decision → Ending
-ending_decided session decision.Initialize = ending.Nothing
+ending_decided session (decision.Initialize alignment) = ending.Nothing
 ending_decided session (decision.Reply r) = ending_replied r.consequence
 ending_decided session (decision.Terminate t) = ending_lost session
 ending_decided session decision.Close = ending_lost session

@@ -26,7 +26,7 @@ use Rattle.target_decision.specs.Begin.{bytes_at, entry_at, row_by}
 use Rattle.target_decision.specs.Consequence.{update_by}
 use Rattle.target_decision.specs.Controller.{new_controller, registers_by, updated}
 use Rattle.target_decision.specs.Decision.{act_by, decide, is_end, operation_of, sent_by}
-use Rattle.target_decision.specs.Session.{is_ended, opened_on, session_after}
+use Rattle.target_decision.specs.Session.{alignment_after, is_ended, opened_on, session_after}
 use Rattle.target_decision.specs.World.{World}
 use Rattle.target_history.specs.declared.ending.Ending.{Ending}
 use Rattle.target_history.specs.declared.ending.Ending.TheVariants as ending
@@ -90,7 +90,7 @@ abbrev pub consequence_of : Happening → Consequence
 consequence_of x = consequence_decided (decision_of x)
 
 abbrev pub is_initialize : Option Decision → Bool
-is_initialize (Some decision.Initialize) = true
+is_initialize (Some (decision.Initialize alignment)) = true
 is_initialize _ = false
 
 -- whether it initializes the connection
@@ -152,7 +152,7 @@ ends x k = terminates x k || ends_at x (x.conversation k)
 abbrev pub sends_on : World → (ℕ → List (List ℕ)) → Medium → Option Conversation → Option Decision → Front → List ℕ
 sends_on w blocks m None d front = []
 sends_on w blocks m (Some v) None front = []
-sends_on w blocks m (Some v) (Some d) front = sent_by w blocks m v.session d front
+sends_on w blocks m (Some v) (Some d) front = sent_by w blocks m v d front
 
 -- what it sends to connection k
 abbrev pub sends : Happening → ℕ → List ℕ
@@ -184,10 +184,15 @@ abbrev pub session_decided : Session → Option Decision → Session
 session_decided session None = session
 session_decided session (Some d) = session_after session d
 
+abbrev pub alignment_decided : ℕ → Option Decision → ℕ
+alignment_decided before None = before
+alignment_decided before (Some d) = alignment_after before d
+
 abbrev pub conversation_moved : Happening → ℕ → Conversation → Conversation
 conversation_moved x k v = record {
   port = v.port;
   session = if ends_by (ending_of x) (ends_live x) v then Ended else session_decided v.session (decided x k);
+  alignment = alignment_decided v.alignment (decided x k);
 }
 
 abbrev pub conversation_after : Happening → ℕ → Option Conversation → Option Conversation

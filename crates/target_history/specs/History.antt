@@ -32,7 +32,7 @@ use Rattle.target_decision.specs.World.{World}
 use Rattle.target_history.specs.declared.ending.Ending.{Ending}
 use Rattle.target_history.specs.declared.ending.Ending.TheVariants as ending
 use Rattle.target_history.specs.Event.{Event, edited, front_in, gives_up, opens, port_in, steps}
-use Rattle.target_history.specs.Happening.{Happening, Start, acts, begins, consequence_of, clock_after, config_after, ending_of, ends, ends_live, initializes, own_consequence, responses, sends, updates}
+use Rattle.target_history.specs.Happening.{Happening, Start, acts, alignment_decided, begins, consequence_of, clock_after, config_after, decided, ending_of, ends, ends_live, initializes, own_consequence, responses, sends, updates}
 
 -- the units of each disk that a target is made with
 abbrev pub Opening : Type 0
@@ -97,6 +97,11 @@ abbrev pub is_initialized : List Happening → ℕ → Bool
 is_initialized [] k = false
 is_initialized (x ∷ before) k = not (opens x.event k) && (initializes x k || is_initialized before k)
 
+-- the alignment of data that its ICReq asked for since its open
+abbrev pub alignment_of : List Happening → ℕ → ℕ
+alignment_of [] k = 0
+alignment_of (x ∷ before) k = if opens x.event k then 0 else alignment_decided (alignment_of before k) (decided x k)
+
 -- ---- its queue, from its Connect on (Base 2.0, section 6.3)
 
 -- which queue a Connect made of it, and the queue's size
@@ -145,7 +150,9 @@ session_of happened k =
 
 abbrev pub conversation_of : List Happening → ℕ → Option Conversation
 conversation_of happened k =
-    if is_known happened k then Some (record { port = port_of happened k; session = session_of happened k }) else None
+    if is_known happened k
+    then Some (record { port = port_of happened k; session = session_of happened k; alignment = alignment_of happened k })
+    else None
 
 -- ---- controllers (Base 2.0, sections 3.1 and 6.3)
 

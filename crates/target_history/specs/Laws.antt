@@ -4,7 +4,6 @@ use Rattle.admin_queue.specs.Controller.{AdminController}
 use Rattle.admin_queue.specs.Laws.{ToldAlike}
 use Rattle.config_edits.specs.declared.edit.Edit.{Edit}
 use Rattle.config_edits.specs.declared.edit.Edit.TheVariants.{PortDel}
-use Rattle.config_rules.specs.Configuration.{Configuration}
 use Rattle.config_rules.specs.Permission.{may_use}
 use Rattle.fabrics_connect.specs.declared.row.Row.{Row}
 use Rattle.fabrics_connect.specs.Command.{Parameters, parameters_of}
@@ -24,7 +23,6 @@ use Rattle.target_decision.specs.declared.controller.Controller.{Controller}
 use Rattle.target_decision.specs.declared.consequence.ConfigurationSet.{ConfigurationSet}
 use Rattle.target_decision.specs.declared.consequence.Consequence.TheVariants as consequence
 use Rattle.target_decision.specs.declared.consequence.Update.TheVariants as update
-use Rattle.target_decision.specs.declared.decision.Decision.{Decision}
 use Rattle.target_decision.specs.declared.decision.Decision.TheVariants as decision
 use Rattle.target_decision.specs.declared.decision.Reply.{Reply}
 use Rattle.target_decision.specs.declared.session.Conversation.{Conversation}
@@ -38,7 +36,7 @@ use Rattle.target_decision.specs.Controller.{registers_at}
 use Rattle.target_decision.specs.Session.{role_in}
 use Rattle.target_decision.specs.World.{World, admin_controller}
 use Rattle.target_history.specs.Ending.{ends_timer}
-use Rattle.target_history.specs.Event.{Event, edited, front_in, gives_up, opened, opens, steps, stepped, given_up, ticked}
+use Rattle.target_history.specs.Event.{Event, edited, front_in, gives_up, opens, steps, ticked}
 use Rattle.target_history.specs.Happening.{Happening, consequence_of, decided, ending_of, ends, ends_live, operation_decided, responses}
 use Rattle.target_history.specs.History.{Admission, active_of, Opening, admission_of, clock_of, config_of, controller_of, conversation_of, happened, has_ended, is_known, is_live, mark_of, meets_after, page_of, port_of, responses_since, row_of, sent}
 

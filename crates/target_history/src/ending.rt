@@ -60,7 +60,7 @@ impl Ending {
         ensures { result ≡ ending_decided session.now decision.now }
     {
         match decision {
-            Decision::Initialize => Ending::Nothing,
+            Decision::Initialize(_) => Ending::Nothing,
             Decision::Reply(reply) => Ending::of_consequence(&reply.consequence),
             Decision::Terminate(_) | Decision::Close => Ending::of_loss(session),
         }
