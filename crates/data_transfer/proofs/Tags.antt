@@ -31,22 +31,6 @@ any-none p a zero fails = refl
 any-none p a (suc n) fails =
     ap (λ b. b || list_any p (range_with_len (a + 1) n)) (fails a) ∙ any-none p (a + 1) n fails
 
--- where a test counts none, one that is as strict passes none
-any-uncounted : (p q : ℕ → Bool) (a n : ℕ) → ((t : ℕ) → p t ≡ false → q t ≡ false) → count_by p (range_with_len a n) ≡ 0 → list_any q (range_with_len a n) ≡ false
-any-uncounted p q a zero strict counted = refl
-any-uncounted p q a (suc n) strict counted = by_first (p a) refl (any-uncounted p q (a + 1) n strict)
-  where
-    split : cond {A = ℕ} (p a) 1 0 + count_by p (range_with_len (a + 1) n) ≡ 0
-    split = sym (sum_by-cons (λ t. cond {A = ℕ} (p t) 1 0) a (range_with_len (a + 1) n)) ∙ counted
-
-    rest : count_by p (range_with_len (a + 1) n) ≡ 0
-    rest = omega (arith, split)
-
-    by_first : (b : Bool) → p a ≡ b → (count_by p (range_with_len (a + 1) n) ≡ 0 → list_any q (range_with_len (a + 1) n) ≡ false) → list_any q (range_with_len a (suc n)) ≡ false
-    by_first true passes later =
-        let one : cond {A = ℕ} (p a) 1 0 ≡ 1 = ap (λ b. cond {A = ℕ} b 1 0) passes in absurd (omega (arith, split))
-    by_first false fails later = ap (λ b. b || list_any q (range_with_len (a + 1) n)) (strict a fails) ∙ later rest
-
 is_some_by : {T : Type 0} → (o : Option T) → is_none o ≡ false → is_some o ≡ true
 is_some_by None there = sym there
 is_some_by (Some x) there = refl
@@ -78,16 +62,6 @@ module _ {C : Type 0} where
 
   pub position_within : (table : List (Option (Part C))) (n : ℕ) → position is_none table ≡ Some n → n < length table
   position_within table n found = (position-Some is_none table n None found).0
-
-  -- a connection without a transfer has none of any command
-  is_of_none : (cid : ℕ) (o : Option (Part C)) → is_some o ≡ false → is_of cid o ≡ false
-  is_of_none cid None none = refl
-  is_of_none cid (Some part) none = absurd (true≢false none)
-
-  pub has_command-uncounted : (table : List (Option (Part C))) (cid : ℕ) → count_of (place table) ≡ 0 → has_command (place table) cid ≡ false
-  unfolding count_of has_command
-  has_command-uncounted table cid none =
-      any-uncounted (λ t. is_some (place table t)) (λ t. is_of cid (place table t)) 0 63 (λ t. is_of_none cid (place table t)) none
 
   -- so the search does not come back with nothing
   pub IsLeastFree-found : (table : List (Option (Part C))) (n : ℕ) → length table ≡ 63 → count_of (place table) < 63 → n ≡ unwrap_or (position is_none table) 0 → IsLeastFree (place table) n

@@ -16,7 +16,7 @@ use std::marker::Model;
 /// How many transfers a connection may have at a time: as many as its queue may have commands.
 pub(crate) const TAGS: usize = 63;
 
-/// The transfers of one connection, by their tags: 0 to 62. It has no table before its first transfer.
+/// The transfers of one connection, by their tags: 0 to 62. It has a table only while it has a transfer.
 #[derive(Drop)]
 pub(crate) struct Queue<C> {
     // How many there are.
@@ -194,9 +194,21 @@ impl<C> Queue<C> {
             Some(table) => {
                 let whole = finish_in(table, usize::from(ttag))?;
                 self.count -= 1;
+                self.release();
                 Some(whole)
             }
             None => None,
+        }
+    }
+
+    // Gives the table back where no transfer is left.
+    fn release(&mut self)
+    where
+        C: Drop,
+        ensures { self.new ≡ self.old }
+    {
+        if self.count == 0 {
+            self.table = None;
         }
     }
 
@@ -259,7 +271,7 @@ impl<C> Queue<C> {
         ensures { result ≡ has_command (place self.now) cid }
     {
         match &self.table {
-            Some(table) => self.count > 0 && has_command_in(table, cid),
+            Some(table) => has_command_in(table, cid),
             None => false,
         }
     }
