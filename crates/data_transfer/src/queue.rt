@@ -3,7 +3,7 @@ ghost use Rattle.std.specs.Prelude.{◌≡◌, ◌<◌, ◌+◌, IfOk, IfNone, O
 ghost use Rattle.std.specs.Option.{option_map};
 ghost use Rattle.number_table.specs.Table.{place, with_value};
 ghost use Rattle.data_transfer.specs.Part.{begun, data_after, data_answer, h2c_data, left_in, whole_in};
-ghost use Rattle.data_transfer.specs.Parts.{IsLeastFree, count_of, has_command, is_of};
+ghost use Rattle.data_transfer.specs.Parts.{count_of, free_tag, has_command, is_of};
 ghost use Rattle.data_transfer.specs.Queue.{no_tags};
 ghost use Rattle.data_transfer.specs.Whole.{part_of};
 
@@ -46,7 +46,7 @@ where
     C: Drop,
     requires tags { length table.old ≡ 63 }
     requires room { count_of (place table.old) < 63 }
-    ensures least { IsLeastFree (place table.old) result }
+    ensures least { result ≡ free_tag (place table.old) }
     ensures within { result < 63 }
     ensures tags { length table.new ≡ 63 }
     ensures counted { count_of (place table.new) ≡ count_of (place table.old) + 1 }
@@ -142,7 +142,7 @@ impl<C> Queue<C> {
     where
         C: Drop,
         requires { count_of (place self.old) < 63 }
-        ensures least { IfOk result (λ ttag. IsLeastFree (place self.old) ttag) }
+        ensures least { IfOk result (λ ttag. ttag ≡ free_tag (place self.old)) }
         ensures within { IfOk result (λ ttag. ttag < length self.old) }
         ensures begun { IfOk result (λ ttag. self.new ≡ with_value self.old ttag (begun cid command asked)) }
         ensures refused { OnErr result (self.new ≡ self.old) }

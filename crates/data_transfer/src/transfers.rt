@@ -2,7 +2,7 @@
 ghost use Rattle.std.specs.Prelude.{◌≡◌, ◌<◌, IfNone, IfOk, OnErr, Some, option_copied};
 ghost use Rattle.std.specs.Option.{option_map};
 ghost use Rattle.data_transfer.specs.Part.{begun, data_after, data_answer, h2c_data, left_in, whole_in};
-ghost use Rattle.data_transfer.specs.Parts.{IsLeastFree, Stand, count_of, has_command, no_parts, part_at};
+ghost use Rattle.data_transfer.specs.Parts.{Stand, count_of, free_tag, has_command, no_parts, part_at};
 ghost use Rattle.data_transfer.specs.Parts.{with_part, without_queue};
 ghost use Rattle.data_transfer.specs.Whole.{part_of};
 
@@ -67,7 +67,7 @@ impl<C> Transfers<C> {
         C: Drop,
         requires known { conn < 64 }
         requires room { count_of (part_at self.old conn) < 63 }
-        ensures least { IfOk result (λ ttag. IsLeastFree (part_at self.old conn) ttag) }
+        ensures least { IfOk result (λ ttag. ttag ≡ free_tag (part_at self.old conn)) }
         ensures begun { IfOk result (λ ttag. Stand self.new (with_part (part_at self.old) conn ttag (Some (begun cid command asked)))) }
         ensures refused { OnErr result (self.new ≡ self.old) }
     {
