@@ -76,8 +76,10 @@ fn data_in<C>(
     requires { length table.old ≡ 63 }
     ensures tags { length table.new ≡ 63 }
     ensures counted { count_of (place table.new) ≡ count_of (place table.old) }
-    ensures answer { result ≡ data_answer (place table.old ttag) (h2c_data cid offset datal bytes.now) }
-    ensures after { table.new ≡ slice_set table.old ttag (data_after (place table.old ttag) (h2c_data cid offset datal bytes.now)) }
+    ensures answer { let pdu = h2c_data cid offset datal bytes.now in
+        result ≡ data_answer (place table.old ttag) pdu }
+    ensures after { let pdu = h2c_data cid offset datal bytes.now in
+        table.new ≡ slice_set table.old ttag (data_after (place table.old ttag) pdu) }
     ensures refused { OnErr result (table.new ≡ table.old) }
 {
     match table.get_mut(usize::from(ttag)) {
@@ -144,7 +146,8 @@ impl<C> Queue<C> {
         requires { count_of (place self.old) < 63 }
         ensures least { IfOk result (λ ttag. ttag ≡ free_tag (place self.old)) }
         ensures within { IfOk result (λ ttag. ttag < length self.old) }
-        ensures begun { IfOk result (λ ttag. self.new ≡ with_value self.old ttag (begun cid command asked)) }
+        ensures begun { let part = begun cid command asked in
+            IfOk result (λ ttag. self.new ≡ with_value self.old ttag part) }
         ensures refused { OnErr result (self.new ≡ self.old) }
     {
         let transfer = Transfer::new(alloc, cid, command, asked)?;
@@ -172,8 +175,10 @@ impl<C> Queue<C> {
         datal: u32,
         bytes: &[u8],
     ) -> Result<Progress, DataFault>
-        ensures answer { result ≡ data_answer (place self.old ttag) (h2c_data cid offset datal bytes.now) }
-        ensures after { self.new ≡ slice_set self.old ttag (data_after (place self.old ttag) (h2c_data cid offset datal bytes.now)) }
+        ensures answer { let pdu = h2c_data cid offset datal bytes.now in
+            result ≡ data_answer (place self.old ttag) pdu }
+        ensures after { let pdu = h2c_data cid offset datal bytes.now in
+            self.new ≡ slice_set self.old ttag (data_after (place self.old ttag) pdu) }
         ensures refused { OnErr result (self.new ≡ self.old) }
     {
         match &mut self.table {
@@ -231,7 +236,8 @@ impl<C> Queue<C> {
         datal: u32,
         bytes: &[u8],
     ) -> Result<Progress, DataFault>
-        ensures { result ≡ data_answer (place self.now ttag) (h2c_data cid offset datal bytes.now) }
+        ensures { let pdu = h2c_data cid offset datal bytes.now in
+            result ≡ data_answer (place self.now ttag) pdu }
     {
         match self.get(ttag) {
             Some(transfer) => transfer.check(cid, offset, datal, bytes),

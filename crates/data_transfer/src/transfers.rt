@@ -68,7 +68,8 @@ impl<C> Transfers<C> {
         requires known { conn < 64 }
         requires room { count_of (part_at self.old conn) < 63 }
         ensures least { IfOk result (λ ttag. ttag ≡ free_tag (part_at self.old conn)) }
-        ensures begun { IfOk result (λ ttag. Stand self.new (with_part (part_at self.old) conn ttag (Some (begun cid command asked)))) }
+        ensures begun { let part = begun cid command asked in
+            IfOk result (λ ttag. Stand self.new (with_part (part_at self.old) conn ttag (Some part))) }
         ensures refused { OnErr result (self.new ≡ self.old) }
     {
         self.queues[conn].begin(self.alloc, cid, command, asked)
@@ -86,8 +87,11 @@ impl<C> Transfers<C> {
         datal: u32,
         bytes: &[u8],
     ) -> Result<Progress, DataFault>
-        ensures answer { result ≡ data_answer (part_at self.old conn ttag) (h2c_data cid offset datal bytes.now) }
-        ensures after { Stand self.new (with_part (part_at self.old) conn ttag (data_after (part_at self.old conn ttag) (h2c_data cid offset datal bytes.now))) }
+        ensures answer { let pdu = h2c_data cid offset datal bytes.now in
+            result ≡ data_answer (part_at self.old conn ttag) pdu }
+        ensures after { let pdu = h2c_data cid offset datal bytes.now in
+            let part = data_after (part_at self.old conn ttag) pdu in
+            Stand self.new (with_part (part_at self.old) conn ttag part) }
         ensures refused { OnErr result (self.new ≡ self.old) }
     {
         match self.queues.get_mut(conn) {
@@ -106,7 +110,8 @@ impl<C> Transfers<C> {
         datal: u32,
         bytes: &[u8],
     ) -> Result<Progress, DataFault>
-        ensures { result ≡ data_answer (part_at self.now conn ttag) (h2c_data cid offset datal bytes.now) }
+        ensures { let pdu = h2c_data cid offset datal bytes.now in
+            result ≡ data_answer (part_at self.now conn ttag) pdu }
     {
         match self.queues.get(conn) {
             Some(queue) => queue.check(ttag, cid, offset, datal, bytes),
@@ -116,7 +121,8 @@ impl<C> Transfers<C> {
 
     /// What the transfer of that tag, if it is there, was begun with.
     pub fn command(&self, conn: usize, ttag: u16) -> Option<&C>
-        ensures { option_copied result ≡ option_map (λ part. part.command) (part_at self.now conn ttag) }
+        ensures { option_copied result
+            ≡ option_map (λ part. part.command) (part_at self.now conn ttag) }
     {
         match self.queues.get(conn) {
             Some(queue) => queue.command(ttag),
@@ -146,7 +152,8 @@ impl<C> Transfers<C> {
     where
         C: Drop,
         ensures whole { option_map part_of result ≡ whole_in (part_at self.old conn ttag) }
-        ensures left { Stand self.new (with_part (part_at self.old) conn ttag (left_in (part_at self.old conn ttag))) }
+        ensures left { let part = left_in (part_at self.old conn ttag) in
+            Stand self.new (with_part (part_at self.old) conn ttag part) }
         ensures kept { IfNone result (self.new ≡ self.old) }
     {
         match self.queues.get_mut(conn) {
