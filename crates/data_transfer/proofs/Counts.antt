@@ -1,13 +1,16 @@
 -- How many transfers one connection has after a change of one tag.
-use Rattle.std.proofs.Common.{◌≡◌, ℕ, ◌+◌, ◌<◌, Bool, cond, List, [], ◌∷◌, length, map, set, Option, Some, None, is_some, count_by, refl, sym, ap, ◌∙◌, arith, length-set}
+use Rattle.std.proofs.Common.{◌≡◌, ℕ, ◌+◌, ◌<◌, Bool, cond, List, [], ◌∷◌, length, map, set, Option, Some, None, is_some, count_by, refl, sym, ap, ◌∙◌, inl, inr, arith, length-set}
 use Rattle.std.specs.List.{range_with_len}
+use Rattle.std.proofs.lemmas.Bool.{cases_lt}
 use Rattle.std.proofs.lemmas.List.{ext_get_or}
 use Rattle.std.proofs.lemmas.List.FromFn.{get_or-map-range_with_len, length-map-range_with_len}
 use Rattle.std.proofs.lemmas.List.Sums.{sum_by-cons, sum_by-set}
 use Rattle.number_table.specs.Table.{place}
-use Rattle.number_table.proofs.Tables.{place_within}
+use Rattle.number_table.proofs.Tables.{place_past, place_within, same_tables}
 use Rattle.data_transfer.specs.Part.{Part}
 use Rattle.data_transfer.specs.Parts.{count_of}
+use Rattle.data_transfer.specs.Queue.{IsQueue, no_tags, tags_in}
+use Rattle.data_transfer.proofs.Tags.{length-no_tags, place-no_tags}
 
 -- a count over what a function makes of numbers is one over the numbers
 count_by-map : {X : Type 0} (p : X → Bool) (f : ℕ → X) (ns : List ℕ) → count_by p (map f ns) ≡ count_by (λ n. p (f n)) ns
@@ -74,5 +77,30 @@ module _ {C : Type 0} where
       let some : one (place table n) ≡ 1 = ap one found in
       let same : count_of (place new) ≡ count_of (place (set table n (Some next))) = ap (λ t. count_of (place t)) changed in
       omega arith
+
+  -- where none is counted there is none
+  none_by : (slot : Option (Part C)) → one slot ≡ 0 → slot ≡ None
+  unfolding one
+  none_by None zero = refl
+  none_by (Some part) zero = absurd (omega arith)
+
+  pub uncounted : (table : List (Option (Part C))) → length table ≡ 63 → count_of (place table) ≡ 0 → table ≡ no_tags
+  unfolding one
+  uncounted table long none = same_tables table no_tags (long ∙ sym (length-no_tags C)) by_number
+    where
+      by_number : (n : ℕ) → place table n ≡ place no_tags n
+      by_number n =
+          elim (cases_lt n 63) [
+            | inl within ↦
+                let counted = count_of-set table n None long within in
+                let zero : one (place table n) ≡ 0 = omega arith in
+                none_by (place table n) zero ∙ sym (place-no_tags C n)
+            | inr past ↦ place_past table n (omega arith) ∙ sym (place-no_tags C n)
+          ]
+
+  -- .. and the table may be given back
+  pub uncounted_in : (count : ℕ) (table : Option (List (Option (Part C)))) → IsQueue count table → count ≡ 0 → tags_in table ≡ no_tags
+  uncounted_in count None queue none = refl
+  uncounted_in count (Some table) queue none = uncounted table queue.tags (sym queue.counted ∙ none)
 
 pub ruleset counts = (count_of-begun, count_of-removed, count_of-changed)

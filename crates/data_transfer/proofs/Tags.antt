@@ -1,14 +1,15 @@
 -- The tags of one connection: that one is free where fewer than all are used.
-use Rattle.std.proofs.Common.{◌≡◌, ◌⊎◌, ℕ, suc, zero, ◌+◌, ◌<◌, ◌≤◌, ◌||◌, Bool, true, false, cond, List, length, set, Option, Some, None, is_none, is_some, unwrap_or, position, count_by, refl, sym, ap, ◌∙◌, inl, inr, arith, true≢false}
+use Rattle.std.proofs.Common.{◌≡◌, ◌⊎◌, ℕ, suc, zero, ◌+◌, ◌<◌, ◌≤◌, ◌||◌, Bool, true, false, cond, List, length, set, Option, Some, None, is_none, is_some, IsSome, get_or, unwrap_or, position, count_by, refl, sym, ap, ◌∙◌, inl, inr, arith, true≢false}
 use Rattle.std.specs.List.{list_any, position_or_len, range_with_len}
 use Rattle.std.proofs.lemmas.Bool.{cases_lt}
 use Rattle.std.proofs.lemmas.Bool.Decides.{nat_tests}
 use Rattle.std.proofs.lemmas.List.{get_or-replicate, get_or_past, length-replicate, set-get_or}
-use Rattle.std.proofs.lemmas.List.Quantifiers.{position-Some}
-use Rattle.std.proofs.lemmas.List.Sums.{fails_before_first, sum_by-cons}
+use Rattle.std.proofs.lemmas.List.FromFn.{get_or-range_with_len, length-range_with_len}
+use Rattle.std.proofs.lemmas.List.Sums.{fails_before_first, passes_at_first, position_or_len_is, sum_by-cons}
 use Rattle.number_table.specs.Table.{place}
+use Rattle.data_transfer.specs.Laws.{IsLeastFree}
 use Rattle.data_transfer.specs.Part.{Part}
-use Rattle.data_transfer.specs.Parts.{IsLeastFree, count_of, has_command, is_of}
+use Rattle.data_transfer.specs.Parts.{count_of, free_tag, has_command, is_of}
 use Rattle.data_transfer.specs.Queue.{no_tags}
 
 -- a test that each number of a range passes counts all of them, and one that none passes counts none
@@ -31,77 +32,68 @@ any-none p a zero fails = refl
 any-none p a (suc n) fails =
     ap (λ b. b || list_any p (range_with_len (a + 1) n)) (fails a) ∙ any-none p (a + 1) n fails
 
--- where a test counts none, one that is as strict passes none
-any-uncounted : (p q : ℕ → Bool) (a n : ℕ) → ((t : ℕ) → p t ≡ false → q t ≡ false) → count_by p (range_with_len a n) ≡ 0 → list_any q (range_with_len a n) ≡ false
-any-uncounted p q a zero strict counted = refl
-any-uncounted p q a (suc n) strict counted = by_first (p a) refl (any-uncounted p q (a + 1) n strict)
-  where
-    split : cond {A = ℕ} (p a) 1 0 + count_by p (range_with_len (a + 1) n) ≡ 0
-    split = sym (sum_by-cons (λ t. cond {A = ℕ} (p t) 1 0) a (range_with_len (a + 1) n)) ∙ counted
-
-    rest : count_by p (range_with_len (a + 1) n) ≡ 0
-    rest = omega (arith, split)
-
-    by_first : (b : Bool) → p a ≡ b → (count_by p (range_with_len (a + 1) n) ≡ 0 → list_any q (range_with_len (a + 1) n) ≡ false) → list_any q (range_with_len a (suc n)) ≡ false
-    by_first true passes later =
-        let one : cond {A = ℕ} (p a) 1 0 ≡ 1 = ap (λ b. cond {A = ℕ} b 1 0) passes in absurd (omega (arith, split))
-    by_first false fails later = ap (λ b. b || list_any q (range_with_len (a + 1) n)) (strict a fails) ∙ later rest
-
 is_some_by : {T : Type 0} → (o : Option T) → is_none o ≡ false → is_some o ≡ true
 is_some_by None there = sym there
 is_some_by (Some x) there = refl
 
-module _ {C : Type 0} where
-  all_used : (table : List (Option (Part C))) → length table ≡ 63 → length table ≤ position_or_len is_none table → count_of (place table) ≡ 63
-  unfolding count_of
-  all_used table tags full =
-      count-all (λ ttag. is_some (place table ttag)) 0 63
-      (λ t below. is_some_by (place table t) (fails_before_first is_none table t None (omega arith)))
+-- a number of a range stands at its own place
+at_number : (n t : ℕ) → t < n → get_or (range_with_len 0 n) t 0 ≡ t
+at_number n t within = omega (arith, get_or-range_with_len 0 n t 0 within)
 
-  -- where fewer than all tags are used, there is a least one that is free
-  pub one_free : (table : List (Option (Part C))) → length table ≡ 63 → count_of (place table) < 63 → position is_none table ≡ Some (position_or_len is_none table)
-  one_free table tags few = by_place (cases_lt (position_or_len is_none table) (length table))
-    where
-      by_place : (position_or_len is_none table < length table) ⊎ (length table ≤ position_or_len is_none table) → position is_none table ≡ Some (position_or_len is_none table)
-      by_place (inl within) = grind (arith, nat_tests)
-      by_place (inr full) = let all = all_used table tags full in absurd (omega arith)
+module _ {C : Type 0} where
+  not_none : (o : Option (Part C)) → IsSome o → is_none o ≡ false
+  not_none None there = absurd (true≢false (sym there))
+  not_none (Some part) there = refl
 
   none_there : (o : Option (Part C)) → is_none o ≡ true → o ≡ None
   none_there None is = refl
   none_there (Some x) is = absurd (true≢false (sym is))
 
-  -- and that is what a search finds
-  pub IsLeastFree-position : (table : List (Option (Part C))) (n : ℕ) → position is_none table ≡ Some n → IsLeastFree (place table) n
-  IsLeastFree-position table n found =
-      let first = position-Some is_none table n None found in
-      record { free = none_there (place table n) first.1; below = λ t less. is_some_by (place table t) (first.2 t less) }
+  -- each tag below the first free one is used
+  used_below : (tags : ℕ → Option (Part C)) (t : ℕ) → t < 63 → t < free_tag tags → IsSome (tags t)
+  unfolding free_tag
+  used_below tags t within below =
+      is_some_by (tags t)
+      (ap (λ m. is_none (tags m)) (sym (at_number 63 t within)) ∙ fails_before_first (λ m. is_none (tags m)) (range_with_len 0 63) t 0 below)
 
-  pub position_within : (table : List (Option (Part C))) (n : ℕ) → position is_none table ≡ Some n → n < length table
-  position_within table n found = (position-Some is_none table n None found).0
+  -- where fewer than all tags are used, one is free
+  pub free_within : (tags : ℕ → Option (Part C)) → count_of tags < 63 → free_tag tags < 63
+  unfolding count_of
+  free_within tags few =
+      elim (cases_lt (free_tag tags) 63) [
+        | inl within ↦ within
+        | inr past ↦
+            let all : count_by (λ t. is_some (tags t)) (range_with_len 0 63) ≡ 63 = count-all (λ t. is_some (tags t)) 0 63 (λ t below. used_below tags t (omega arith) (omega arith)) in
+            absurd (omega arith)
+      ]
 
-  -- a connection without a transfer has none of any command
-  is_of_none : (cid : ℕ) (o : Option (Part C)) → is_some o ≡ false → is_of cid o ≡ false
-  is_of_none cid None none = refl
-  is_of_none cid (Some part) none = absurd (true≢false none)
+  -- and it is the least one
+  pub IsLeastFree-free_tag : (tags : ℕ → Option (Part C)) → count_of tags < 63 → IsLeastFree tags (free_tag tags)
+  unfolding free_tag
+  IsLeastFree-free_tag tags few =
+      let within = free_within tags few in
+      let first = position_or_len (λ t. is_none (tags t)) (range_with_len 0 63) in
+      let inside : first < length (range_with_len 0 63) = omega (arith, length-range_with_len 0 63) in
+      record {
+        free = none_there (tags first) (ap (λ m. is_none (tags m)) (sym (at_number 63 first within)) ∙ passes_at_first (λ m. is_none (tags m)) (range_with_len 0 63) 0 inside);
+        used = λ below less. used_below tags below (omega arith) less;
+      }
 
-  pub has_command-uncounted : (table : List (Option (Part C))) (cid : ℕ) → count_of (place table) ≡ 0 → has_command (place table) cid ≡ false
-  unfolding count_of has_command
-  has_command-uncounted table cid none =
-      any-uncounted (λ t. is_some (place table t)) (λ t. is_of cid (place table t)) 0 63 (λ t. is_of_none cid (place table t)) none
+  -- a search in a table finds it
+  position-free_tag : (table : List (Option (Part C))) → length table ≡ 63 → count_of (place table) < 63 → position is_none table ≡ Some (free_tag (place table))
+  position-free_tag table long few =
+      let within = free_within (place table) few in
+      let least = IsLeastFree-free_tag (place table) few in
+      let first : position_or_len is_none table ≡ free_tag (place table) = position_or_len_is is_none table (free_tag (place table)) None (omega arith) (λ k below. not_none (place table k) (least.used k below)) (λ inside. ap is_none least.free) in
+      let there : position_or_len is_none table < length table = omega arith in
+      let found : position is_none table ≡ Some (position_or_len is_none table) = grind (arith, nat_tests) in
+      found ∙ ap Some first
 
-  -- so the search does not come back with nothing
-  pub IsLeastFree-found : (table : List (Option (Part C))) (n : ℕ) → length table ≡ 63 → count_of (place table) < 63 → n ≡ unwrap_or (position is_none table) 0 → IsLeastFree (place table) n
-  IsLeastFree-found table n tags few found =
-      let there = one_free table tags few in
-      let same : n ≡ position_or_len is_none table = found ∙ ap (λ o. unwrap_or o 0) there in
-      IsLeastFree-position table n (there ∙ ap Some (sym same))
+  pub free_tag-found : (table : List (Option (Part C))) (n : ℕ) → length table ≡ 63 → count_of (place table) < 63 → n ≡ unwrap_or (position is_none table) 0 → n ≡ free_tag (place table)
+  free_tag-found table n long few found = found ∙ ap (λ o. unwrap_or o 0) (position-free_tag table long few)
 
-  pub found_within : (table : List (Option (Part C))) (n : ℕ) → length table ≡ 63 → count_of (place table) < 63 → n ≡ unwrap_or (position is_none table) 0 → n < 63
-  found_within table n tags few found =
-      let there = one_free table tags few in
-      let same : n ≡ position_or_len is_none table = found ∙ ap (λ o. unwrap_or o 0) there in
-      let inside : n < length table = position_within table n (there ∙ ap Some (sym same)) in
-      omega arith
+  pub nothing-found : (table : List (Option (Part C))) (n : ℕ) → count_of (place table) < 63 → n ≡ free_tag (place table) → place table n ≡ None
+  nothing-found table n few found = ap (place table) found ∙ (IsLeastFree-free_tag (place table) few).free
 
 -- a connection without a table has no transfer
 module _ (C : Type 0) where
@@ -134,4 +126,4 @@ module _ (C : Type 0) where
   set-no_tags n = ap (set no_tags n) (sym (place-no_tags n)) ∙ set-get_or no_tags n None
 
 -- for `grind`: what a search for a free tag finds
-pub ruleset tags = (one_free, IsLeastFree-found, position_within, place-no_tags, count_of-none, has_command-no_tags, length-none, set-no_tags)
+pub ruleset tags = (free_within, free_tag-found, place-no_tags, count_of-none, has_command-no_tags, length-none, set-no_tags)

@@ -1,5 +1,5 @@
 -- What follows from the definitions of this crate, in the words of the subject.
-use Rattle.std.specs.Prelude.{◌≡◌, ℕ, ◌+◌, ◌*◌, ◌<◌, ◌≤◌, ◌==◌, true, List, [], ◌∷◌, ◌++◌, length, Option, Some, None, slice_get, slice_range}
+use Rattle.std.specs.Prelude.{◌≡◌, ℕ, ◌+◌, ◌*◌, ◌<◌, ◌≤◌, ◌==◌, true, List, [], ◌∷◌, ◌++◌, length, Option, Some, None, IsSome, slice_get, slice_range}
 use Rattle.std.specs.List.{flat_map}
 use Rattle.data_transfer.specs.declared.fault.DataFault.{DataFault}
 use Rattle.data_transfer.specs.declared.piece.Piece.{Piece}
@@ -25,7 +25,7 @@ pub record IsInTurn (all : List Piece) (number : ℕ) (piece : Piece) : Type 0 w
 abbrev pub PiecesAreInTurn : Type 0
 PiecesAreInTurn = (len number : ℕ) (piece : Piece) → slice_get (pieces len) number ≡ Some piece → IsInTurn (pieces len) number piece
 
--- ---- the data of a transfer
+-- ---- transfers
 
 -- the data that an H2CData brings, where it has no fault
 abbrev pub brought : Option DataFault → H2cData → List ℕ
@@ -33,6 +33,11 @@ brought None pdu = pdu.bytes
 brought (Some fault) pdu = []
 
 module _ {C : Type 0} where
+  -- the least tag that no transfer of a connection uses
+  pub record IsLeastFree (tags : ℕ → Option (Part C)) (ttag : ℕ) : Type 0 where
+    pub free : tags ttag ≡ None
+    pub used : (below : ℕ) → below < ttag → IsSome (tags below)
+
   -- a transfer after these H2CData, the first of which comes first, whatever they say
   abbrev pub after_all : Part C → List H2cData → Part C
   after_all part [] = part

@@ -42,7 +42,12 @@ answer_unless (Some fault) answer = Err fault
 module _ {C : Type 0} where
   abbrev pub part_code : Coded C → Coded (Part C)
   part_code code =
-      code_by (ℕ × (C × (ℕ × List ℕ))) (coded× coded_ℕ (coded× code (coded× coded_ℕ (coded_list coded_ℕ)))) (λ p. (p.cid, (p.command, (p.asked, p.bytes)))) (λ p. record { cid = p.0; command = p.1.0; asked = p.1.1.0; bytes = p.1.1.1 }) (λ _. refl)
+      code_by
+      (ℕ × (C × (ℕ × List ℕ)))
+      (coded× coded_ℕ (coded× code (coded× coded_ℕ (coded_list coded_ℕ))))
+      (λ p. (p.cid, (p.command, (p.asked, p.bytes))))
+      (λ p. record { cid = p.0; command = p.1.0; asked = p.1.1.0; bytes = p.1.1.1 })
+      (λ _. refl)
 
   -- a transfer as its R2T begins it
   abbrev pub begun : ℕ → C → ℕ → Part C

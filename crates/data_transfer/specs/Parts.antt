@@ -1,6 +1,6 @@
 -- The transfers of all connections: what stands at each connection under each tag (TTAG), from 0 on.
-use Rattle.std.specs.Prelude.{◌≡◌, ℕ, ◌<◌, ◌==◌, ◌&&◌, Bool, false, List, [], slice_index_or, Option, Some, None, IsSome, is_some, count_by, if◌then◌else◌}
-use Rattle.std.specs.List.{list_any, range_with_len}
+use Rattle.std.specs.Prelude.{◌≡◌, ℕ, ◌==◌, ◌&&◌, Bool, false, List, [], slice_index_or, Option, Some, None, is_none, is_some, count_by, if◌then◌else◌}
+use Rattle.std.specs.List.{list_any, position_or_len, range_with_len}
 use Rattle.number_table.specs.Table.{place}
 use Rattle.data_transfer.specs.Part.{Part}
 
@@ -25,12 +25,11 @@ module _ {C : Type 0} where
   abbrev pub without_queue : (ℕ → ℕ → Option (Part C)) → ℕ → ℕ → ℕ → Option (Part C)
   without_queue parts conn k t = if k == conn then None else parts k t
 
-  -- the least tag that no transfer of a connection uses
-  pub record IsLeastFree (tags : ℕ → Option (Part C)) (ttag : ℕ) : Type 0 where
-    pub free : tags ttag ≡ None
-    pub below : (t : ℕ) → t < ttag → IsSome (tags t)
+  -- the first of the tags, which are 0 to 62, that no transfer of a connection uses
+  unfoldable pub free_tag : (ℕ → Option (Part C)) → ℕ
+  free_tag tags = position_or_len (λ ttag. is_none (tags ttag)) (range_with_len 0 63)
 
-  -- how many transfers a connection has: the tags are 0 to 62
+  -- how many transfers a connection has
   unfoldable pub count_of : (ℕ → Option (Part C)) → ℕ
   count_of tags = count_by (λ ttag. is_some (tags ttag)) (range_with_len 0 63)
 

@@ -3,7 +3,7 @@ ghost use Rattle.std.specs.Prelude.{◌≡◌, ◌<◌, ◌+◌, IfOk, IfNone, O
 ghost use Rattle.std.specs.Option.{option_map};
 ghost use Rattle.number_table.specs.Table.{place, with_value};
 ghost use Rattle.data_transfer.specs.Part.{begun, data_after, data_answer, h2c_data, left_in, whole_in};
-ghost use Rattle.data_transfer.specs.Parts.{IsLeastFree, count_of, has_command, is_of};
+ghost use Rattle.data_transfer.specs.Parts.{count_of, free_tag, has_command, is_of};
 ghost use Rattle.data_transfer.specs.Queue.{no_tags};
 ghost use Rattle.data_transfer.specs.Whole.{part_of};
 
@@ -16,7 +16,7 @@ use std::marker::Model;
 /// How many transfers a connection may have at a time: as many as its queue may have commands.
 pub(crate) const TAGS: usize = 63;
 
-/// The transfers of one connection, by their tags: 0 to 62. It has no table before its first transfer.
+/// The transfers of one connection, by their tags: 0 to 62. It has a table only while it has a transfer.
 #[derive(Drop)]
 pub(crate) struct Queue<C> {
     // How many there are.
@@ -46,7 +46,7 @@ where
     C: Drop,
     requires tags { length table.old ≡ 63 }
     requires room { count_of (place table.old) < 63 }
-    ensures least { IsLeastFree (place table.old) result }
+    ensures least { result ≡ free_tag (place table.old) }
     ensures within { result < 63 }
     ensures tags { length table.new ≡ 63 }
     ensures counted { count_of (place table.new) ≡ count_of (place table.old) + 1 }
@@ -76,8 +76,10 @@ fn data_in<C>(
     requires { length table.old ≡ 63 }
     ensures tags { length table.new ≡ 63 }
     ensures counted { count_of (place table.new) ≡ count_of (place table.old) }
-    ensures answer { result ≡ data_answer (place table.old ttag) (h2c_data cid offset datal bytes.now) }
-    ensures after { table.new ≡ slice_set table.old ttag (data_after (place table.old ttag) (h2c_data cid offset datal bytes.now)) }
+    ensures answer { let pdu = h2c_data cid offset datal bytes.now in
+        result ≡ data_answer (place table.old ttag) pdu }
+    ensures after { let pdu = h2c_data cid offset datal bytes.now in
+        table.new ≡ slice_set table.old ttag (data_after (place table.old ttag) pdu) }
     ensures refused { OnErr result (table.new ≡ table.old) }
 {
     match table.get_mut(usize::from(ttag)) {
@@ -142,9 +144,10 @@ impl<C> Queue<C> {
     where
         C: Drop,
         requires { count_of (place self.old) < 63 }
-        ensures least { IfOk result (λ ttag. IsLeastFree (place self.old) ttag) }
+        ensures least { IfOk result (λ ttag. ttag ≡ free_tag (place self.old)) }
         ensures within { IfOk result (λ ttag. ttag < length self.old) }
-        ensures begun { IfOk result (λ ttag. self.new ≡ with_value self.old ttag (begun cid command asked)) }
+        ensures begun { let part = begun cid command asked in
+            IfOk result (λ ttag. self.new ≡ with_value self.old ttag part) }
         ensures refused { OnErr result (self.new ≡ self.old) }
     {
         let transfer = Transfer::new(alloc, cid, command, asked)?;
@@ -172,8 +175,10 @@ impl<C> Queue<C> {
         datal: u32,
         bytes: &[u8],
     ) -> Result<Progress, DataFault>
-        ensures answer { result ≡ data_answer (place self.old ttag) (h2c_data cid offset datal bytes.now) }
-        ensures after { self.new ≡ slice_set self.old ttag (data_after (place self.old ttag) (h2c_data cid offset datal bytes.now)) }
+        ensures answer { let pdu = h2c_data cid offset datal bytes.now in
+            result ≡ data_answer (place self.old ttag) pdu }
+        ensures after { let pdu = h2c_data cid offset datal bytes.now in
+            self.new ≡ slice_set self.old ttag (data_after (place self.old ttag) pdu) }
         ensures refused { OnErr result (self.new ≡ self.old) }
     {
         match &mut self.table {
@@ -194,9 +199,21 @@ impl<C> Queue<C> {
             Some(table) => {
                 let whole = finish_in(table, usize::from(ttag))?;
                 self.count -= 1;
+                self.release();
                 Some(whole)
             }
             None => None,
+        }
+    }
+
+    // Gives the table back where no transfer is left.
+    fn release(&mut self)
+    where
+        C: Drop,
+        ensures { self.new ≡ self.old }
+    {
+        if self.count == 0 {
+            self.table = None;
         }
     }
 
@@ -219,7 +236,8 @@ impl<C> Queue<C> {
         datal: u32,
         bytes: &[u8],
     ) -> Result<Progress, DataFault>
-        ensures { result ≡ data_answer (place self.now ttag) (h2c_data cid offset datal bytes.now) }
+        ensures { let pdu = h2c_data cid offset datal bytes.now in
+            result ≡ data_answer (place self.now ttag) pdu }
     {
         match self.get(ttag) {
             Some(transfer) => transfer.check(cid, offset, datal, bytes),
@@ -259,7 +277,7 @@ impl<C> Queue<C> {
         ensures { result ≡ has_command (place self.now) cid }
     {
         match &self.table {
-            Some(table) => self.count > 0 && has_command_in(table, cid),
+            Some(table) => has_command_in(table, cid),
             None => false,
         }
     }

@@ -2,7 +2,7 @@
 ghost use Rattle.std.specs.Prelude.{◌≡◌, ◌<◌, IfNone, IfOk, OnErr, Some, option_copied};
 ghost use Rattle.std.specs.Option.{option_map};
 ghost use Rattle.data_transfer.specs.Part.{begun, data_after, data_answer, h2c_data, left_in, whole_in};
-ghost use Rattle.data_transfer.specs.Parts.{IsLeastFree, Stand, count_of, has_command, no_parts, part_at};
+ghost use Rattle.data_transfer.specs.Parts.{Stand, count_of, free_tag, has_command, no_parts, part_at};
 ghost use Rattle.data_transfer.specs.Parts.{with_part, without_queue};
 ghost use Rattle.data_transfer.specs.Whole.{part_of};
 
@@ -67,8 +67,9 @@ impl<C> Transfers<C> {
         C: Drop,
         requires known { conn < 64 }
         requires room { count_of (part_at self.old conn) < 63 }
-        ensures least { IfOk result (λ ttag. IsLeastFree (part_at self.old conn) ttag) }
-        ensures begun { IfOk result (λ ttag. Stand self.new (with_part (part_at self.old) conn ttag (Some (begun cid command asked)))) }
+        ensures least { IfOk result (λ ttag. ttag ≡ free_tag (part_at self.old conn)) }
+        ensures begun { let part = begun cid command asked in
+            IfOk result (λ ttag. Stand self.new (with_part (part_at self.old) conn ttag (Some part))) }
         ensures refused { OnErr result (self.new ≡ self.old) }
     {
         self.queues[conn].begin(self.alloc, cid, command, asked)
@@ -86,8 +87,11 @@ impl<C> Transfers<C> {
         datal: u32,
         bytes: &[u8],
     ) -> Result<Progress, DataFault>
-        ensures answer { result ≡ data_answer (part_at self.old conn ttag) (h2c_data cid offset datal bytes.now) }
-        ensures after { Stand self.new (with_part (part_at self.old) conn ttag (data_after (part_at self.old conn ttag) (h2c_data cid offset datal bytes.now))) }
+        ensures answer { let pdu = h2c_data cid offset datal bytes.now in
+            result ≡ data_answer (part_at self.old conn ttag) pdu }
+        ensures after { let pdu = h2c_data cid offset datal bytes.now in
+            let part = data_after (part_at self.old conn ttag) pdu in
+            Stand self.new (with_part (part_at self.old) conn ttag part) }
         ensures refused { OnErr result (self.new ≡ self.old) }
     {
         match self.queues.get_mut(conn) {
@@ -106,7 +110,8 @@ impl<C> Transfers<C> {
         datal: u32,
         bytes: &[u8],
     ) -> Result<Progress, DataFault>
-        ensures { result ≡ data_answer (part_at self.now conn ttag) (h2c_data cid offset datal bytes.now) }
+        ensures { let pdu = h2c_data cid offset datal bytes.now in
+            result ≡ data_answer (part_at self.now conn ttag) pdu }
     {
         match self.queues.get(conn) {
             Some(queue) => queue.check(ttag, cid, offset, datal, bytes),
@@ -116,7 +121,8 @@ impl<C> Transfers<C> {
 
     /// What the transfer of that tag, if it is there, was begun with.
     pub fn command(&self, conn: usize, ttag: u16) -> Option<&C>
-        ensures { option_copied result ≡ option_map (λ part. part.command) (part_at self.now conn ttag) }
+        ensures { option_copied result
+            ≡ option_map (λ part. part.command) (part_at self.now conn ttag) }
     {
         match self.queues.get(conn) {
             Some(queue) => queue.command(ttag),
@@ -146,7 +152,8 @@ impl<C> Transfers<C> {
     where
         C: Drop,
         ensures whole { option_map part_of result ≡ whole_in (part_at self.old conn ttag) }
-        ensures left { Stand self.new (with_part (part_at self.old) conn ttag (left_in (part_at self.old conn ttag))) }
+        ensures left { let part = left_in (part_at self.old conn ttag) in
+            Stand self.new (with_part (part_at self.old) conn ttag part) }
         ensures kept { IfNone result (self.new ≡ self.old) }
     {
         match self.queues.get_mut(conn) {

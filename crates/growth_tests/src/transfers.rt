@@ -26,7 +26,12 @@ fn comes(transfers: &mut Transfers<u8>, ttag: u16, cid: u16, offset: u32, bytes:
     let datal = u32::try_from(bytes.len()).unwrap_or(0);
     let answer = transfers.data(CONN, ttag, cid, offset, datal, bytes);
     let is_last = offset as usize + bytes.len() == 4;
-    answer == Ok(if is_last { Progress::Whole } else { Progress::More })
+    answer
+        == Ok(if is_last {
+            Progress::Whole
+        } else {
+            Progress::More
+        })
 }
 
 fn is_finished(transfers: &mut Transfers<u8>, ttag: u16, cid: u16, bytes: &[u8]) -> bool {
