@@ -1,0 +1,27 @@
+//! Disks in memory: one that gets none is refused, and one that was made takes no more.
+use block_store::{MemoryDisk, Store, UNIT_LEN};
+use std::alloc::{AllocError, Global};
+use std::test::Fail;
+use testkit_edits::again;
+use testkit_edits::growths::tell;
+
+fn works(store: &mut Store<MemoryDisk>) -> bool {
+    let unit = [0x5A; UNIT_LEN];
+    let mut out = [0; UNIT_LEN];
+    store.blocks() == 8
+        && store.write(6, &unit) == Ok(())
+        && store.read(6, &mut out) == Ok(())
+        && out == unit
+}
+
+fn is_used(alloc: Global) -> Result<bool, AllocError> {
+    let mut store = Store::new(MemoryDisk::new(alloc, 8)?);
+    Ok(works(&mut store))
+}
+
+#[test]
+fn memory_disks(rt: HostRuntime) -> Result<(), Fail> {
+    let mut refused = 0u32;
+    again!(rt, refused, AllocError, is_used(rt.alloc()));
+    tell(&rt, refused)
+}
