@@ -4,6 +4,7 @@ use std::alloc::{AllocError, Global};
 use std::fmt;
 use testkit_edits::{Blocks, memory_disks};
 use testkit_queues::{Command, Driver, Opcode, Script, holds_over};
+use testkit_tables::{Outcome, check};
 
 const BLOCK_LEN: usize = 4096;
 
@@ -86,12 +87,12 @@ struct Times {
 }
 
 impl Script<MemoryDisk> for Times {
-    fn holds(&self, driver: &mut Driver<MemoryDisk>) -> bool {
+    fn holds(&self, driver: &mut Driver<MemoryDisk>) -> Outcome {
         let mut each = driver.begin(&[BLOCKS]);
         for _ in 0..self.times {
             each &= driver.exchanges(0, &self.capsule, self.answer_len);
         }
-        each
+        check(each, "an answer of as many bytes")
     }
 }
 
@@ -99,15 +100,14 @@ impl Script<MemoryDisk> for Times {
 /// time as many bytes were sent as are to be.
 pub fn runs(alloc: Global, work: Work, times: u32) -> bool {
     match (memory_disks(alloc, &[128]), work.capsule(alloc)) {
-        (Ok(disks), Ok(capsule)) => holds_over(
-            alloc,
-            disks,
-            &Times {
+        (Ok(disks), Ok(capsule)) => {
+            let script = Times {
                 capsule,
                 answer_len: work.answer_len(),
                 times,
-            },
-        ),
+            };
+            holds_over(alloc, disks, &script).is_ok()
+        }
         _ => false,
     }
 }

@@ -5,17 +5,18 @@ use nvt_config::{Access, AnaState, Edit, Family};
 use nvt_fields::NqnFault;
 use std::alloc::{AllocError, Global};
 use std::test::Fail;
+use testkit_tables::{Outcome, check};
 
-/// A call, and the same again where it wants memory: then it answers that all is right.
+/// What a call answers, or the same again where it wants memory.
 #[macro_export]
 macro_rules! again {
-    ($rt:expr, $refused:expr, $memory:pat, $call:expr) => {{
+    ($refused:expr, $memory:pat, $call:expr) => {{
         let mut answer = $call;
         if matches!(answer, Err($memory)) {
             $refused = $refused.saturating_add(1);
             answer = $call;
         }
-        assert!($rt; matches!(answer, Ok(true)));
+        answer
     }};
 }
 
@@ -85,8 +86,17 @@ pub fn edit_of(alloc: Global, line: Line<'_>) -> Result<Option<Edit>, AllocError
     }
 }
 
-/// Prints how many calls answered Memory.
-pub fn tell(rt: &impl Print, refused: u32) -> Result<(), Fail> {
+/// What the use of something comes to that was made again where it wanted memory.
+pub fn used<E: Drop>(answer: Result<Outcome, E>) -> Outcome {
+    match answer {
+        Ok(outcome) => outcome,
+        Err(_) => check(false, "memory"),
+    }
+}
+
+/// Prints how many calls answered Memory, where all else is as it has to be.
+pub fn tell(rt: &impl Print, refused: u32, outcome: Outcome) -> Result<(), Fail> {
+    outcome?;
     println!(rt; "refused growths: {refused}")?;
     Ok(())
 }

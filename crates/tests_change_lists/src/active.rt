@@ -4,6 +4,7 @@ use change_lists::ActiveView;
 use nvt_config::Access;
 use std::alloc::Global;
 use testkit_edits::Line;
+use testkit_tables::{Outcome, Placed, check, pass};
 
 // What a test does, or expects.
 #[derive(Clone, Copy)]
@@ -45,25 +46,24 @@ fn is_taken(alloc: Global, followed: &mut Followed, step: Step) -> bool {
     }
 }
 
-fn are_taken(alloc: Global, followed: &mut Followed, steps: &[Step]) -> bool {
-    for step in steps {
-        if !is_taken(alloc, followed, *step) {
-            return false;
+fn check_steps(alloc: Global, followed: &mut Followed, lists: &[&[Step]]) -> Outcome {
+    for (row, steps) in lists.iter().enumerate() {
+        for (number, step) in steps.iter().enumerate() {
+            let is_taken = is_taken(alloc, followed, *step);
+            pass!(
+                check(is_taken, "what this step comes to")
+                    .at_step(number)
+                    .in_row(row)
+            );
         }
     }
-    true
+    Ok(())
 }
 
-// Whether each step of these lists of steps can be taken, the one list after the other.
-fn holds(alloc: Global, lists: &[&[Step]]) -> bool {
-    let Ok(mut followed) = start(alloc) else {
-        return false;
-    };
-    let mut holds = true;
-    for steps in lists {
-        holds &= are_taken(alloc, &mut followed, steps);
-    }
-    holds
+// Each step of these lists of steps can be taken, the one list, which is a row, after the other.
+fn holds(alloc: Global, lists: &[&[Step]]) -> Outcome {
+    let mut followed = start(alloc)?;
+    check_steps(alloc, &mut followed, lists)
 }
 
 // Namespaces 7, 1 and 3 of subsystem A, in this order, and none of B.
@@ -87,8 +87,8 @@ const ABOVE: &[Step] = &[
 ];
 
 #[test]
-fn a_list_has_the_identifiers_above_the_one_asked(rt: HostRuntime) {
-    assert!(rt; holds(rt.alloc(), &[THREE, ABOVE]));
+fn a_list_has_the_identifiers_above_the_one_asked(rt: HostRuntime) -> Outcome {
+    holds(rt.alloc(), &[THREE, ABOVE])
 }
 
 const PARTS: &[Step] = &[
@@ -101,8 +101,8 @@ const PARTS: &[Step] = &[
 ];
 
 #[test]
-fn any_length_of_a_list_is_written(rt: HostRuntime) {
-    assert!(rt; holds(rt.alloc(), &[THREE, PARTS]));
+fn any_length_of_a_list_is_written(rt: HostRuntime) -> Outcome {
+    holds(rt.alloc(), &[THREE, PARTS])
 }
 
 const CHANGES: &[Step] = &[
@@ -127,6 +127,6 @@ const CHANGES: &[Step] = &[
 ];
 
 #[test]
-fn a_list_follows_the_edits_that_are_made(rt: HostRuntime) {
-    assert!(rt; holds(rt.alloc(), &[THREE, CHANGES]));
+fn a_list_follows_the_edits_that_are_made(rt: HostRuntime) -> Outcome {
+    holds(rt.alloc(), &[THREE, CHANGES])
 }

@@ -5,10 +5,11 @@ use rand_core::utils::NextWord;
 use rand_pcg::Pcg32;
 use std::alloc::{AllocError, Global};
 use testkit_edits::Line;
+use testkit_tables::{Outcome, Placed, check, check_bytes, pass};
 
-const LISTS: u32 = 25;
+const SCRIPTS: u64 = 25;
 
-const EDITS: u32 = 30;
+const EDITS: usize = 30;
 
 const SEED: u64 = 0x6163_7469;
 
@@ -55,50 +56,63 @@ fn plain(
     Ok(bytes)
 }
 
-// Whether the list is the plain one, with zeros behind it; how many bytes it has is added.
-fn agrees(
+// The list is the plain one, with zeros behind it.
+fn check_list(bytes: &[u8], list: &[u8]) -> Outcome {
+    let (front, rest) = bytes.split_at(list.len().min(bytes.len()));
+    pass!(check_bytes(front, list));
+    check(!rest.iter().any(|byte| *byte != 0), "zeros behind the list")
+}
+
+// How many bytes the list has is added.
+fn check_above(
     alloc: Global,
     followed: &Followed,
     subsystem: &[u8],
     above: u32,
     seen: &mut usize,
-) -> Result<bool, AllocError> {
+) -> Outcome {
     let list = plain(alloc, &followed.config, subsystem, above)?;
     let mut bytes = vec![in alloc; 0xA5; 4_096]?;
     followed.view.window(subsystem, above, &mut bytes);
     *seen = seen.saturating_add(list.len());
-    let (front, rest) = bytes.split_at(list.len().min(4_096));
-    Ok(*front == *list && !rest.iter().any(|byte| *byte != 0))
+    check_list(&bytes, &list)
 }
 
-fn lists_agree(alloc: Global, followed: &Followed, subsystem: &[u8], seen: &mut usize) -> bool {
-    let mut agree = true;
-    for above in ABOVE {
-        agree &= agrees(alloc, followed, subsystem, *above, seen) == Ok(true);
+// The rows are those of `ABOVE`.
+fn check_lists(alloc: Global, followed: &Followed, subsystem: &[u8], seen: &mut usize) -> Outcome {
+    for (row, above) in ABOVE.iter().enumerate() {
+        pass!(check_above(alloc, followed, subsystem, *above, seen).in_row(row));
     }
-    agree
+    Ok(())
 }
 
 // Makes random edits, of which many are refused, and compares the lists of both subsystems.
-fn agree_after_edits(alloc: Global, random: &mut Pcg32, seen: &mut usize) -> bool {
-    let Ok(mut followed) = start(alloc) else {
-        return false;
-    };
-    let mut agree = true;
-    for _ in 0..EDITS {
+fn check_edits(
+    alloc: Global,
+    followed: &mut Followed,
+    random: &mut Pcg32,
+    seen: &mut usize,
+) -> Outcome {
+    for step in 0..EDITS {
         let change = change(random);
-        agree &= follow(alloc, &mut followed, change, true).is_ok();
+        let is_followed = follow(alloc, followed, change, true).is_ok();
+        pass!(check(is_followed, "memory").at_step(step));
     }
-    agree && lists_agree(alloc, &followed, A, seen) && lists_agree(alloc, &followed, B, seen)
+    pass!(check_lists(alloc, followed, A, seen));
+    check_lists(alloc, followed, B, seen)
+}
+
+fn check_script(alloc: Global, number: u64, seen: &mut usize) -> Outcome {
+    let mut random = Pcg32::new(SEED, number);
+    let mut followed = start(alloc)?;
+    check_edits(alloc, &mut followed, &mut random, seen)
 }
 
 #[test]
-fn lists_are_those_of_a_filter_and_sort(rt: HostRuntime) {
-    let mut random = Pcg32::new(SEED, 0);
+fn lists_are_those_of_a_filter_and_sort(rt: HostRuntime) -> Outcome {
     let mut seen = 0;
-    let mut agree = true;
-    for _ in 0..LISTS {
-        agree &= agree_after_edits(rt.alloc(), &mut random, &mut seen);
+    for number in 0..SCRIPTS {
+        pass!(check_script(rt.alloc(), number, &mut seen).in_script(SEED, number));
     }
-    assert!(rt; agree && seen > 1_000);
+    check(seen > 1_000, "how many bytes were seen")
 }

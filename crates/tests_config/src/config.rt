@@ -8,11 +8,11 @@ use config_rules::laws::accepted_stays_valid;
 use nvt_config::{
     Access, AnaState, Config, EditFault, Family, Item, NewFault, Port, Subsystem, Text, Value,
 };
-use outline::has_lists;
+use outline::check_lists;
 use std::alloc::{AllocError, Global};
 use std::fmt::Display;
-use std::test::Fail;
 use testkit_edits::{Blocks, Line, is_applied, is_same};
+use testkit_tables::{Outcome, Placed, check, check_bytes, check_rows, pass};
 
 const DISKS: &[u64] = &[8, 1 << 40];
 
@@ -51,58 +51,60 @@ enum Script {
     PortValues,
 }
 
-// Whether all that a script expects of a configuration holds.
-fn holds(alloc: Global, script: Script) -> bool {
+// All that a script expects of a configuration holds.
+fn holds(alloc: Global, script: Script) -> Outcome {
     match Config::new(alloc, DISKS) {
         Ok(mut config) => runs(alloc, &mut config, script),
-        Err(_) => false,
+        Err(_) => check(false, "memory"),
     }
 }
 
-fn runs(alloc: Global, config: &mut Config, script: Script) -> bool {
+fn runs(alloc: Global, config: &mut Config, script: Script) -> Outcome {
     match script {
-        Script::Effects(rows) => effects::are_accepted(alloc, config, rows),
-        Script::Referrals => effects::are_referrals_made(alloc, config),
-        Script::AllLinked => limits::is_full_of_links(alloc, config),
-        Script::AllHosts => limits::is_full_of_hosts(alloc, config),
-        _ => is_filled(alloc, config) && runs_filled(alloc, config, script),
-    }
-}
-
-fn runs_filled(alloc: Global, config: &mut Config, script: Script) -> bool {
-    match script {
-        Script::Items => has_items(config),
-        Script::Copy => is_copied(alloc, config),
-        Script::Names => finds_by_name(config),
-        Script::Sets => effects::are_sets_made(alloc, config),
-        Script::Removals => effects::are_removals_made(alloc, config),
-        Script::Refusals(rows) => refusals::are_refused(alloc, config, rows),
-        Script::PortValues => refusals::are_port_values_refused(alloc, config),
-        _ => false,
-    }
-}
-
-fn is_filled(alloc: Global, config: &mut Config) -> bool {
-    are_applied(alloc, config, FILLED)
-}
-
-fn are_applied(alloc: Global, config: &mut Config, lines: &[Line<'_>]) -> bool {
-    for line in lines {
-        if !is_applied(alloc, config, *line) {
-            return false;
+        Script::Effects(rows) => effects::check_accepted(alloc, config, rows),
+        Script::Referrals => effects::check_referrals(alloc, config),
+        Script::AllLinked => limits::check_links(alloc, config),
+        Script::AllHosts => limits::check_hosts(alloc, config),
+        _ => {
+            pass!(fill(alloc, config));
+            runs_filled(alloc, config, script)
         }
     }
-    true
 }
 
-fn has_items(config: &Config) -> bool {
-    config.units() == DISKS && has_lists(config, b" a b c 1:4420 2:4420 3:4420 1a 1b 2b h (i) j")
+fn runs_filled(alloc: Global, config: &mut Config, script: Script) -> Outcome {
+    match script {
+        Script::Items => check_items(config),
+        Script::Copy => check_copy(alloc, config),
+        Script::Names => check_names(config),
+        Script::Sets => effects::check_sets(alloc, config),
+        Script::Removals => effects::check_removals(alloc, config),
+        Script::Refusals(rows) => refusals::check_refused(alloc, config, rows),
+        Script::PortValues => refusals::check_port_values(alloc, config),
+        _ => check(false, "a script of a filled configuration"),
+    }
+}
+
+fn fill(alloc: Global, config: &mut Config) -> Outcome {
+    apply_all(alloc, config, FILLED)
+}
+
+fn apply_all(alloc: Global, config: &mut Config, lines: &[Line<'_>]) -> Outcome {
+    for (row, line) in lines.iter().enumerate() {
+        pass!(check(is_applied(alloc, config, *line), "an edit that is accepted").in_row(row));
+    }
+    Ok(())
+}
+
+fn check_items(config: &Config) -> Outcome {
+    pass!(check(config.units() == DISKS, "the disks"));
+    check_lists(config, b" a b c 1:4420 2:4420 3:4420 1a 1b 2b h (i) j")
 }
 
 #[test]
-fn adds_items(rt: HostRuntime) {
-    assert!(rt; holds(rt.alloc(), Script::Items));
+fn adds_items(rt: HostRuntime) -> Outcome {
     accepted_stays_valid();
+    holds(rt.alloc(), Script::Items)
 }
 
 const NAMESPACE: Blocks = Blocks {
@@ -126,17 +128,22 @@ const ALL_FILLED: &[Line<'static>] = &[
 const ALL_LISTS: &[u8] =
     b" a b c 1:4420 2:4420 3:4420 1a 1b 2b h (i) j c7.1=9/2 b+h a+j 2b32p >3:8009";
 
-fn is_copied(alloc: Global, config: &mut Config) -> bool {
-    are_applied(alloc, config, ALL_FILLED)
-        && match config.try_clone() {
-            Ok(copy) => is_same(&copy, config) && has_lists(&copy, ALL_LISTS),
-            Err(AllocError) => false,
-        }
+fn check_same(copy: &Config, config: &Config) -> Outcome {
+    pass!(check(is_same(copy, config), "an equal copy"));
+    check_lists(copy, ALL_LISTS)
+}
+
+fn check_copy(alloc: Global, config: &mut Config) -> Outcome {
+    pass!(apply_all(alloc, config, ALL_FILLED));
+    match config.try_clone() {
+        Ok(copy) => check_same(&copy, config),
+        Err(AllocError) => check(false, "memory"),
+    }
 }
 
 #[test]
-fn a_copy_is_equal(rt: HostRuntime) {
-    assert!(rt; holds(rt.alloc(), Script::Copy));
+fn a_copy_is_equal(rt: HostRuntime) -> Outcome {
+    holds(rt.alloc(), Script::Copy)
 }
 
 fn is_port(port: Option<&Port>, address: &[u8], service: u16) -> bool {
@@ -159,31 +166,31 @@ fn is_open_subsystem(subsystem: Option<&Subsystem>, serial: &[u8]) -> bool {
     }
 }
 
-fn finds_by_name(config: &Config) -> bool {
-    let absent = [
+fn check_names(config: &Config) -> Outcome {
+    let rows = [
+        is_port(config.port(2), b"127.0.0.2", 4420),
+        is_open_subsystem(config.subsystem(b"nqn.b"), b"SN-B"),
         config.port(4).is_none(),
         config.subsystem(b"nqn.").is_none(),
         config.subsystem(b"nqn.d").is_none(),
     ];
-    is_port(config.port(2), b"127.0.0.2", 4420)
-        && is_open_subsystem(config.subsystem(b"nqn.b"), b"SN-B")
-        && absent == [true; 3]
+    check_rows(&rows, "what is found")
 }
 
 #[test]
-fn finds_items_by_name(rt: HostRuntime) {
-    assert!(rt; holds(rt.alloc(), Script::Names));
+fn finds_items_by_name(rt: HostRuntime) -> Outcome {
+    holds(rt.alloc(), Script::Names)
 }
 
-fn is_handed_back(alloc: Global, bytes: &[u8]) -> Result<bool, AllocError> {
+fn check_handed_back(alloc: Global, bytes: &[u8]) -> Outcome {
     let text = Text::from(Vec::from_slice(alloc, bytes)?);
     let copy = text.clone()?.into_vec();
-    Ok(copy.as_slice() == bytes)
+    check_bytes(&copy, bytes)
 }
 
 #[test]
-fn hands_a_text_back(rt: HostRuntime) {
-    assert!(rt; is_handed_back(rt.alloc(), b"a b") == Ok(true));
+fn hands_a_text_back(rt: HostRuntime) -> Outcome {
+    check_handed_back(rt.alloc(), b"a b")
 }
 
 // How many disks a configuration of these sizes has.
@@ -200,10 +207,12 @@ const SIZES: &[(&[u64], Result<usize, NewFault>)] = &[
 ];
 
 #[test]
-fn takes_disks_within_the_limits(rt: HostRuntime) {
-    for (units, answer) in SIZES {
-        assert!(rt; disks(rt.alloc(), units) == *answer);
+fn takes_disks_within_the_limits(rt: HostRuntime) -> Outcome {
+    for (row, (units, answer)) in SIZES.iter().enumerate() {
+        let is_answered = disks(rt.alloc(), units) == *answer;
+        pass!(check(is_answered, "how many disks there are").in_row(row));
     }
+    Ok(())
 }
 
 const REPLIES: &[(EditFault, &str)] = &[
@@ -273,14 +282,15 @@ const REPLIES: &[(EditFault, &str)] = &[
     (EditFault::Memory, "refused Memory"),
 ];
 
-fn prints(alloc: Global, fault: EditFault, text: &str) -> Result<bool, AllocError> {
-    Ok(fault.to_string(alloc)?.as_str() == text)
+fn check_reply(alloc: Global, fault: EditFault, text: &str) -> Outcome {
+    let said = fault.to_string(alloc)?;
+    check_bytes(said.as_bytes(), text.as_bytes())
 }
 
 #[test]
-fn prints_replies(rt: HostRuntime) -> Result<(), Fail> {
-    for (fault, text) in REPLIES {
-        assert!(rt; prints(rt.alloc(), *fault, text)?);
+fn prints_replies(rt: HostRuntime) -> Outcome {
+    for (row, (fault, text)) in REPLIES.iter().enumerate() {
+        pass!(check_reply(rt.alloc(), *fault, text).in_row(row));
     }
     Ok(())
 }

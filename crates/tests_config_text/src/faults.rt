@@ -1,7 +1,7 @@
 //! Lines that end too early or too late, and the texts of faults.
 use config_text::{Full, LineFault, LineFaultKind, read_edit};
 use std::alloc::{AllocError, Global};
-use std::test::Fail;
+use testkit_tables::{Outcome, Placed, check, check_bytes, pass};
 
 // A line of each kind, each word of which is as short as it can be.
 const LINES: &[&[u8]] = &[
@@ -68,26 +68,25 @@ fn is_kind_of_cut(kind: LineFaultKind, before: usize) -> bool {
     )
 }
 
-// Whether a line is refused at each byte before its end, and read at its end.
-fn are_fronts_refused(alloc: Global, line: &[u8]) -> bool {
+// A line is refused at each byte before its end, which is the step, and read at its end.
+fn check_fronts(alloc: Global, line: &[u8]) -> Outcome {
     for (len, next) in line.iter().enumerate() {
         let front = line.get(..len).unwrap_or(&[]);
         let is_refused = match read_edit(alloc, front) {
             Ok(_) => false,
             Err(fault) => is_fault_of_front(fault, front, *next),
         };
-        if !is_refused {
-            return false;
-        }
+        pass!(check(is_refused, "the fault of what stands before this byte").at_step(len));
     }
-    read_edit(alloc, line).is_ok()
+    check(read_edit(alloc, line).is_ok(), "the edit of the whole line")
 }
 
 #[test]
-fn a_line_that_ends_too_early_is_refused(rt: HostRuntime) {
-    for line in LINES {
-        assert!(rt; are_fronts_refused(rt.alloc(), line));
+fn a_line_that_ends_too_early_is_refused(rt: HostRuntime) -> Outcome {
+    for (row, line) in LINES.iter().enumerate() {
+        pass!(check_fronts(rt.alloc(), line).in_row(row));
     }
+    Ok(())
 }
 
 // The fault of the line with this behind it.
@@ -97,7 +96,7 @@ fn fault_behind(alloc: Global, line: &[u8], more: &[u8]) -> Result<Option<LineFa
     Ok(read_edit(alloc, &longer).err())
 }
 
-fn is_end_judged(alloc: Global, line: &[u8]) -> Result<bool, AllocError> {
+fn check_end(alloc: Global, line: &[u8]) -> Outcome {
     let column = line.len().saturating_add(1);
     let extra = Some(LineFault {
         column,
@@ -112,14 +111,20 @@ fn is_end_judged(alloc: Global, line: &[u8]) -> Result<bool, AllocError> {
         fault_behind(alloc, line, b" x ")?,
         fault_behind(alloc, line, b" ")?,
     ];
-    Ok(faults == [extra, extra, empty] && fault_behind(alloc, line, b"\n")?.is_some())
+    pass!(check(
+        faults == [extra, extra, empty],
+        "the faults of what stands behind it",
+    ));
+    let of_lf = fault_behind(alloc, line, b"\n")?;
+    check(of_lf.is_some(), "the fault of an LF behind it")
 }
 
 #[test]
-fn a_line_that_goes_on_is_refused(rt: HostRuntime) {
-    for line in LINES {
-        assert!(rt; is_end_judged(rt.alloc(), line) == Ok(true));
+fn a_line_that_goes_on_is_refused(rt: HostRuntime) -> Outcome {
+    for (row, line) in LINES.iter().enumerate() {
+        pass!(check_end(rt.alloc(), line).in_row(row));
     }
+    Ok(())
 }
 
 const KINDS: &[(LineFaultKind, &str)] = &[
@@ -135,18 +140,20 @@ const KINDS: &[(LineFaultKind, &str)] = &[
     (LineFaultKind::Memory, "Memory"),
 ];
 
-fn prints(alloc: Global, fault: LineFault, text: &str) -> Result<bool, AllocError> {
-    Ok(fault.to_string(alloc)?.as_str() == text)
+fn check_fault(alloc: Global, fault: LineFault, text: &str) -> Outcome {
+    let said = fault.to_string(alloc)?;
+    check_bytes(said.as_bytes(), text.as_bytes())
 }
 
-fn prints_kind(alloc: Global, kind: LineFaultKind, word: &str) -> Result<bool, AllocError> {
-    Ok(kind.to_string(alloc)?.as_str() == word)
+fn check_kind(alloc: Global, kind: LineFaultKind, word: &str) -> Outcome {
+    let said = kind.to_string(alloc)?;
+    check_bytes(said.as_bytes(), word.as_bytes())
 }
 
 #[test]
-fn a_kind_has_a_word(rt: HostRuntime) -> Result<(), Fail> {
-    for (kind, word) in KINDS {
-        assert!(rt; prints_kind(rt.alloc(), *kind, word)?);
+fn a_kind_has_a_word(rt: HostRuntime) -> Outcome {
+    for (row, (kind, word)) in KINDS.iter().enumerate() {
+        pass!(check_kind(rt.alloc(), *kind, word).in_row(row));
     }
     Ok(())
 }
@@ -158,20 +165,22 @@ const FAULTS: &[(usize, LineFaultKind, &str)] = &[
 ];
 
 #[test]
-fn a_fault_has_a_text(rt: HostRuntime) -> Result<(), Fail> {
-    for (column, kind, text) in FAULTS {
+fn a_fault_has_a_text(rt: HostRuntime) -> Outcome {
+    for (row, (column, kind, text)) in FAULTS.iter().enumerate() {
         let fault = LineFault {
             column: *column,
             kind: *kind,
         };
-        assert!(rt; prints(rt.alloc(), fault, text)?);
+        pass!(check_fault(rt.alloc(), fault, text).in_row(row));
     }
     Ok(())
 }
 
 #[test]
-fn want_of_room_has_a_text(rt: HostRuntime) -> Result<(), Fail> {
+fn want_of_room_has_a_text(rt: HostRuntime) -> Outcome {
     let text = Full.to_string(rt.alloc())?;
-    assert!(rt; text.as_str() == "the line does not fit the buffer's spare room");
-    Ok(())
+    check_bytes(
+        text.as_bytes(),
+        b"the line does not fit the buffer's spare room",
+    )
 }

@@ -6,9 +6,10 @@ use nvt_config::Edit;
 use rand_pcg::Pcg32;
 use std::alloc::{AllocError, Global};
 use testkit_edits::{Kind, is_same_edit};
+use testkit_tables::{Outcome, Placed, check, check_bytes, pass};
 
 // Of each kind.
-const EDITS: u64 = 100;
+const EDITS: usize = 100;
 
 const SEED: u64 = 0x6c69_6e65;
 
@@ -17,11 +18,13 @@ const LINE_MAX: usize = 1_024;
 // What stands in a buffer before a line is written behind it.
 const BEFORE: &[u8] = b"before\n";
 
-// Whether a line says an edit that is this one, and is written the same.
-fn is_read_back(alloc: Global, edit: &Edit, line: &[u8]) -> Result<bool, AllocError> {
+// A line says an edit that is this one, and is written the same.
+fn check_read_back(alloc: Global, edit: &Edit, line: &[u8]) -> Outcome {
     match read_edit(alloc, line) {
-        Ok(read) => Ok(is_same_edit(&read, edit) && is_written(alloc, &read, line)?),
-        Err(_) => Ok(false),
+        Ok(read) => check(is_same_edit(&read, edit), "the edit that is read back").and(
+            check_written(alloc, &read, line),
+        ),
+        Err(_) => check(false, "an edit that is read back"),
     }
 }
 
@@ -32,20 +35,29 @@ fn buffer(alloc: Global, room: usize) -> Result<BytesMut, AllocError> {
     Ok(out)
 }
 
-// Whether the edit's line is this one, where there is room for it alone.
-fn is_written(alloc: Global, edit: &Edit, line: &[u8]) -> Result<bool, AllocError> {
+// The edit's line is this one, where there is room for it alone.
+fn check_written(alloc: Global, edit: &Edit, line: &[u8]) -> Outcome {
     let mut out = buffer(alloc, line.len())?;
     let written = write_edit(edit, &mut out);
-    let behind = out.as_slice().strip_prefix(BEFORE);
-    Ok(written == Ok(()) && behind == Some(line) && out.capacity() == out.len())
+    check_line(&out, written, line)
 }
 
-// Whether the edit is not written where its line is a byte longer than there is room.
-fn is_refused(alloc: Global, edit: &Edit, len: usize) -> Result<bool, AllocError> {
+fn check_line(out: &BytesMut, written: Result<(), Full>, line: &[u8]) -> Outcome {
+    pass!(check(written == Ok(()), "room for its line"));
+    match out.as_slice().strip_prefix(BEFORE) {
+        Some(behind) => check_bytes(behind, line)?,
+        None => return check(false, "what stood before the line"),
+    }
+    check(out.capacity() == out.len(), "no more room taken")
+}
+
+// The edit is not written where its line is a byte longer than there is room.
+fn check_refused(alloc: Global, edit: &Edit, len: usize) -> Outcome {
     let mut out = buffer(alloc, len.saturating_sub(1))?;
     let room = out.capacity().saturating_sub(out.len());
     let written = write_edit(edit, &mut out);
-    Ok((written, room) == (Err(Full), len.saturating_sub(1)) && out.as_slice() == BEFORE)
+    let is_refused = (written, room) == (Err(Full), len.saturating_sub(1));
+    check(is_refused, "no room for its line").and(check_bytes(out.as_slice(), BEFORE))
 }
 
 // Whether the line says another edit, or none, without its last byte.
@@ -57,8 +69,8 @@ fn is_another_cut(alloc: Global, edit: &Edit, line: &[u8]) -> bool {
     }
 }
 
-// Whether a space behind the line is a fault.
-fn is_longer_refused(alloc: Global, line: &mut BytesMut) -> Result<bool, AllocError> {
+// A space behind the line is a fault.
+fn check_longer_refused(alloc: Global, line: &mut BytesMut) -> Outcome {
     let len = line.len();
     line.extend_from_slice(b" ")?;
     let fault = if len < LINE_MAX {
@@ -72,41 +84,48 @@ fn is_longer_refused(alloc: Global, line: &mut BytesMut) -> Result<bool, AllocEr
             kind: LineFaultKind::TooLong,
         }
     };
-    Ok(read_edit(alloc, line.as_slice()).err() == Some(fault))
+    let is_refused = read_edit(alloc, line.as_slice()).err() == Some(fault);
+    check(is_refused, "the fault of a space behind its line")
 }
 
-// Whether all that is to hold of a line holds of the edit's.
-fn is_sound(alloc: Global, edit: &Edit, line: &mut BytesMut) -> Result<bool, AllocError> {
-    let is_written = write_edit(edit, line) == Ok(());
-    let is_read = is_read_back(alloc, edit, line.as_slice())?;
-    let is_refused = is_refused(alloc, edit, line.len())?;
+// All that is to hold of a line holds of the edit's.
+fn check_sound(alloc: Global, edit: &Edit, line: &mut BytesMut) -> Outcome {
+    pass!(check(write_edit(edit, line) == Ok(()), "room for its line"));
+    pass!(check(line.len() <= LINE_MAX, "a line of at most 1,024 bytes"));
+    pass!(check_read_back(alloc, edit, line.as_slice()));
+    pass!(check_refused(alloc, edit, line.len()));
     let is_another = is_another_cut(alloc, edit, line.as_slice());
-    let is_short = line.len() <= LINE_MAX;
-    Ok(
-        [is_written, is_read, is_refused, is_another, is_short] == [true; 5]
-            && is_longer_refused(alloc, line)?,
-    )
+    pass!(check(is_another, "another edit, or none, without the last byte"));
+    check_longer_refused(alloc, line)
 }
 
-fn has_sound_line(alloc: Global, edit: &Edit) -> Result<bool, AllocError> {
+fn check_edit(alloc: Global, edit: &Edit) -> Outcome {
     let mut line = BytesMut::with_capacity(alloc, LINE_MAX)?;
-    is_sound(alloc, edit, &mut line)
+    check_sound(alloc, edit, &mut line)
 }
 
-fn is_drawn_sound(alloc: Global, random: &mut Pcg32, kind: Kind) -> bool {
+fn check_drawn(alloc: Global, random: &mut Pcg32, kind: Kind) -> Outcome {
     match drawn(alloc, random, kind) {
-        Ok(edit) => has_sound_line(alloc, &edit) == Ok(true),
-        Err(_) => false,
+        Ok(edit) => check_edit(alloc, &edit),
+        Err(_) => check(false, "memory"),
     }
 }
 
-#[test]
-fn a_line_is_read_back(rt: HostRuntime) {
-    lines_are_read_back();
-    for (stream, kind) in Kind::ALL.iter().enumerate() {
-        let mut random = Pcg32::new(SEED, stream as u64);
-        for _ in 0..EDITS {
-            assert!(rt; is_drawn_sound(rt.alloc(), &mut random, *kind));
-        }
+fn check_kind(alloc: Global, number: u64, kind: Kind) -> Outcome {
+    let mut random = Pcg32::new(SEED, number);
+    for step in 0..EDITS {
+        pass!(check_drawn(alloc, &mut random, kind).at_step(step));
     }
+    Ok(())
+}
+
+// There is a script for each kind of edit.
+#[test]
+fn a_line_is_read_back(rt: HostRuntime) -> Outcome {
+    lines_are_read_back();
+    for (number, kind) in Kind::ALL.iter().enumerate() {
+        let number = number as u64;
+        pass!(check_kind(rt.alloc(), number, *kind).in_script(SEED, number));
+    }
+    Ok(())
 }

@@ -1,9 +1,10 @@
 //! What Connects are answered, each refusal in its order.
-use crate::steps::{Answer, Step, are_done};
+use crate::steps::{Answer, Step, check_steps};
 use fabrics_connect::{Controllers, laws};
 use nvt_config::{Access, Config};
 use std::alloc::{AllocError, Global};
 use testkit_edits::Line;
+use testkit_tables::{Outcome, Placed, check};
 
 // Port 1 serves subsystem open and subsystem shut, which allows host a alone; port 2 serves open;
 // no port serves subsystem away.
@@ -21,20 +22,22 @@ const CONFIGURATION: &[Step] = &[
     Step::Edit(Line::AllowAdd(b"nqn.shut", b"nqn.a")),
 ];
 
-fn are_all_done(alloc: Global, config: &mut Config, steps: &[Step]) -> bool {
+// The steps of the configuration are those of row 0, and the test's those of row 1.
+fn check_all(alloc: Global, config: &mut Config, steps: &[Step]) -> Outcome {
     match Controllers::new(alloc) {
         Ok(mut controllers) => {
-            are_done(alloc, config, &mut controllers, CONFIGURATION)
-                && are_done(alloc, config, &mut controllers, steps)
+            check_steps(alloc, config, &mut controllers, CONFIGURATION)
+                .in_row(0)
+                .and(check_steps(alloc, config, &mut controllers, steps).in_row(1))
         }
-        Err(AllocError) => false,
+        Err(AllocError) => check(false, "memory"),
     }
 }
 
-fn holds(alloc: Global, steps: &[Step]) -> bool {
+fn holds(alloc: Global, steps: &[Step]) -> Outcome {
     match Config::new(alloc, &[8]) {
-        Ok(mut config) => are_all_done(alloc, &mut config, steps),
-        Err(_) => false,
+        Ok(mut config) => check_all(alloc, &mut config, steps),
+        Err(_) => check(false, "memory"),
     }
 }
 
@@ -86,8 +89,8 @@ const PLACES: &[Step] = &[
 ];
 
 #[test]
-fn data_is_in_the_capsule(rt: HostRuntime) {
-    assert!(rt; holds(rt.alloc(), PLACES));
+fn data_is_in_the_capsule(rt: HostRuntime) -> Outcome {
+    holds(rt.alloc(), PLACES)
 }
 
 // The record format, then the queue's identifier, then its size, then the names.
@@ -131,8 +134,8 @@ const QUEUES: &[Step] = &[
 ];
 
 #[test]
-fn queues_are_up_to_8_and_up_to_64_entries(rt: HostRuntime) {
-    assert!(rt; holds(rt.alloc(), QUEUES));
+fn queues_are_up_to_8_and_up_to_64_entries(rt: HostRuntime) -> Outcome {
+    holds(rt.alloc(), QUEUES)
 }
 
 const NAMES: &[Step] = &[
@@ -190,8 +193,8 @@ const NAMES: &[Step] = &[
 ];
 
 #[test]
-fn names_are_known(rt: HostRuntime) {
-    assert!(rt; holds(rt.alloc(), NAMES));
+fn names_are_known(rt: HostRuntime) -> Outcome {
+    holds(rt.alloc(), NAMES)
 }
 
 const PERMISSIONS: &[Step] = &[
@@ -251,10 +254,10 @@ const PERMISSIONS: &[Step] = &[
 ];
 
 #[test]
-fn hosts_need_permission(rt: HostRuntime) {
-    assert!(rt; holds(rt.alloc(), PERMISSIONS));
+fn hosts_need_permission(rt: HostRuntime) -> Outcome {
     laws::hosts_need_permission();
     laws::hosts_are_admitted();
+    holds(rt.alloc(), PERMISSIONS)
 }
 
 const IDENTIFIERS: &[Step] = &[
@@ -298,10 +301,10 @@ const IDENTIFIERS: &[Step] = &[
 ];
 
 #[test]
-fn identifiers_are_least(rt: HostRuntime) {
-    assert!(rt; holds(rt.alloc(), IDENTIFIERS));
+fn identifiers_are_least(rt: HostRuntime) -> Outcome {
     laws::identifiers_are_least();
     laws::live_are_walked();
+    holds(rt.alloc(), IDENTIFIERS)
 }
 
 const ALL: &[u16] = &[
@@ -335,8 +338,8 @@ const FULL: &[Step] = &[
 ];
 
 #[test]
-fn there_are_32_controllers(rt: HostRuntime) {
-    assert!(rt; holds(rt.alloc(), FULL));
+fn there_are_32_controllers(rt: HostRuntime) -> Outcome {
+    holds(rt.alloc(), FULL)
 }
 
 // 1 is host a's on port 1, 2 a discovery controller, 3 of subsystem shut, 4 on port 2.
@@ -467,9 +470,9 @@ const JOINS: &[Step] = &[
 ];
 
 #[test]
-fn queues_join_their_maker(rt: HostRuntime) {
-    assert!(rt; holds(rt.alloc(), JOINS));
+fn queues_join_their_maker(rt: HostRuntime) -> Outcome {
     laws::queues_join_their_maker();
+    holds(rt.alloc(), JOINS)
 }
 
 const QUEUE_1: &[(usize, &[u8])] = &[(42, b"\x01")];
@@ -507,6 +510,6 @@ const LEAVES: &[Step] = &[
 ];
 
 #[test]
-fn queues_leave(rt: HostRuntime) {
-    assert!(rt; holds(rt.alloc(), LEAVES));
+fn queues_leave(rt: HostRuntime) -> Outcome {
+    holds(rt.alloc(), LEAVES)
 }

@@ -6,6 +6,7 @@ use pdu_codec::Sqe;
 use property_regs::ControllerKind;
 use std::alloc::{AllocError, Global};
 use testkit_edits::{Line, is_applied};
+use testkit_tables::{Outcome, Placed, check, pass};
 
 /// Bytes, and where they stand.
 pub type Patch = (usize, &'static [u8]);
@@ -215,17 +216,16 @@ fn is_done(alloc: Global, config: &mut Config, controllers: &mut Controllers, st
     true
 }
 
-/// Whether each edit is accepted and each Connect answered as its step says, in turn.
-pub fn are_done(
+/// Each edit is accepted and each Connect answered as its step says, in turn.
+pub fn check_steps(
     alloc: Global,
     config: &mut Config,
     controllers: &mut Controllers,
     steps: &[Step],
-) -> bool {
-    for step in steps {
-        if !is_done(alloc, config, controllers, *step) {
-            return false;
-        }
+) -> Outcome {
+    for (number, step) in steps.iter().enumerate() {
+        let is_done = is_done(alloc, config, controllers, *step);
+        pass!(check(is_done, "what this step comes to").at_step(number));
     }
-    true
+    Ok(())
 }

@@ -1,25 +1,24 @@
 //! What counts as a change of a host's records.
 use super::followed::{
-    A, B, Followed, H1, ONE_RECORD, STRANGER, Script, has_numbers, holds, is_made, page,
+    A, B, Followed, H1, ONE_RECORD, STRANGER, Script, check_numbers, holds, is_made, page,
 };
 use nvt_config::{Access, Edit, Family};
-use std::alloc::{AllocError, Global};
+use std::alloc::Global;
 use testkit_edits::{Line, edit};
+use testkit_tables::{Outcome, Placed, check, check_bytes, pass};
 
-// Whether each edit is accepted in turn, and then each host has this GENCTR and this NUMREC.
-fn are_counted(alloc: Global, followed: &mut Followed, rows: &[(Line<'_>, (u64, u64))]) -> bool {
-    for (line, (generation, records)) in rows {
-        if !is_made(alloc, followed, *line) {
-            return false;
-        }
-        let view = &followed.view;
-        let counted = has_numbers(view, H1, *generation, *records)
-            && has_numbers(view, STRANGER, *generation, *records);
-        if !counted {
-            return false;
-        }
+// Each edit is accepted in turn, and then each host has this GENCTR and this NUMREC.
+fn check_counted(
+    alloc: Global,
+    followed: &mut Followed,
+    rows: &[(Line<'_>, (u64, u64))],
+) -> Outcome {
+    for (row, (line, (generation, records))) in rows.iter().enumerate() {
+        pass!(check(is_made(alloc, followed, *line), "an edit that is accepted").in_row(row));
+        pass!(check_numbers(&followed.view, H1, *generation, *records).in_row(row));
+        pass!(check_numbers(&followed.view, STRANGER, *generation, *records).in_row(row));
     }
-    true
+    Ok(())
 }
 
 const BEFORE_A_MOVE: &[(Line<'static>, (u64, u64))] = &[
@@ -38,23 +37,22 @@ const AFTER_A_MOVE: &[(Line<'static>, (u64, u64))] = &[
     (Line::HostDel(H1), (4, 1)),
 ];
 
-pub fn are_moves_counted(alloc: Global, followed: &mut Followed) -> bool {
-    are_counted(alloc, followed, BEFORE_A_MOVE)
-        && has_service(alloc, followed, b"4421 ")
-        && are_counted(alloc, followed, AFTER_A_MOVE)
+// The step says before or after the move.
+pub fn check_moves(alloc: Global, followed: &mut Followed) -> Outcome {
+    pass!(check_counted(alloc, followed, BEFORE_A_MOVE).at_step(0));
+    pass!(check_service(alloc, followed, b"4421 "));
+    check_counted(alloc, followed, AFTER_A_MOVE).at_step(1)
 }
 
-// Whether the service of the one record begins so.
-fn has_service(alloc: Global, followed: &Followed, service: &[u8; 5]) -> bool {
-    match page(alloc, &followed.view, H1) {
-        Ok(page) => page.get(1056..1061) == Some(service.as_slice()),
-        Err(AllocError) => false,
-    }
+// The service of the one record begins so.
+fn check_service(alloc: Global, followed: &Followed, service: &[u8; 5]) -> Outcome {
+    let page = page(alloc, &followed.view, H1)?;
+    check_bytes(page.get(1056..1061).unwrap_or(&[]), service)
 }
 
 #[test]
-fn each_change_of_a_record_counts_once(rt: HostRuntime) {
-    assert!(rt; holds(rt.alloc(), &[], Script::Moves));
+fn each_change_of_a_record_counts_once(rt: HostRuntime) -> Outcome {
+    holds(rt.alloc(), &[], Script::Moves)
 }
 
 const ACCESS: &[(Line<'static>, (u64, u64))] = &[
@@ -68,13 +66,13 @@ const ACCESS: &[(Line<'static>, (u64, u64))] = &[
     (Line::LinkAdd(2, B), (4, 2)),
 ];
 
-pub fn is_access_counted(alloc: Global, followed: &mut Followed) -> bool {
-    are_counted(alloc, followed, ACCESS)
+pub fn check_access(alloc: Global, followed: &mut Followed) -> Outcome {
+    check_counted(alloc, followed, ACCESS)
 }
 
 #[test]
-fn each_change_of_access_counts_once(rt: HostRuntime) {
-    assert!(rt; holds(rt.alloc(), ONE_RECORD, Script::Access));
+fn each_change_of_access_counts_once(rt: HostRuntime) -> Outcome {
+    holds(rt.alloc(), ONE_RECORD, Script::Access)
 }
 
 // Plans an edit, which is accepted, and lets the plan go.
@@ -89,25 +87,27 @@ fn is_line_planned(alloc: Global, followed: &mut Followed, line: Line<'_>) -> bo
     }
 }
 
-// Whether two plans leave the host's page, as it was before, as it is.
-fn leave_page(alloc: Global, followed: &mut Followed, before: &[u8]) -> bool {
-    let are_planned = is_line_planned(alloc, followed, Line::LinkDel(1, A))
-        && is_line_planned(alloc, followed, Line::SubsystemSet(A, Access::Closed));
-    match page(alloc, &followed.view, H1) {
-        Ok(after) => are_planned && after.as_slice() == before,
-        Err(AllocError) => false,
-    }
+// Two plans leave the host's page, as it was before, as it is.
+fn check_page_left(alloc: Global, followed: &mut Followed, before: &[u8]) -> Outcome {
+    let links = is_line_planned(alloc, followed, Line::LinkDel(1, A));
+    pass!(check(links, "the plan of the link"));
+    let access = is_line_planned(alloc, followed, Line::SubsystemSet(A, Access::Closed));
+    pass!(check(access, "the plan of the access"));
+    let after = page(alloc, &followed.view, H1)?;
+    check_bytes(&after, before)
 }
 
-pub fn are_plans_let_go(alloc: Global, followed: &mut Followed) -> bool {
-    let is_left = match page(alloc, &followed.view, H1) {
-        Ok(before) => leave_page(alloc, followed, &before),
-        Err(AllocError) => false,
-    };
-    is_left && are_counted(alloc, followed, &[(Line::LinkDel(1, A), (2, 0))])
+fn check_plans_left(alloc: Global, followed: &mut Followed) -> Outcome {
+    let before = page(alloc, &followed.view, H1)?;
+    check_page_left(alloc, followed, &before)
+}
+
+pub fn check_plans(alloc: Global, followed: &mut Followed) -> Outcome {
+    pass!(check_plans_left(alloc, followed));
+    check_counted(alloc, followed, &[(Line::LinkDel(1, A), (2, 0))])
 }
 
 #[test]
-fn a_plan_alone_changes_no_answer(rt: HostRuntime) {
-    assert!(rt; holds(rt.alloc(), ONE_RECORD, Script::Plans));
+fn a_plan_alone_changes_no_answer(rt: HostRuntime) -> Outcome {
+    holds(rt.alloc(), ONE_RECORD, Script::Plans)
 }

@@ -5,6 +5,7 @@ use nvt_config::{Access, Config, Edit, NewFault};
 use nvt_fields::u64_at;
 use std::alloc::{AllocError, Global};
 use testkit_edits::{Line, edit};
+use testkit_tables::{Outcome, Placed, check, check_bytes, check_number, pass};
 
 pub const A: &[u8] = b"nqn.2026-01.test:a";
 
@@ -52,13 +53,11 @@ pub fn is_made(alloc: Global, followed: &mut Followed, line: Line<'_>) -> bool {
     }
 }
 
-fn are_made(alloc: Global, followed: &mut Followed, lines: &[Line<'_>]) -> bool {
-    for line in lines {
-        if !is_made(alloc, followed, *line) {
-            return false;
-        }
+fn check_made(alloc: Global, followed: &mut Followed, lines: &[Line<'_>]) -> Outcome {
+    for (row, line) in lines.iter().enumerate() {
+        pass!(check(is_made(alloc, followed, *line), "an edit that is accepted").in_row(row));
     }
-    true
+    Ok(())
 }
 
 /// What a test expects of a view.
@@ -74,38 +73,38 @@ pub enum Script {
     Zeros,
 }
 
-/// Whether a view that has followed these edits does what a script expects.
-pub fn holds(alloc: Global, lines: &[Line<'_>], script: Script) -> bool {
+/// A view that has followed these edits does what a script expects.
+pub fn holds(alloc: Global, lines: &[Line<'_>], script: Script) -> Outcome {
     match start(alloc) {
-        Ok(mut followed) => {
-            are_made(alloc, &mut followed, lines) && runs(alloc, &mut followed, script)
-        }
-        Err(_) => false,
+        Ok(mut followed) => runs(alloc, &mut followed, lines, script),
+        Err(_) => check(false, "memory"),
     }
 }
 
-fn runs(alloc: Global, followed: &mut Followed, script: Script) -> bool {
+fn runs(alloc: Global, followed: &mut Followed, lines: &[Line<'_>], script: Script) -> Outcome {
+    pass!(check_made(alloc, followed, lines));
     match script {
-        Script::Moves => counts::are_moves_counted(alloc, followed),
-        Script::Access => counts::is_access_counted(alloc, followed),
-        Script::Plans => counts::are_plans_let_go(alloc, followed),
-        _ => match page(alloc, &followed.view, H1) {
-            Ok(page) => shows(&followed.view, &page, script),
-            Err(AllocError) => false,
-        },
+        Script::Moves => counts::check_moves(alloc, followed),
+        Script::Access => counts::check_access(alloc, followed),
+        Script::Plans => counts::check_plans(alloc, followed),
+        _ => {
+            let page = page(alloc, &followed.view, H1)?;
+            check_page(&followed.view, &page, script)
+        }
     }
 }
 
-// Whether the view and its page are as expected.
-fn shows(view: &DiscoveryView, page: &[u8], script: Script) -> bool {
+// The view and its page are as expected.
+fn check_page(view: &DiscoveryView, page: &[u8], script: Script) -> Outcome {
     match script {
-        Script::Record(generation, family, service, address) => {
-            page == pages::one_record(generation, family, service, address).as_slice()
-        }
-        Script::Order => pages::is_in_order(page),
-        Script::Slices => pages::are_slices(view, page),
-        Script::Zeros => pages::are_zeros(view),
-        _ => false,
+        Script::Record(generation, family, service, address) => check_bytes(
+            page,
+            &pages::one_record(generation, family, service, address),
+        ),
+        Script::Order => pages::check_order(page),
+        Script::Slices => pages::check_slices(view, page),
+        Script::Zeros => pages::check_zeros(view),
+        _ => check(false, "a script of a page"),
     }
 }
 
@@ -125,12 +124,13 @@ pub fn page(alloc: Global, view: &DiscoveryView, host: &[u8]) -> Result<Vec<u8>,
     Ok(page)
 }
 
-/// Whether the host has this GENCTR and this NUMREC, as its page, its length and the count have them.
-pub fn has_numbers(view: &DiscoveryView, host: &[u8], generation: u64, records: u64) -> bool {
+/// The host has this GENCTR and this NUMREC, as its page, the count and its length have them.
+pub fn check_numbers(view: &DiscoveryView, host: &[u8], generation: u64, records: u64) -> Outcome {
     let mut header = [0; 16];
     view.window(host, 0, &mut header);
-    u64_at(&header, 0) == generation
-        && u64_at(&header, 8) == records
-        && view.count(host) == generation
-        && view.len(host) == records.saturating_mul(1024).saturating_add(1024)
+    pass!(check_number(u64_at(&header, 0), generation));
+    pass!(check_number(u64_at(&header, 8), records));
+    pass!(check_number(view.count(host), generation));
+    let len = records.saturating_mul(1024).saturating_add(1024);
+    check_number(view.len(host), len)
 }

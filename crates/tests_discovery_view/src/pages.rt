@@ -3,6 +3,7 @@ use super::followed::{A, B, H1, ONE_RECORD, Script, holds};
 use discovery_view::DiscoveryView;
 use nvt_config::{Access, Family};
 use testkit_edits::Line;
+use testkit_tables::{Outcome, Placed, check_bytes, check_number, pass};
 
 fn put(bytes: &mut [u8], at: usize, value: &[u8]) {
     if let Some(rest) = bytes.get_mut(at..) {
@@ -37,9 +38,9 @@ pub fn one_record(generation: u8, family: u8, service: &[u8], address: &[u8]) ->
 }
 
 #[test]
-fn a_record_has_the_bytes_of_the_standard(rt: HostRuntime) {
+fn a_record_has_the_bytes_of_the_standard(rt: HostRuntime) -> Outcome {
     let record = Script::Record(1, 0x01, b"4420", b"127.0.0.1");
-    assert!(rt; holds(rt.alloc(), ONE_RECORD, record));
+    holds(rt.alloc(), ONE_RECORD, record)
 }
 
 // The one record, whose port moves.
@@ -52,9 +53,9 @@ const MOVED: &[Line<'static>] = &[
 ];
 
 #[test]
-fn a_record_follows_its_port(rt: HostRuntime) {
+fn a_record_follows_its_port(rt: HostRuntime) -> Outcome {
     let record = Script::Record(2, 0x02, b"65535", b"::1");
-    assert!(rt; holds(rt.alloc(), MOVED, record));
+    holds(rt.alloc(), MOVED, record)
 }
 
 // Ports and subsystems out of order, and links between them.
@@ -89,71 +90,62 @@ const IN_ORDER: &[(u8, u8, &[u8; 7])] = &[
     (44, 1, b"nqn.a\0\0"),
 ];
 
-fn is_record(record: &[u8], low: u8, high: u8, name: &[u8; 7]) -> bool {
-    record.len() == 1024 && record[4..6] == [low, high] && record[256..263] == name[..]
+fn check_record(record: &[u8], low: u8, high: u8, name: &[u8; 7]) -> Outcome {
+    pass!(check_bytes(record.get(4..6).unwrap_or(&[]), &[low, high]));
+    check_bytes(record.get(256..263).unwrap_or(&[]), name)
 }
 
-pub fn is_in_order(page: &[u8]) -> bool {
+pub fn check_order(page: &[u8]) -> Outcome {
+    pass!(check_number(page.len() as u64, 9 * 1024));
     let records = page.chunks(1024).skip(1);
-    for (record, (low, high, name)) in records.zip(IN_ORDER) {
-        if !is_record(record, *low, *high, name) {
-            return false;
-        }
+    for (row, (record, (low, high, name))) in records.zip(IN_ORDER).enumerate() {
+        pass!(check_record(record, *low, *high, name).in_row(row));
     }
-    page.len() == 9 * 1024
+    Ok(())
 }
 
 #[test]
-fn records_come_by_port_and_then_by_name(rt: HostRuntime) {
-    assert!(rt; holds(rt.alloc(), OUT_OF_ORDER, Script::Order));
+fn records_come_by_port_and_then_by_name(rt: HostRuntime) -> Outcome {
+    holds(rt.alloc(), OUT_OF_ORDER, Script::Order)
 }
 
 // The longest part.
 const MOST: usize = 2100;
 
-// Whether the part of this length from this offset is that of the page, and zeros past its end.
-fn is_part(view: &DiscoveryView, page: &[u8], offset: u64, len: usize) -> bool {
+// The part of this length from this offset is that of the page, and zeros past its end.
+fn check_part(view: &DiscoveryView, page: &[u8], offset: u64, len: usize) -> Outcome {
+    let len = len.min(MOST);
     let mut room = [0x5A; MOST];
-    let out = &mut room[..len.min(MOST)];
-    view.window(H1, offset, out);
-    is_page_from(out, page, offset as usize)
+    view.window(H1, offset, &mut room[..len]);
+    let mut wanted = [0; MOST];
+    put(&mut wanted, 0, page.get(offset as usize..).unwrap_or(&[]));
+    check_bytes(&room[..len], &wanted[..len])
 }
 
-fn is_page_from(part: &[u8], page: &[u8], offset: usize) -> bool {
-    for (place, byte) in part.iter().enumerate() {
-        if page.get(offset.saturating_add(place)).copied().unwrap_or(0) != *byte {
-            return false;
-        }
-    }
-    true
-}
-
-// Whether all parts from this offset are.
-fn are_parts(view: &DiscoveryView, page: &[u8], offset: u64) -> bool {
+// All parts from this offset are; the step is the length.
+fn check_parts(view: &DiscoveryView, page: &[u8], offset: u64) -> Outcome {
     for len in [0, 1, 7, 16, 1023, 1024, 1025, MOST] {
-        if !is_part(view, page, offset, len) {
-            return false;
-        }
+        pass!(check_part(view, page, offset, len).at_step(len));
     }
-    true
+    Ok(())
 }
 
-pub fn are_slices(view: &DiscoveryView, page: &[u8]) -> bool {
-    for step in 0..260u64 {
-        if !are_parts(view, page, step * 13) {
-            return false;
-        }
+// The row is the offset.
+pub fn check_slices(view: &DiscoveryView, page: &[u8]) -> Outcome {
+    pass!(check_number(page.len() as u64, 3072));
+    for row in 0..260u64 {
+        let offset = row * 13;
+        pass!(check_parts(view, page, offset).in_row(offset as usize));
     }
-    page.len() == 3072
+    Ok(())
 }
 
-pub fn are_zeros(view: &DiscoveryView) -> bool {
-    for offset in [3072, 1 << 32, u64::MAX - 2100, u64::MAX] {
-        if !is_part(view, &[], offset, 24) {
-            return false;
-        }
+pub fn check_zeros(view: &DiscoveryView) -> Outcome {
+    let offsets = [3072, 1 << 32, u64::MAX - 2100, u64::MAX];
+    for (row, offset) in offsets.iter().enumerate() {
+        pass!(check_part(view, &[], *offset, 24).in_row(row));
     }
-    true
+    Ok(())
 }
 
 // The one record, and one of B as it opens.
@@ -167,11 +159,11 @@ const TWO_RECORDS: &[Line<'static>] = &[
 ];
 
 #[test]
-fn a_window_is_a_slice_of_the_page(rt: HostRuntime) {
-    assert!(rt; holds(rt.alloc(), TWO_RECORDS, Script::Slices));
+fn a_window_is_a_slice_of_the_page(rt: HostRuntime) -> Outcome {
+    holds(rt.alloc(), TWO_RECORDS, Script::Slices)
 }
 
 #[test]
-fn a_window_past_the_page_is_zeros(rt: HostRuntime) {
-    assert!(rt; holds(rt.alloc(), TWO_RECORDS, Script::Zeros));
+fn a_window_past_the_page_is_zeros(rt: HostRuntime) -> Outcome {
+    holds(rt.alloc(), TWO_RECORDS, Script::Zeros)
 }

@@ -6,8 +6,9 @@ use rand_core::utils::NextWord;
 use rand_pcg::Pcg32;
 use std::alloc::{AllocError, Global};
 use testkit_edits::{Blocks, Kind, Line, edit};
+use testkit_tables::{Outcome, Placed, check, check_bytes, check_number, check_rows, pass};
 
-const LISTS: u64 = 300;
+const SCRIPTS: u64 = 300;
 
 const EDITS: u32 = 40;
 
@@ -170,38 +171,40 @@ fn go_on(
     }
 }
 
-// Whether the view agrees with the plain program on the host.
-fn agrees(
+// The view agrees with the plain program on the host.
+fn check_host(
     alloc: Global,
     followed: &Followed,
     edits: &[Edit],
     host: &[u8],
     seen: &mut Seen,
-) -> bool {
+) -> Outcome {
     match plain::generation(alloc, UNITS, edits, host) {
         Ok(generation) => {
             seen.changes = seen.changes.wrapping_add(generation);
-            followed.view.count(host) == generation && shows_records(alloc, followed, host, seen)
+            pass!(check_number(followed.view.count(host), generation));
+            check_records(alloc, followed, host, seen)
         }
-        Err(_) => false,
+        Err(_) => check(false, "memory"),
     }
 }
 
-// Whether the host's page has the records of the plain program.
-fn shows_records(alloc: Global, followed: &Followed, host: &[u8], seen: &mut Seen) -> bool {
+// The host's page has the records of the plain program.
+fn check_records(alloc: Global, followed: &Followed, host: &[u8], seen: &mut Seen) -> Outcome {
     match plain::records(alloc, &followed.config, host) {
         Ok(records) => {
             seen.records = seen.records.wrapping_add(records.len() as u64 / 1024);
-            is_behind_header(alloc, followed, host, &records)
+            check_page(alloc, followed, host, &records)
         }
-        Err(_) => false,
+        Err(_) => check(false, "memory"),
     }
 }
 
-fn is_behind_header(alloc: Global, followed: &Followed, host: &[u8], records: &[u8]) -> bool {
-    match page(alloc, &followed.view, host) {
-        Ok(page) => page.get(1024..) == Some(records),
-        Err(AllocError) => false,
+fn check_page(alloc: Global, followed: &Followed, host: &[u8], records: &[u8]) -> Outcome {
+    let page = page(alloc, &followed.view, host)?;
+    match page.get(1024..) {
+        Some(shown) => check_bytes(shown, records),
+        None => check(false, "a header"),
     }
 }
 
@@ -242,40 +245,50 @@ fn add_host(
 
 const HOSTS: &[&[u8]] = &[b"nqn.h", b"nqn.late", b"nqn.new", b"nqn.stranger"];
 
-// Whether the view agrees on each host after a random list of edits.
-fn hosts_agree(
+// The rows are the hosts.
+fn check_hosts(alloc: Global, followed: &Followed, edits: &[Edit], seen: &mut Seen) -> Outcome {
+    for (row, host) in HOSTS.iter().enumerate() {
+        pass!(check_host(alloc, followed, edits, host, seen).in_row(row));
+    }
+    Ok(())
+}
+
+// The view agrees on each host after a random list of edits.
+fn check_edits(
     alloc: Global,
     followed: &mut Followed,
     random: &mut Pcg32,
     seen: &mut Seen,
-) -> bool {
+) -> Outcome {
     let mut edits = Vec::new(alloc);
-    let mut agree = make_list(alloc, followed, &mut edits, random, seen).is_ok()
+    let are_made = make_list(alloc, followed, &mut edits, random, seen).is_ok()
         && add_host(alloc, followed, &mut edits, random) == Ok(true);
-    for host in HOSTS {
-        agree &= agrees(alloc, followed, &edits, host, seen);
-    }
-    agree
+    check(are_made, "memory for the edits").and(check_hosts(alloc, followed, &edits, seen))
 }
 
-fn list_agrees(alloc: Global, random: &mut Pcg32, seen: &mut Seen) -> bool {
+fn check_script(alloc: Global, number: u64, seen: &mut Seen) -> Outcome {
+    let mut random = Pcg32::new(SEED, number);
     match start(alloc) {
-        Ok(mut followed) => hosts_agree(alloc, &mut followed, random, seen),
-        Err(_) => false,
+        Ok(mut followed) => check_edits(alloc, &mut followed, &mut random, seen),
+        Err(_) => check(false, "memory"),
     }
+}
+
+// What was seen is enough; the rows are the kinds of edits.
+fn check_seen(seen: &Seen) -> Outcome {
+    pass!(check(seen.records > 300, "how many records were seen"));
+    pass!(check(seen.changes > 300, "how many changes were seen"));
+    check_rows(
+        &seen.accepted.map(|count| count > 0),
+        "an edit of this kind that is accepted",
+    )
 }
 
 #[test]
-fn counts_are_those_of_the_plain_program(rt: HostRuntime) {
-    let mut random = Pcg32::new(SEED, 0);
+fn counts_are_those_of_the_plain_program(rt: HostRuntime) -> Outcome {
     let mut seen = Seen::NOTHING;
-    for _ in 0..LISTS {
-        assert!(rt; list_agrees(rt.alloc(), &mut random, &mut seen));
+    for number in 0..SCRIPTS {
+        pass!(check_script(rt.alloc(), number, &mut seen).in_script(SEED, number));
     }
-    assert!(rt; seen.records > 300 && seen.changes > 300);
-    assert!(rt;
-        !seen.accepted.contains(&0),
-        "accepted: {:?}",
-        seen.accepted
-    );
+    check_seen(&seen)
 }

@@ -2,6 +2,7 @@
 use super::checked::{Fault, compare, read, write, zero};
 use block_store::{DiskFault, FailingDisk, MemoryDisk, Store, UNIT_LEN};
 use std::alloc::{AllocError, Global};
+use testkit_tables::{Outcome, Placed, check_rows, check_steps, pass};
 
 const UNITS: usize = 5;
 
@@ -109,11 +110,18 @@ fn act(store: &mut Disk, call: Call) -> Result<bool, Fault> {
 }
 
 // The row's call fails, and succeeds when it is made again.
-fn fails_once(store: &mut Disk, row: &Row) -> bool {
-    act(store, row.call) == Err(Fault::Disk)
-        && has(store, &row.torn)
-        && act(store, row.call) == Ok(row.again)
-        && has(store, &row.after)
+fn check_once(store: &mut Disk, row: &Row) -> Outcome {
+    let steps = [
+        begin(store),
+        act(store, row.call) == Err(Fault::Disk),
+        has(store, &row.torn),
+        act(store, row.call) == Ok(row.again),
+        has(store, &row.after),
+    ];
+    check_steps(
+        &steps,
+        "the first write, the fault, the units then, the answer, the units then",
+    )
 }
 
 // A disk of which the call fails that comes when so many have passed after the first write.
@@ -129,21 +137,20 @@ fn begin(store: &mut Disk) -> bool {
     write(store, 0, &bytes) == Ok(())
 }
 
-fn holds(alloc: Global, row: &Row) -> Result<bool, AllocError> {
+fn check_row(alloc: Global, row: &Row) -> Outcome {
     let mut store = start(alloc, row.passes)?;
-    Ok(begin(&mut store) && fails_once(&mut store, row))
+    check_once(&mut store, row)
 }
 
-fn all_hold(alloc: Global, rows: &[Row]) -> bool {
-    let mut all = true;
-    for row in rows {
-        all &= holds(alloc, row) == Ok(true);
+fn check_all(alloc: Global, rows: &[Row]) -> Outcome {
+    for (number, row) in rows.iter().enumerate() {
+        pass!(check_row(alloc, row).in_row(number));
     }
-    all
+    Ok(())
 }
 
 #[test]
-fn a_read_or_a_compare_fails_at_each_unit(rt: HostRuntime) {
+fn a_read_or_a_compare_fails_at_each_unit(rt: HostRuntime) -> Outcome {
     let rows = [
         Row::of(Call::Read, 0, BEFORE, BEFORE, true),
         Row::of(Call::Read, 1, BEFORE, BEFORE, true),
@@ -154,11 +161,11 @@ fn a_read_or_a_compare_fails_at_each_unit(rt: HostRuntime) {
         Row::of(Call::CompareOther, 0, BEFORE, BEFORE, false),
         Row::of(Call::CompareOther, 2, BEFORE, BEFORE, false),
     ];
-    assert!(rt; all_hold(rt.alloc(), &rows));
+    check_all(rt.alloc(), &rows)
 }
 
 #[test]
-fn a_write_or_a_zero_fails_at_each_unit(rt: HostRuntime) {
+fn a_write_or_a_zero_fails_at_each_unit(rt: HostRuntime) -> Outcome {
     let rows = [
         Row::of(Call::Write, 0, BEFORE, [1, 7, 8, 9, 5], true),
         Row::of(Call::Write, 1, [1, 7, 3, 4, 5], [1, 7, 8, 9, 5], true),
@@ -168,21 +175,18 @@ fn a_write_or_a_zero_fails_at_each_unit(rt: HostRuntime) {
         Row::of(Call::Zero, 2, [1, 0, 0, 4, 5], [1, 0, 0, 0, 5], true),
         Row::of(Call::Sync, 0, BEFORE, BEFORE, true),
     ];
-    assert!(rt; all_hold(rt.alloc(), &rows));
+    check_all(rt.alloc(), &rows)
 }
 
 // One call fails, and it is the one behind those that pass.
-fn fails_at_the_second_sync(alloc: Global) -> Result<bool, AllocError> {
-    let mut store = Store::new(FailingDisk::new(MemoryDisk::new(alloc, 1)?, 1));
-    Ok(
-        store.sync() == Ok(())
-            && store.sync() == Err(DiskFault)
-            && store.sync() == Ok(())
-            && zero(&mut store, 0, 1) == Ok(()),
-    )
-}
-
 #[test]
-fn one_call_fails(rt: HostRuntime) {
-    assert!(rt; fails_at_the_second_sync(rt.alloc()) == Ok(true));
+fn one_call_fails(rt: HostRuntime) -> Outcome {
+    let mut store = Store::new(FailingDisk::new(MemoryDisk::new(rt.alloc(), 1)?, 1));
+    let rows = [
+        store.sync() == Ok(()),
+        store.sync() == Err(DiskFault),
+        store.sync() == Ok(()),
+        zero(&mut store, 0, 1) == Ok(()),
+    ];
+    check_rows(&rows, "the answer of this call")
 }

@@ -3,13 +3,13 @@ use super::checked::{compare, read, write, zero};
 use block_store::{MemoryDisk, Store, UNIT_LEN};
 use rand_core::utils::NextWord;
 use rand_pcg::Pcg32;
-use std::alloc::{AllocError, Global};
+use testkit_tables::{Outcome, Placed, check, pass};
 
 const UNITS: usize = 6;
 
 const LEN: usize = UNITS * UNIT_LEN;
 
-const STEPS: u32 = 2_000;
+const STEPS: usize = 2_000;
 
 const SEED: u64 = 0x626C_6F63;
 
@@ -106,12 +106,12 @@ fn step(random: &mut Pcg32, store: &mut Disk, plain: &mut [u8]) -> bool {
     }
 }
 
-fn steps(store: &mut Disk) -> bool {
+fn check_script(store: &mut Disk) -> Outcome {
     let mut random = Pcg32::new(SEED, 0);
     let mut plain = [0; LEN];
-    let mut agrees = store.blocks() == UNITS as u64;
-    for _ in 0..STEPS {
-        agrees &= step(&mut random, store, &mut plain);
+    for number in 0..STEPS {
+        let agrees = step(&mut random, store, &mut plain);
+        pass!(check(agrees, "the answer of this call").at_step(number));
     }
     let whole = Range {
         first: 0,
@@ -119,15 +119,12 @@ fn steps(store: &mut Disk) -> bool {
         at: 0,
         len: LEN,
     };
-    agrees && reads(store, &plain, whole)
-}
-
-fn agrees(alloc: Global) -> Result<bool, AllocError> {
-    let mut store = Store::new(MemoryDisk::new(alloc, UNITS as u64)?);
-    Ok(steps(&mut store))
+    let is_whole = store.blocks() == UNITS as u64 && reads(store, &plain, whole);
+    check(is_whole, "the whole disk at the end")
 }
 
 #[test]
-fn a_store_is_a_plain_list_of_bytes(rt: HostRuntime) {
-    assert!(rt; agrees(rt.alloc()) == Ok(true));
+fn a_store_is_a_plain_list_of_bytes(rt: HostRuntime) -> Outcome {
+    let mut store = Store::new(MemoryDisk::new(rt.alloc(), UNITS as u64)?);
+    check_script(&mut store).in_script(SEED, 0)
 }

@@ -7,51 +7,50 @@ use nvt_config::NewFault;
 use nvt_fields::NqnFault;
 use property_regs::InvalidField;
 use replay_lines::{ReplayFault, Reply};
-use std::alloc::{AllocError, Global};
+use std::alloc::Global;
 use std::fmt::Display;
 use target_core::{NoConn, StepFault};
+use testkit_tables::{Outcome, Placed, check_bytes, pass};
 
-// Whether this is the fault's text.
-fn says<D: Display>(alloc: Global, fault: &D, text: &str) -> bool {
-    match fault.to_string(alloc) {
-        Ok(said) => said.as_str() == text,
-        Err(AllocError) => false,
-    }
+// This is the fault's text.
+fn says<D: Display>(alloc: Global, fault: &D, text: &str) -> Outcome {
+    let said = fault.to_string(alloc)?;
+    check_bytes(said.as_bytes(), text.as_bytes())
 }
 
 #[test]
-fn a_name_that_is_none(rt: HostRuntime) {
+fn a_name_that_is_none(rt: HostRuntime) -> Outcome {
     let alloc = rt.alloc();
-    assert!(rt;
-        says(
-            alloc,
-            &NqnFault::TooLong,
-            "the name has more than 223 bytes"
-        )
-    );
+    pass!(says(
+        alloc,
+        &NqnFault::TooLong,
+        "the name has more than 223 bytes",
+    )
+    .in_row(0));
     let text = "the name is not `nqn.` and printable bytes after it";
-    assert!(rt; says(alloc, &NqnFault::BadNqn, text));
-    assert!(rt; says(alloc, &NqnFault::Memory, "memory"));
+    pass!(says(alloc, &NqnFault::BadNqn, text).in_row(1));
+    says(alloc, &NqnFault::Memory, "memory").in_row(2)
 }
 
 const DISKS: &str = "more than 256 disks, or a disk of more than 2^40 units";
 
 #[test]
-fn disks(rt: HostRuntime) {
+fn disks(rt: HostRuntime) -> Outcome {
     let alloc = rt.alloc();
-    assert!(rt; says(alloc, &DiskFault, "disk fault"));
-    assert!(rt; says(alloc, &NewFault::Disks, DISKS) && says(alloc, &NewFault::Memory, "memory"));
-    assert!(rt; says(alloc, &PlainFault::Disks, DISKS));
-    assert!(rt; says(alloc, &PlainFault::Memory, "memory"));
+    pass!(says(alloc, &DiskFault, "disk fault").in_row(0));
+    pass!(says(alloc, &NewFault::Disks, DISKS).in_row(1));
+    pass!(says(alloc, &NewFault::Memory, "memory").in_row(2));
+    pass!(says(alloc, &PlainFault::Disks, DISKS).in_row(3));
+    says(alloc, &PlainFault::Memory, "memory").in_row(4)
 }
 
 #[test]
-fn calls_of_a_target(rt: HostRuntime) {
+fn calls_of_a_target(rt: HostRuntime) -> Outcome {
     let alloc = rt.alloc();
-    assert!(rt; says(alloc, &InvalidField, "invalid field"));
-    assert!(rt; says(alloc, &NoConn, "no such connection"));
-    assert!(rt; says(alloc, &StepFault::NoConn, "no such connection"));
-    assert!(rt; says(alloc, &StepFault::Memory, "memory"));
+    pass!(says(alloc, &InvalidField, "invalid field").in_row(0));
+    pass!(says(alloc, &NoConn, "no such connection").in_row(1));
+    pass!(says(alloc, &StepFault::NoConn, "no such connection").in_row(2));
+    says(alloc, &StepFault::Memory, "memory").in_row(3)
 }
 
 const REFUSED: ReplayFault = ReplayFault::EditLine {
@@ -68,18 +67,17 @@ const FAULTY: ReplayFault = ReplayFault::EditLine {
 };
 
 #[test]
-fn a_replay(rt: HostRuntime) {
+fn a_replay(rt: HostRuntime) -> Outcome {
     let alloc = rt.alloc();
-    assert!(rt; says(alloc, &REFUSED, "line 12: refused Exists Port"));
-    assert!(rt; says(alloc, &FAULTY, "line 1: line 4 Missing"));
-    assert!(rt;
-        says(
-            alloc,
-            &ReplayFault::StreamLine { line: 30 },
-            "stream line 30"
-        )
-    );
-    assert!(rt; says(alloc, &ReplayFault::Memory, "memory"));
-    assert!(rt; says(alloc, &ReplayFault::Io, "io"));
-    assert!(rt; says(alloc, &ReplayFault::Disks, "disks"));
+    pass!(says(alloc, &REFUSED, "line 12: refused Exists Port").in_row(0));
+    pass!(says(alloc, &FAULTY, "line 1: line 4 Missing").in_row(1));
+    pass!(says(
+        alloc,
+        &ReplayFault::StreamLine { line: 30 },
+        "stream line 30",
+    )
+    .in_row(2));
+    pass!(says(alloc, &ReplayFault::Memory, "memory").in_row(3));
+    pass!(says(alloc, &ReplayFault::Io, "io").in_row(4));
+    says(alloc, &ReplayFault::Disks, "disks").in_row(5)
 }

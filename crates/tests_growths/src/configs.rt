@@ -4,10 +4,10 @@ use nvt_config::{
     Text,
 };
 use std::alloc::{AllocError, Global};
-use std::process::Abort;
 use std::test::Fail;
-use testkit_edits::growths::{A, EDITS, HOST, UNITS, edit_of, tell};
+use testkit_edits::growths::{A, EDITS, HOST, UNITS, edit_of, tell, used};
 use testkit_edits::{Line, again, is_same};
+use testkit_tables::{Outcome, Placed, check, check_rows, pass};
 
 // Makes the edit of a line; whether it is accepted, and all is as before where it wants memory.
 fn is_made(
@@ -40,15 +40,12 @@ fn applies(config: &mut Config, before: &Config, edit: &Edit, refused: &mut u32)
     (checked, applied) == (Ok(()), Ok(()))
 }
 
-fn edits_are_made(rt: &impl Abort, alloc: Global, config: &mut Config, refused: &mut u32) {
-    for line in EDITS {
-        again!(
-            rt,
-            *refused,
-            AllocError,
-            is_made(alloc, config, *line, refused)
-        );
+fn make_edits(alloc: Global, config: &mut Config, refused: &mut u32) -> Outcome {
+    for (row, line) in EDITS.iter().enumerate() {
+        let made = again!(*refused, AllocError, is_made(alloc, config, *line, refused));
+        pass!(check(made == Ok(true), "this edit").in_row(row));
     }
+    Ok(())
 }
 
 fn is_edited(config: &Config) -> bool {
@@ -155,28 +152,28 @@ fn uses_are_copied(config: &Config) -> Result<bool, AllocError> {
     Ok(are_copied)
 }
 
-fn use_config(rt: &impl Abort, alloc: Global, config: &mut Config, refused: &mut u32) {
-    edits_are_made(rt, alloc, config, refused);
-    assert!(rt; is_edited(config));
-    again!(rt, *refused, AllocError, items_are_copied(config));
-    again!(rt, *refused, AllocError, uses_are_copied(config));
-    again!(rt, *refused, AllocError, of_subsystems_are_copied(config));
+fn use_config(alloc: Global, config: &mut Config, refused: &mut u32) -> Outcome {
+    pass!(make_edits(alloc, config, refused));
+    let items = again!(*refused, AllocError, items_are_copied(config));
+    let uses = again!(*refused, AllocError, uses_are_copied(config));
+    let others = again!(*refused, AllocError, of_subsystems_are_copied(config));
+    let rows = [
+        is_edited(config),
+        items == Ok(true),
+        uses == Ok(true),
+        others == Ok(true),
+    ];
+    check_rows(&rows, "the lists, and the copies of their items")
 }
 
-fn is_used(rt: &impl Abort, alloc: Global, refused: &mut u32) -> Result<bool, NewFault> {
+fn use_new(alloc: Global, refused: &mut u32) -> Result<Outcome, NewFault> {
     let mut config = Config::new(alloc, UNITS)?;
-    use_config(rt, alloc, &mut config, refused);
-    Ok(true)
+    Ok(use_config(alloc, &mut config, refused))
 }
 
 #[test]
 fn configurations(rt: HostRuntime) -> Result<(), Fail> {
     let mut refused = 0u32;
-    again!(
-        rt,
-        refused,
-        NewFault::Memory,
-        is_used(&rt, rt.alloc(), &mut refused)
-    );
-    tell(&rt, refused)
+    let answer = again!(refused, NewFault::Memory, use_new(rt.alloc(), &mut refused));
+    tell(&rt, refused, used(answer))
 }

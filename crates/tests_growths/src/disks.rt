@@ -3,7 +3,8 @@ use block_store::{MemoryDisk, Store, UNIT_LEN};
 use std::alloc::{AllocError, Global};
 use std::test::Fail;
 use testkit_edits::again;
-use testkit_edits::growths::tell;
+use testkit_edits::growths::{tell, used};
+use testkit_tables::{Outcome, check};
 
 fn works(store: &mut Store<MemoryDisk>) -> bool {
     let unit = [0x5A; UNIT_LEN];
@@ -14,14 +15,14 @@ fn works(store: &mut Store<MemoryDisk>) -> bool {
         && out == unit
 }
 
-fn is_used(alloc: Global) -> Result<bool, AllocError> {
+fn use_new(alloc: Global) -> Result<Outcome, AllocError> {
     let mut store = Store::new(MemoryDisk::new(alloc, 8)?);
-    Ok(works(&mut store))
+    Ok(check(works(&mut store), "what a disk reads and writes"))
 }
 
 #[test]
 fn memory_disks(rt: HostRuntime) -> Result<(), Fail> {
     let mut refused = 0u32;
-    again!(rt, refused, AllocError, is_used(rt.alloc()));
-    tell(&rt, refused)
+    let answer = again!(refused, AllocError, use_new(rt.alloc()));
+    tell(&rt, refused, used(answer))
 }

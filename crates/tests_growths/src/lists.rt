@@ -3,8 +3,9 @@ use change_lists::ActiveView;
 use nvt_config::{Access, AnaState, Config, Edit, EditFault, NewFault};
 use std::alloc::{AllocError, Global};
 use std::test::Fail;
-use testkit_edits::growths::{A, B, edit_of, tell};
+use testkit_edits::growths::{A, B, edit_of, tell, used};
 use testkit_edits::{Blocks, Line, again};
+use testkit_tables::{Outcome, Placed, check, check_bytes};
 
 const UNITS: &[u64] = &[8; 3];
 
@@ -110,23 +111,24 @@ fn is_followed(alloc: Global, followed: &mut Followed, line: Line<'_>) -> Result
     answer
 }
 
-fn are_followed(alloc: Global, followed: &mut Followed) -> Result<bool, AllocError> {
-    for line in EDITS {
+fn follow_all(alloc: Global, followed: &mut Followed) -> Result<Outcome, AllocError> {
+    for (row, line) in EDITS.iter().enumerate() {
         if !is_followed(alloc, followed, *line)? {
-            return Ok(false);
+            return Ok(check(false, "this edit").in_row(row));
         }
     }
-    Ok(shown(followed) == *b"\x03\0\0\0\0\0\0\0\x02\0\0\0\0\0\0\0")
+    let wanted = b"\x03\0\0\0\0\0\0\0\x02\0\0\0\0\0\0\0";
+    Ok(check_bytes(&shown(followed), wanted))
 }
 
-fn is_used(alloc: Global) -> Result<bool, AllocError> {
+fn use_new(alloc: Global) -> Result<Outcome, AllocError> {
     let mut followed = start(alloc)?;
-    are_followed(alloc, &mut followed)
+    follow_all(alloc, &mut followed)
 }
 
 #[test]
 fn active_lists(rt: HostRuntime) -> Result<(), Fail> {
     let mut refused = 0u32;
-    again!(rt, refused, AllocError, is_used(rt.alloc()));
-    tell(&rt, refused)
+    let answer = again!(refused, AllocError, use_new(rt.alloc()));
+    tell(&rt, refused, used(answer))
 }

@@ -10,11 +10,12 @@ use std::alloc::{AllocError, Global};
 use std::test::Fail;
 use testkit_edits::growths::{HOST, NAMESPACE, edit_of, tell};
 use testkit_edits::{Line, again, is_same_edit};
+use testkit_tables::{Outcome, Placed, check, pass};
 
 // A test that makes no growth of its own: what stands beside each test's growths is counted with it.
 #[test]
 fn nothing_grows(rt: HostRuntime) -> Result<(), Fail> {
-    tell(&rt, 0)
+    tell(&rt, 0, Ok(()))
 }
 
 fn is_copied(name: &Nqn) -> Result<bool, AllocError> {
@@ -237,11 +238,17 @@ fn is_right(alloc: Global, part: Part) -> Result<bool, AllocError> {
     }
 }
 
+fn check_parts(alloc: Global, refused: &mut u32) -> Outcome {
+    for (row, part) in PARTS.iter().enumerate() {
+        let answer = again!(*refused, AllocError, is_right(alloc, *part));
+        pass!(check(answer == Ok(true), "this part").in_row(row));
+    }
+    Ok(())
+}
+
 #[test]
 fn parts(rt: HostRuntime) -> Result<(), Fail> {
     let mut refused = 0u32;
-    for part in PARTS {
-        again!(rt, refused, AllocError, is_right(rt.alloc(), *part));
-    }
-    tell(&rt, refused)
+    let outcome = check_parts(rt.alloc(), &mut refused);
+    tell(&rt, refused, outcome)
 }

@@ -2,10 +2,10 @@
 use discovery_view::DiscoveryView;
 use nvt_config::{Config, Edit, EditFault, NewFault};
 use std::alloc::{AllocError, Global};
-use std::process::Abort;
 use std::test::Fail;
-use testkit_edits::growths::{EDITS, HOST, UNITS, edit_of, tell};
+use testkit_edits::growths::{EDITS, HOST, UNITS, edit_of, tell, used};
 use testkit_edits::{Line, again};
+use testkit_tables::{Outcome, Placed, check, pass};
 
 // A configuration and its view.
 #[derive(Drop)]
@@ -72,16 +72,16 @@ fn is_shown(view: &DiscoveryView) -> bool {
         && view.is_past_end(HOST, 3073)
 }
 
-fn follow_edits(rt: &impl Abort, alloc: Global, followed: &mut Followed, refused: &mut u32) {
-    for line in EDITS {
-        again!(
-            rt,
+fn follow_edits(alloc: Global, followed: &mut Followed, refused: &mut u32) -> Outcome {
+    for (row, line) in EDITS.iter().enumerate() {
+        let answer = again!(
             *refused,
             AllocError,
             is_edited(alloc, followed, *line, refused)
         );
+        pass!(check(answer == Ok(true), "this edit").in_row(row));
     }
-    assert!(rt; is_shown(&followed.view));
+    check(is_shown(&followed.view), "the page at the end")
 }
 
 fn start(alloc: Global) -> Result<Followed, NewFault> {
@@ -92,20 +92,14 @@ fn start(alloc: Global) -> Result<Followed, NewFault> {
     }
 }
 
-fn is_used(rt: &impl Abort, alloc: Global, refused: &mut u32) -> Result<bool, NewFault> {
+fn use_new(alloc: Global, refused: &mut u32) -> Result<Outcome, NewFault> {
     let mut followed = start(alloc)?;
-    follow_edits(rt, alloc, &mut followed, refused);
-    Ok(true)
+    Ok(follow_edits(alloc, &mut followed, refused))
 }
 
 #[test]
 fn views(rt: HostRuntime) -> Result<(), Fail> {
     let mut refused = 0u32;
-    again!(
-        rt,
-        refused,
-        NewFault::Memory,
-        is_used(&rt, rt.alloc(), &mut refused)
-    );
-    tell(&rt, refused)
+    let answer = again!(refused, NewFault::Memory, use_new(rt.alloc(), &mut refused));
+    tell(&rt, refused, used(answer))
 }

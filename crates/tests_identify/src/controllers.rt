@@ -1,6 +1,7 @@
 //! Controllers: an I/O controller and a discovery controller.
 use crate::fields::{Field, OLD, shows};
 use identify_data::{ControllerIdentity, controller};
+use testkit_tables::{Outcome, check_bytes, pass};
 
 // Of an I/O controller with identifier 2105h.
 const IO: &[Field] = &[
@@ -66,7 +67,7 @@ const DISCOVERY: &[Field] = &[
 ];
 
 #[test]
-fn an_io_controller(rt: HostRuntime) {
+fn an_io_controller() -> Outcome {
     let identity = ControllerIdentity::Io {
         cntlid: 0x2105,
         serial: b"SER-0017",
@@ -74,19 +75,19 @@ fn an_io_controller(rt: HostRuntime) {
     };
     let mut out = OLD;
     controller(&identity, &mut out);
-    assert!(rt; shows(&out, IO));
+    shows(&out, IO)
 }
 
 #[test]
-fn a_discovery_controller(rt: HostRuntime) {
+fn a_discovery_controller() -> Outcome {
     let mut out = OLD;
     controller(&ControllerIdentity::Discovery { cntlid: 3 }, &mut out);
-    assert!(rt; shows(&out, DISCOVERY));
+    shows(&out, DISCOVERY)
 }
 
 // Texts that fill their fields.
 #[test]
-fn long_texts(rt: HostRuntime) {
+fn long_texts() -> Outcome {
     let name = [b'n'; 256];
     let identity = ControllerIdentity::Io {
         cntlid: 1,
@@ -95,7 +96,8 @@ fn long_texts(rt: HostRuntime) {
     };
     let mut out = OLD;
     controller(&identity, &mut out);
-    assert!(rt; &out[4..24] == b"12345678901234567890".as_slice());
-    assert!(rt; out[24] == b'N');
-    assert!(rt; out[767] == 0 && &out[768..1024] == name.as_slice() && out[1024] == 0);
+    pass!(check_bytes(&out[4..25], b"12345678901234567890N"));
+    let mut wanted = [0; 258];
+    wanted[1..257].copy_from_slice(&name);
+    check_bytes(&out[767..1025], &wanted)
 }

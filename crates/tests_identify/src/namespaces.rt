@@ -5,6 +5,7 @@ use identify_data::{descriptors, namespace};
 use nvt_fields::Nqn;
 use std::alloc::Global;
 use std::test::Fail;
+use testkit_tables::Outcome;
 use uuid::Uuid;
 
 // 010203040506h blocks of 512 bytes, in ANA group 7.
@@ -61,8 +62,7 @@ fn blocks_of_512_bytes(rt: HostRuntime) -> Result<(), Fail> {
     let it = a_namespace(rt.alloc(), 0x0102_0304_0506, BlockSize::Bytes512, 7)?;
     let mut out = OLD;
     namespace(Some(&it), &mut out);
-    assert!(rt; shows(&out, OF_512));
-    Ok(())
+    Ok(shows(&out, OF_512)?)
 }
 
 #[test]
@@ -70,15 +70,14 @@ fn blocks_of_4096_bytes(rt: HostRuntime) -> Result<(), Fail> {
     let it = a_namespace(rt.alloc(), 0x0900, BlockSize::Bytes4096, 32)?;
     let mut out = OLD;
     namespace(Some(&it), &mut out);
-    assert!(rt; shows(&out, OF_4096));
-    Ok(())
+    Ok(shows(&out, OF_4096)?)
 }
 
 #[test]
-fn an_inactive_identifier(rt: HostRuntime) {
+fn an_inactive_identifier() -> Outcome {
     let mut out = OLD;
     namespace(None, &mut out);
-    assert!(rt; shows(&out, &[]));
+    shows(&out, &[])
 }
 
 #[test]
@@ -86,6 +85,5 @@ fn a_uuid_in_the_order_of_its_text(rt: HostRuntime) -> Result<(), Fail> {
     let it = a_namespace(rt.alloc(), 1, BlockSize::Bytes512, 1)?;
     let mut out = OLD;
     descriptors(&it, &mut out);
-    assert!(rt; shows(&out, DESCRIPTORS));
-    Ok(())
+    Ok(shows(&out, DESCRIPTORS)?)
 }

@@ -5,6 +5,7 @@ use std::alloc::Global;
 use testkit_queues::{
     Command, Driver, Opcode, READ_ERROR, SMALL, Script, WRITE_FAULT, fill, holds_over,
 };
+use testkit_tables::{Outcome, check, check_steps};
 
 type FailingDriver = Driver<FailingDisk<MemoryDisk>>;
 
@@ -15,24 +16,39 @@ fn blocks(values: [u8; 2]) -> [u8; 1024] {
     blocks
 }
 
-fn fails_to_write(driver: &mut FailingDriver) -> bool {
-    let write = Command::of(Opcode::Write, 1, 0, 2);
-    let mut torn = [0u8; 1024];
-    let fails = driver.answers(0, &write, &blocks([7, 8]), &[], WRITE_FAULT)
-        && driver.reads_to(0, &mut torn);
-    let is_torn = torn == [0u8; 1024]
-        || torn == blocks([7, 0])
-        || torn == blocks([0, 8])
-        || torn == blocks([7, 8]);
-    fails
-        && is_torn
-        && driver.writes(0, &write, &blocks([5, 6]))
-        && driver.reads(0, &Command::of(Opcode::Read, 1, 0, 2), &blocks([5, 6]))
+fn is_torn(torn: &[u8; 1024]) -> bool {
+    *torn == [0u8; 1024]
+        || *torn == blocks([7, 0])
+        || *torn == blocks([0, 8])
+        || *torn == blocks([7, 8])
 }
 
-fn fails_to_read(driver: &mut FailingDriver) -> bool {
+fn fails_to_write(driver: &mut FailingDriver) -> Outcome {
+    let write = Command::of(Opcode::Write, 1, 0, 2);
     let read = Command::of(Opcode::Read, 1, 0, 2);
-    driver.answers(0, &read, &[], &[], READ_ERROR) && driver.reads(0, &read, &[0; 1024])
+    let mut torn = [0u8; 1024];
+    let steps = [
+        driver.begin(&[SMALL]),
+        driver.answers(0, &write, &blocks([7, 8]), &[], WRITE_FAULT),
+        driver.reads_to(0, &mut torn),
+        is_torn(&torn),
+        driver.writes(0, &write, &blocks([5, 6])),
+        driver.reads(0, &read, &blocks([5, 6])),
+    ];
+    check_steps(
+        &steps,
+        "the fault, a Read, what it gives, a Write and a Read",
+    )
+}
+
+fn fails_to_read(driver: &mut FailingDriver) -> Outcome {
+    let read = Command::of(Opcode::Read, 1, 0, 2);
+    let steps = [
+        driver.begin(&[SMALL]),
+        driver.answers(0, &read, &[], &[], READ_ERROR),
+        driver.reads(0, &read, &[0; 1024]),
+    ];
+    check_steps(&steps, "the fault, and a Read")
 }
 
 #[derive(Clone, Copy)]
@@ -42,29 +58,28 @@ enum Fails {
 }
 
 impl Script<FailingDisk<MemoryDisk>> for Fails {
-    fn holds(&self, driver: &mut FailingDriver) -> bool {
-        driver.begin(&[SMALL])
-            && match self {
-                Fails::Write => fails_to_write(driver),
-                Fails::Read => fails_to_read(driver),
-            }
+    fn holds(&self, driver: &mut FailingDriver) -> Outcome {
+        match self {
+            Fails::Write => fails_to_write(driver),
+            Fails::Read => fails_to_read(driver),
+        }
     }
 }
 
 // The second call of the disk fails.
-fn holds(alloc: Global, fails: Fails) -> bool {
+fn holds(alloc: Global, fails: Fails) -> Outcome {
     match failing_disk(alloc, 1) {
         Ok(disks) => holds_over(alloc, disks, &fails),
-        Err(_) => false,
+        Err(_) => check(false, "memory"),
     }
 }
 
 #[test]
-fn a_write_fails_at_its_second_block(rt: HostRuntime) {
-    assert!(rt; holds(rt.alloc(), Fails::Write));
+fn a_write_fails_at_its_second_block(rt: HostRuntime) -> Outcome {
+    holds(rt.alloc(), Fails::Write)
 }
 
 #[test]
-fn a_read_fails_at_its_second_block(rt: HostRuntime) {
-    assert!(rt; holds(rt.alloc(), Fails::Read));
+fn a_read_fails_at_its_second_block(rt: HostRuntime) -> Outcome {
+    holds(rt.alloc(), Fails::Read)
 }

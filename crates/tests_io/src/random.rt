@@ -2,13 +2,13 @@
 use block_store::MemoryDisk;
 use rand_core::utils::NextWord;
 use rand_pcg::Pcg32;
-use std::alloc::Global;
 use testkit_edits::{Blocks, memory_disks};
 use testkit_queues::{
     COMPARE_FAILURE, Command, Driver, Opcode, SMALL, Script, block_len, holds_over, part, put,
 };
+use testkit_tables::{Outcome, Placed, check, pass};
 
-const STEPS: u32 = 1_500;
+const STEPS: usize = 1_500;
 
 const SEED: u64 = 0x696F_7465;
 
@@ -167,28 +167,24 @@ fn is_whole(driver: &mut Driver<MemoryDisk>, plain: &Plain) -> bool {
 struct Steps;
 
 impl Script<MemoryDisk> for Steps {
-    fn holds(&self, driver: &mut Driver<MemoryDisk>) -> bool {
+    fn holds(&self, driver: &mut Driver<MemoryDisk>) -> Outcome {
         let mut random = Pcg32::new(SEED, 0);
         let mut plain = Plain {
             small: [0; LEN],
             large: [0; LEN],
         };
-        let mut agrees = driver.begin(&[SMALL, LARGE]);
-        for _ in 0..STEPS {
-            agrees &= step(&mut random, driver, &mut plain);
+        let begins = driver.begin(&[SMALL, LARGE]);
+        for number in 0..STEPS {
+            let agrees = step(&mut random, driver, &mut plain);
+            pass!(check(agrees, "the answer of this command").at_step(number));
         }
-        agrees && is_whole(driver, &plain)
-    }
-}
-
-fn holds(alloc: Global) -> bool {
-    match memory_disks(alloc, &[32, 32]) {
-        Ok(disks) => holds_over(alloc, disks, &Steps),
-        Err(_) => false,
+        let is_whole = is_whole(driver, &plain);
+        check(begins && is_whole, "both disks at the end")
     }
 }
 
 #[test]
-fn disks_are_plain_lists_of_bytes(rt: HostRuntime) {
-    assert!(rt; holds(rt.alloc()));
+fn disks_are_plain_lists_of_bytes(rt: HostRuntime) -> Outcome {
+    let disks = memory_disks(rt.alloc(), &[32, 32])?;
+    holds_over(rt.alloc(), disks, &Steps).in_script(SEED, 0)
 }

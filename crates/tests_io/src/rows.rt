@@ -1,8 +1,8 @@
 //! A Read's bytes, and the end of a namespace.
 use block_store::MemoryDisk;
-use std::alloc::Global;
 use testkit_edits::{Blocks, memory_disks};
 use testkit_queues::{Command, Driver, LBA_OUT_OF_RANGE, Opcode, SMALL, Script, holds_over};
+use testkit_tables::{Outcome, check_steps};
 
 const LAST: Blocks = Blocks {
     blocks: 2048,
@@ -37,21 +37,18 @@ fn sent() -> [u8; 560] {
 struct LastBlock;
 
 impl Script<MemoryDisk> for LastBlock {
-    fn holds(&self, driver: &mut Driver<MemoryDisk>) -> bool {
-        driver.begin(&[LAST])
-            && driver.sends(0, &read_of(2047), &sent())
-            && driver.answers(0, &read_of(2048), &[], &[], LBA_OUT_OF_RANGE)
-    }
-}
-
-fn holds(alloc: Global) -> bool {
-    match memory_disks(alloc, &[2048]) {
-        Ok(disks) => holds_over(alloc, disks, &LastBlock),
-        Err(_) => false,
+    fn holds(&self, driver: &mut Driver<MemoryDisk>) -> Outcome {
+        let steps = [
+            driver.begin(&[LAST]),
+            driver.sends(0, &read_of(2047), &sent()),
+            driver.answers(0, &read_of(2048), &[], &[], LBA_OUT_OF_RANGE),
+        ];
+        check_steps(&steps, "the last block, and the one behind it")
     }
 }
 
 #[test]
-fn the_last_block_is_read(rt: HostRuntime) {
-    assert!(rt; holds(rt.alloc()));
+fn the_last_block_is_read(rt: HostRuntime) -> Outcome {
+    let disks = memory_disks(rt.alloc(), &[2048])?;
+    holds_over(rt.alloc(), disks, &LastBlock)
 }

@@ -4,6 +4,7 @@ use std::alloc::{AllocError, Global};
 use std::cell::Cell;
 use std::rc::Rc;
 use testkit_queues::{Command, Driver, Opcode, SMALL, Script, holds_over};
+use testkit_tables::{Outcome, Placed, check, pass};
 
 // How often a disk was read, written and synced, and how many writes came after the latest sync.
 #[derive(Clone, Copy, PartialEq, Eq)]
@@ -164,14 +165,16 @@ struct Counted {
 }
 
 impl Script<CountingDisk> for Counted {
-    fn holds(&self, driver: &mut Driver<CountingDisk>) -> bool {
+    fn holds(&self, driver: &mut Driver<CountingDisk>) -> Outcome {
         let calls = &self.calls;
-        let mut are_counted = driver.begin(&[SMALL]) && calls.get() == NONE;
-        for row in &ROWS {
+        let begins = driver.begin(&[SMALL]) && calls.get() == NONE;
+        pass!(check(begins, "no call before the first command"));
+        for (number, row) in ROWS.iter().enumerate() {
             calls.set(NONE);
-            are_counted &= is_done(driver, row) && calls.get() == row.calls;
+            let are_counted = is_done(driver, row) && calls.get() == row.calls;
+            pass!(check(are_counted, "the answer and the calls").in_row(number));
         }
-        are_counted
+        Ok(())
     }
 }
 
@@ -184,13 +187,9 @@ fn counting_disk(alloc: Global, calls: Rc<Cell<Calls>>) -> Result<Vec<CountingDi
     Ok(disks)
 }
 
-fn holds(alloc: Global) -> Result<bool, AllocError> {
-    let calls = Rc::new(alloc, Cell::new(NONE))?;
-    let disks = counting_disk(alloc, Rc::clone(&calls)?)?;
-    Ok(holds_over(alloc, disks, &Counted { calls }))
-}
-
 #[test]
-fn a_flush_and_fua_sync_once(rt: HostRuntime) {
-    assert!(rt; holds(rt.alloc()) == Ok(true));
+fn a_flush_and_fua_sync_once(rt: HostRuntime) -> Outcome {
+    let calls = Rc::new(rt.alloc(), Cell::new(NONE))?;
+    let disks = counting_disk(rt.alloc(), Rc::clone(&calls)?)?;
+    holds_over(rt.alloc(), disks, &Counted { calls })
 }

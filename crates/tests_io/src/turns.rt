@@ -6,6 +6,7 @@ use testkit_queues::{
     COMPARE_FAILURE, Command, Driver, Opcode, READ_ERROR, SMALL, SUCCESS, Script, WRITE_FAULT,
     fill, holds_over, part, put,
 };
+use testkit_tables::{Outcome, Placed, check, pass};
 
 type FailingDriver = Driver<FailingDisk<MemoryDisk>>;
 
@@ -195,31 +196,37 @@ struct Turn<'a> {
 }
 
 impl Script<FailingDisk<MemoryDisk>> for Turn<'_> {
-    fn holds(&self, driver: &mut FailingDriver) -> bool {
+    fn holds(&self, driver: &mut FailingDriver) -> Outcome {
         let all = Command::of(Opcode::Write, 1, 0, 6);
-        driver.begin(&[SMALL])
-            && driver.writes(0, &all, &before())
-            && if self.number < self.row.calls {
-                fails_once(driver, self.row)
-            } else {
-                is_done(driver, self.row)
-            }
+        let begins = driver.begin(&[SMALL]) && driver.writes(0, &all, &before());
+        if self.number < self.row.calls {
+            check(begins && fails_once(driver, self.row), "the fault")
+        } else {
+            check(begins && is_done(driver, self.row), "the answer")
+        }
     }
 }
 
 // As many calls pass at first as there are blocks, which are written.
-fn holds(alloc: Global, row: &Row, number: u64) -> bool {
+fn holds(alloc: Global, row: &Row, number: u64) -> Outcome {
     match failing_disk(alloc, number.saturating_add(BLOCKS as u64)) {
         Ok(disks) => holds_over(alloc, disks, &Turn { row, number }),
-        Err(_) => false,
+        Err(_) => check(false, "memory"),
     }
 }
 
-#[test]
-fn each_call_of_the_disk_fails(rt: HostRuntime) {
-    for row in &ROWS {
-        for number in 0..row.calls.saturating_add(1) {
-            assert!(rt; holds(rt.alloc(), row, number));
-        }
+// The step is the number of the call that fails.
+fn check_row(alloc: Global, row: &Row) -> Outcome {
+    for number in 0..row.calls.saturating_add(1) {
+        pass!(holds(alloc, row, number).at_step(number as usize));
     }
+    Ok(())
+}
+
+#[test]
+fn each_call_of_the_disk_fails(rt: HostRuntime) -> Outcome {
+    for (number, row) in ROWS.iter().enumerate() {
+        pass!(check_row(rt.alloc(), row).in_row(number));
+    }
+    Ok(())
 }

@@ -5,7 +5,8 @@ use pdu_codec::{
     C2hData, CapsuleResp, Connect, ConnectData, Full, GetLogPage, IcReq, IcResp, Property, Sgl,
     SglType, Sqe, TermReq,
 };
-use std::alloc::{AllocError, Global};
+use std::alloc::Global;
+use testkit_tables::{Outcome, Placed, check, check_bytes, pass};
 
 const IC_RESP: IcResp = IcResp {
     pfv: 0,
@@ -130,31 +131,35 @@ const WRITTEN: &[(Pdus, usize, &[(&[u8], usize)])] = &[
     ),
 ];
 
-fn are_runs(bytes: &[u8], runs: &[(&[u8], usize)]) -> bool {
+// The step is the run.
+fn check_runs(bytes: &[u8], runs: &[(&[u8], usize)]) -> Outcome {
     let mut rest = bytes;
-    for (run, times) in runs {
+    for (step, (run, times)) in runs.iter().enumerate() {
         for _ in 0..*times {
-            match rest.strip_prefix(*run) {
-                Some(behind) => rest = behind,
-                None => return false,
-            }
+            let (front, behind) = rest.split_at(run.len().min(rest.len()));
+            pass!(check_bytes(front, run).at_step(step));
+            rest = behind;
         }
     }
-    rest.is_empty()
+    check(rest.is_empty(), "nothing behind them")
 }
 
-fn writes(alloc: Global, pdus: Pdus, len: usize, runs: &[(&[u8], usize)]) -> bool {
-    match BytesMut::with_capacity(alloc, len) {
-        Ok(mut out) => write(&mut out, pdus).is_ok() && are_runs(out.as_slice(), runs),
-        Err(AllocError) => false,
-    }
+fn check_written(out: &mut BytesMut, pdus: Pdus, runs: &[(&[u8], usize)]) -> Outcome {
+    pass!(check(write(out, pdus).is_ok(), "room for them"));
+    check_runs(out.as_slice(), runs)
+}
+
+fn check_row(alloc: Global, pdus: Pdus, len: usize, runs: &[(&[u8], usize)]) -> Outcome {
+    let mut out = BytesMut::with_capacity(alloc, len)?;
+    check_written(&mut out, pdus, runs)
 }
 
 #[test]
-fn pdus_are_written(rt: HostRuntime) {
-    for (pdus, len, runs) in WRITTEN {
-        assert!(rt; writes(rt.alloc(), *pdus, *len, runs));
+fn pdus_are_written(rt: HostRuntime) -> Outcome {
+    for (row, (pdus, len, runs)) in WRITTEN.iter().enumerate() {
+        pass!(check_row(rt.alloc(), *pdus, *len, runs).in_row(row));
     }
+    Ok(())
 }
 
 #[test]

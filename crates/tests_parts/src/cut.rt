@@ -1,8 +1,8 @@
 //! Headers with each fault, and streams in pieces.
 use nvt_fields::{FatalErrorStatus, PduType};
 use pdu_cut::{Cut, RxBuf, Side};
-use std::alloc::{AllocError, Global};
-use std::test::Fail;
+use std::alloc::Global;
+use testkit_tables::{Outcome, Placed, check, check_bytes, check_number, pass};
 
 /// Headers of PDUs to the target, and the offset of the first field in error.
 const TARGET_FAULTS: &[([u8; 8], u32)] = &[
@@ -90,59 +90,65 @@ const HOST_HEADERS: &[[u8; 8]] = &[
     [0x09, 2, 24, 255, 24, 0, 0, 0],
 ];
 
-// Whether a side that receives these bytes alone finds the fault at this offset in them, or with no
-// offset waits for the rest of a PDU.
-fn finds(alloc: Global, side: Side, bytes: &[u8; 8], offset: Option<u32>) -> bool {
-    match RxBuf::new(alloc, side) {
-        Ok(mut buffer) => { buffer.receive(bytes) == 8 && is_found(&buffer.peek(), bytes, offset) }
-        Err(AllocError) => false,
-    }
+// A side that receives these bytes alone finds the fault at this offset in them, or with no offset
+// waits for the rest of a PDU.
+fn check_found(alloc: Global, side: Side, bytes: &[u8; 8], offset: Option<u32>) -> Outcome {
+    let mut buffer = RxBuf::new(alloc, side)?;
+    check_received(&mut buffer, bytes, offset)
 }
 
-fn is_found(cut: &Cut<'_>, bytes: &[u8; 8], offset: Option<u32>) -> bool {
+fn check_received(buffer: &mut RxBuf, bytes: &[u8; 8], offset: Option<u32>) -> Outcome {
+    pass!(check_number(buffer.receive(bytes) as u64, 8));
+    let cut = buffer.peek();
     match offset {
-        Some(offset) => is_fault(cut, bytes, offset),
-        None => matches!(cut, Cut::More),
+        Some(offset) => check_fault(&cut, bytes, offset),
+        None => check(matches!(cut, Cut::More), "no fault"),
     }
 }
 
-fn is_fault(cut: &Cut<'_>, bytes: &[u8; 8], offset: u32) -> bool {
+fn check_fault(cut: &Cut<'_>, bytes: &[u8; 8], offset: u32) -> Outcome {
     match cut {
         Cut::Fault { fes, fei, head } => {
-            *fes == FatalErrorStatus::InvalidHeaderField
-                && *fei == offset
-                && *head == bytes.as_slice()
+            pass!(check(*fes == FatalErrorStatus::InvalidHeaderField, "its FES"));
+            pass!(check_number(u64::from(*fei), u64::from(offset)));
+            check_bytes(head, bytes)
         }
-        _ => false,
+        _ => check(false, "a fault"),
     }
 }
 
-#[test]
-fn first_faults_at_the_target(rt: HostRuntime) {
-    for (head, offset) in TARGET_FAULTS {
-        assert!(rt; finds(rt.alloc(), Side::Target, head, Some(*offset)));
+fn check_faults(alloc: Global, side: Side, rows: &[([u8; 8], u32)]) -> Outcome {
+    for (row, (head, offset)) in rows.iter().enumerate() {
+        pass!(check_found(alloc, side, head, Some(*offset)).in_row(row));
     }
+    Ok(())
+}
+
+fn check_headers(alloc: Global, side: Side, rows: &[[u8; 8]]) -> Outcome {
+    for (row, head) in rows.iter().enumerate() {
+        pass!(check_found(alloc, side, head, None).in_row(row));
+    }
+    Ok(())
 }
 
 #[test]
-fn first_faults_at_the_host(rt: HostRuntime) {
-    for (head, offset) in HOST_FAULTS {
-        assert!(rt; finds(rt.alloc(), Side::Host, head, Some(*offset)));
-    }
+fn first_faults_at_the_target(rt: HostRuntime) -> Outcome {
+    check_faults(rt.alloc(), Side::Target, TARGET_FAULTS)
 }
 
 #[test]
-fn headers_to_the_target_without_fault(rt: HostRuntime) {
-    for head in TARGET_HEADERS {
-        assert!(rt; finds(rt.alloc(), Side::Target, head, None));
-    }
+fn first_faults_at_the_host(rt: HostRuntime) -> Outcome {
+    check_faults(rt.alloc(), Side::Host, HOST_FAULTS)
 }
 
 #[test]
-fn headers_to_the_host_without_fault(rt: HostRuntime) {
-    for head in HOST_HEADERS {
-        assert!(rt; finds(rt.alloc(), Side::Host, head, None));
-    }
+fn headers_to_the_target_without_fault(rt: HostRuntime) -> Outcome {
+    check_headers(rt.alloc(), Side::Target, TARGET_HEADERS)
+}
+
+#[test]
+fn headers_to_the_host_without_fault(rt: HostRuntime) -> Outcome {
+    check_headers(rt.alloc(), Side::Host, HOST_HEADERS)
 }
 
 /// An ICReq of zeros behind its common header.
@@ -165,38 +171,38 @@ fn is_ic_req(cut: &Cut<'_>) -> bool {
     }
 }
 
-// Whether an ICReq that comes byte by byte is cut with its last byte.
-fn cuts_byte_by_byte(buffer: &mut RxBuf) -> bool {
-    for place in 0..128 {
+// An ICReq that comes byte by byte is cut with its last byte.
+fn check_byte_by_byte(buffer: &mut RxBuf) -> Outcome {
+    for place in 0..128usize {
         let waits = matches!(buffer.peek(), Cut::More);
-        if !waits || buffer.receive(&[byte_of_ic_req(place)]) != 1 {
-            return false;
-        }
+        let is_received = buffer.receive(&[byte_of_ic_req(place)]) == 1;
+        pass!(check(waits && is_received, "the wait for this byte").at_step(place));
     }
-    is_ic_req(&buffer.peek())
+    check(is_ic_req(&buffer.peek()), "the ICReq")
 }
 
 #[test]
-fn byte_by_byte(rt: HostRuntime) -> Result<(), Fail> {
+fn byte_by_byte(rt: HostRuntime) -> Outcome {
     let mut buffer = RxBuf::new(rt.alloc(), Side::Target)?;
-    assert!(rt; cuts_byte_by_byte(&mut buffer));
-    Ok(())
+    check_byte_by_byte(&mut buffer)
 }
 
-// Whether the room, and what is received of three pieces, are these.
-fn receives_its_room(buffer: &mut RxBuf) -> bool {
+// The room, and what is received of three pieces.
+fn check_room(buffer: &mut RxBuf) -> Outcome {
     let piece = [0; 20_000];
-    let first = (buffer.room(), buffer.receive(&piece));
-    let second = (buffer.room(), buffer.receive(&piece));
-    let third = (buffer.room(), buffer.receive(&piece));
-    [first, second, third] == [(32_768, 20_000), (12_768, 12_768), (0, 0)]
+    for (row, (room, received)) in ROOMS.iter().enumerate() {
+        pass!(check_number(buffer.room() as u64, *room).in_row(row));
+        pass!(check_number(buffer.receive(&piece) as u64, *received).in_row(row));
+    }
+    Ok(())
 }
 
+const ROOMS: &[(u64, u64)] = &[(32_768, 20_000), (12_768, 12_768), (0, 0)];
+
 #[test]
-fn no_more_than_its_room(rt: HostRuntime) -> Result<(), Fail> {
+fn no_more_than_its_room(rt: HostRuntime) -> Outcome {
     let mut buffer = RxBuf::new(rt.alloc(), Side::Target)?;
-    assert!(rt; receives_its_room(&mut buffer));
-    Ok(())
+    check_room(&mut buffer)
 }
 
 /// Two H2CData, of 4 and of 2 bytes of data, the second at an offset of 28.
@@ -219,25 +225,26 @@ fn is_data_pdu(cut: &Cut<'_>, flags: u8, header: &[u8], data: &[u8]) -> bool {
     }
 }
 
-// Whether both are cut, one after the other.
-fn cuts_two(buffer: &mut RxBuf) -> bool {
+// Both are cut, one after the other.
+fn check_two(buffer: &mut RxBuf) -> Outcome {
     if buffer.receive(&TWO_PDUS) != 58 {
-        return false;
+        return check(false, "room for both");
     }
     let is_first = is_data_pdu(&buffer.peek(), 0, &TWO_PDUS[..24], &[10, 11, 12, 13]);
+    pass!(check(is_first, "the first H2CData"));
     buffer.consume(28);
-    is_first && is_data_pdu(&buffer.peek(), 4, &TWO_PDUS[28..52], &[14, 15])
+    let is_second = is_data_pdu(&buffer.peek(), 4, &TWO_PDUS[28..52], &[14, 15]);
+    check(is_second, "the second H2CData")
 }
 
 #[test]
-fn two_in_one_piece(rt: HostRuntime) -> Result<(), Fail> {
+fn two_in_one_piece(rt: HostRuntime) -> Outcome {
     let mut buffer = RxBuf::new(rt.alloc(), Side::Target)?;
-    assert!(rt; cuts_two(&mut buffer));
-    Ok(())
+    check_two(&mut buffer)
 }
 
 #[test]
-fn room_comes_back(rt: HostRuntime) -> Result<(), Fail> {
+fn room_comes_back(rt: HostRuntime) -> Outcome {
     let mut buffer = RxBuf::new(rt.alloc(), Side::Target)?;
     assert!(rt; buffer.receive(&TWO_PDUS) == 58);
     buffer.consume(28);

@@ -4,8 +4,7 @@ use nvt_fields::{
     write_part, write_spaced, write_zeroed,
 };
 use std::alloc::{AllocError, Global};
-use std::process::Abort;
-use std::test::Fail;
+use testkit_tables::{Outcome, Placed, check, check_bytes, check_number, check_rows, pass};
 
 const WORDS: &[(Status, u16)] = &[
     (Status::SUCCESS, 0x0000),
@@ -23,10 +22,11 @@ const WORDS: &[(Status, u16)] = &[
 ];
 
 #[test]
-fn statuses_have_the_words_of_the_standard(rt: HostRuntime) {
-    for (status, word) in WORDS {
-        assert!(rt; status.word() == *word);
+fn statuses_have_the_words_of_the_standard() -> Outcome {
+    for (row, (status, word)) in WORDS.iter().enumerate() {
+        pass!(check_number(u64::from(status.word()), u64::from(*word)).in_row(row));
     }
+    Ok(())
 }
 
 // Whether a text is read as a name with its bytes, or is refused so.
@@ -48,24 +48,28 @@ const NAMES: &[(&[u8], Option<NqnFault>)] = &[
 ];
 
 #[test]
-fn names_are_read(rt: HostRuntime) {
-    for (text, fault) in NAMES {
-        assert!(rt; is_read(rt.alloc(), text, *fault));
+fn names_are_read(rt: HostRuntime) -> Outcome {
+    for (row, (text, fault)) in NAMES.iter().enumerate() {
+        pass!(check(is_read(rt.alloc(), text, *fault), "what is read").in_row(row));
     }
+    Ok(())
 }
 
 #[test]
-fn the_discovery_subsystem_has_its_name(rt: HostRuntime) {
-    assert!(rt; DISCOVERY_NQN == b"nqn.2014-08.org.nvmexpress.discovery");
-    assert!(rt; is_read(rt.alloc(), DISCOVERY_NQN, None));
+fn the_discovery_subsystem_has_its_name(rt: HostRuntime) -> Outcome {
+    pass!(check_bytes(DISCOVERY_NQN, b"nqn.2014-08.org.nvmexpress.discovery"));
+    check(is_read(rt.alloc(), DISCOVERY_NQN, None), "what is read")
 }
 
 #[test]
-fn names_have_at_most_223_bytes(rt: HostRuntime) {
+fn names_have_at_most_223_bytes(rt: HostRuntime) -> Outcome {
     let mut longest = [b'x'; 224];
     longest[..4].copy_from_slice(b"nqn.");
-    assert!(rt; is_read(rt.alloc(), &longest[..223], None));
-    assert!(rt; is_read(rt.alloc(), &longest, Some(NqnFault::TooLong)));
+    let rows = [
+        is_read(rt.alloc(), &longest[..223], None),
+        is_read(rt.alloc(), &longest, Some(NqnFault::TooLong)),
+    ];
+    check_rows(&rows, "what is read")
 }
 
 // Whether a name is the one that this text is read as.
@@ -90,28 +94,40 @@ const OTHERS: &[&[u8]] = &[
     b"nqn.2026-01.test:A",
 ];
 
-fn assert_equal_by_bytes(rt: &impl Abort, alloc: Global, name: &Nqn) {
-    assert!(rt; is_copied(name) && is_named(alloc, name, b"nqn.2026-01.test:a"));
-    for other in OTHERS {
-        assert!(rt; !is_named(alloc, name, other) && is_read(alloc, other, None));
+fn check_equal_by_bytes(alloc: Global, name: &Nqn) -> Outcome {
+    pass!(check(is_copied(name), "a copy"));
+    pass!(check(
+        is_named(alloc, name, b"nqn.2026-01.test:a"),
+        "the same name",
+    ));
+    for (row, other) in OTHERS.iter().enumerate() {
+        let is_other = !is_named(alloc, name, other) && is_read(alloc, other, None);
+        pass!(check(is_other, "another name").in_row(row));
     }
+    Ok(())
 }
 
-// Whether the name is written into a field with zeros behind it.
-fn fills_its_field(name: &Nqn) -> bool {
+// The name is written into a field with zeros behind it.
+fn check_field(name: &Nqn) -> Outcome {
     let mut field = [0xA5; 256];
     name.write_to(&mut field);
     let mut wanted = [0; 256];
     wanted[..18].copy_from_slice(b"nqn.2026-01.test:a");
-    name.len() == 18 && field == wanted
+    pass!(check_number(name.len() as u64, 18));
+    check_bytes(&field, &wanted)
+}
+
+fn check_name(alloc: Global, name: &Nqn) -> Outcome {
+    pass!(check_equal_by_bytes(alloc, name));
+    check_field(name)
 }
 
 #[test]
-fn a_name_is_its_bytes(rt: HostRuntime) -> Result<(), Fail> {
-    let name = Nqn::read(rt.alloc(), b"nqn.2026-01.test:a")?;
-    assert_equal_by_bytes(&rt, rt.alloc(), &name);
-    assert!(rt; fills_its_field(&name));
-    Ok(())
+fn a_name_is_its_bytes(rt: HostRuntime) -> Outcome {
+    match Nqn::read(rt.alloc(), b"nqn.2026-01.test:a") {
+        Ok(name) => check_name(rt.alloc(), &name),
+        Err(_) => check(false, "a name"),
+    }
 }
 
 #[test]
@@ -138,46 +154,47 @@ fn a_field_without_a_zero_is_read_whole(rt: HostRuntime) {
 }
 
 #[test]
-fn codes_are_those_of_the_standard(rt: HostRuntime) {
+fn codes_are_those_of_the_standard() -> Outcome {
     let rows = [
-        (PduType::from_code(0x09) == Some(PduType::R2t)),
+        PduType::from_code(0x09) == Some(PduType::R2t),
         PduType::from_code(0x08).is_none(),
         PduType::C2hData.code() == 0x07,
         FatalErrorStatus::UnsupportedParameter.code() == 6,
     ];
-    assert!(rt; rows == [true; 4]);
+    check_rows(&rows, "a code")
 }
 
 const PAGE: [u8; 10] = [1, 2, 3, 4, 5, 6, 7, 0, 8, 9];
 
-// Whether a part of the page that is written in three pieces, of this length and from this offset, has
-// the page's bytes, and zeros behind them.
-fn shows_the_page(offset: u64, len: usize) -> bool {
+// A part of the page that is written in three pieces, of this length and from this offset, has the
+// page's bytes, and zeros behind them.
+fn check_part(offset: u64, len: usize) -> Outcome {
     let mut shown = [0u8; 12];
     let out = &mut shown[..len.min(12)];
     write_part(out, offset, 0, &PAGE[..3]);
     write_part(out, offset, 3, &PAGE[3..7]);
     write_part(out, offset, 8, &PAGE[8..]);
-    are_shown(out, offset as usize)
+    check_shown(out, offset as usize)
 }
 
-// Whether these are the page's bytes from this offset.
-fn are_shown(shown: &[u8], offset: usize) -> bool {
+// These are the page's bytes from this offset.
+fn check_shown(shown: &[u8], offset: usize) -> Outcome {
     for (place, byte) in shown.iter().enumerate() {
-        if PAGE.get(offset.saturating_add(place)).copied().unwrap_or(0) != *byte {
-            return false;
-        }
+        let wanted = PAGE.get(offset.saturating_add(place)).copied().unwrap_or(0);
+        pass!(check_number(u64::from(*byte), u64::from(wanted)).at_step(place));
     }
-    true
+    Ok(())
 }
 
+// The row is the offset, and the step the place in what is shown.
 #[test]
-fn a_part_shows_what_is_written_in_it(rt: HostRuntime) {
+fn a_part_shows_what_is_written_in_it() -> Outcome {
     for offset in 0..14u64 {
         for len in [0, 1, 3, 12] {
-            assert!(rt; shows_the_page(offset, len));
+            pass!(check_part(offset, len).in_row(offset as usize));
         }
     }
+    Ok(())
 }
 
 #[test]

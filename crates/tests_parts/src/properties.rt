@@ -2,6 +2,7 @@
 //! Configuration does.
 use property_regs::{Change, ControllerKind, InvalidField, Regs};
 use std::test::Fail;
+use testkit_tables::{Outcome, Placed, check, check_number, pass};
 
 const CC: u32 = 0x14;
 
@@ -45,19 +46,29 @@ const GETS: &[(u32, u8, Option<u64>)] = &[
     (0xFFFF_FFFF, 0, None),
 ];
 
-fn is_got(regs: &Regs, row: &(u32, u8, Option<u64>)) -> bool {
-    match regs.get(row.0, row.1) {
-        Ok(value) => row.2 == Some(value),
-        Err(InvalidField) => row.2.is_none(),
+fn check_got(regs: &Regs, offset: u32, attrib: u8, wanted: Option<u64>) -> Outcome {
+    match (regs.get(offset, attrib), wanted) {
+        (Ok(value), Some(wanted)) => check_number(value, wanted),
+        (Ok(_), None) => check(false, "a refusal"),
+        (Err(InvalidField), wanted) => check(wanted.is_none(), "no refusal"),
     }
 }
 
-#[test]
-fn properties_are_got(rt: HostRuntime) {
-    for row in GETS {
-        assert!(rt; is_got(&Regs::new(ControllerKind::Discovery), row));
-        assert!(rt; is_got(&Regs::new(ControllerKind::Io), row));
+fn check_gets(kind: ControllerKind) -> Outcome {
+    for (row, (offset, attrib, wanted)) in GETS.iter().enumerate() {
+        pass!(check_got(&Regs::new(kind), *offset, *attrib, *wanted).in_row(row));
     }
+    Ok(())
+}
+
+#[test]
+fn properties_of_a_discovery_controller_are_got() -> Outcome {
+    check_gets(ControllerKind::Discovery)
+}
+
+#[test]
+fn properties_of_an_io_controller_are_got() -> Outcome {
+    check_gets(ControllerKind::Io)
 }
 
 // A Set that is refused: the offset and the attributes.
@@ -79,13 +90,20 @@ const REFUSED: &[(u32, u8)] = &[
 ];
 
 #[test]
-fn other_sets_are_refused(rt: HostRuntime) {
+fn other_sets_are_refused() -> Outcome {
     let mut regs = Regs::new(ControllerKind::Io);
-    assert!(rt; regs.set(CC, 0xF8, 0x0046_0001) == Ok(Change::Enable));
+    let enabled = regs.set(CC, 0xF8, 0x0046_0001);
+    pass!(check(enabled == Ok(Change::Enable), "the Set that enables"));
     let before = regs;
-    for (offset, attrib) in REFUSED {
-        assert!(rt; regs.set(*offset, *attrib, 0) == Err(InvalidField) && regs == before);
+    for (row, (offset, attrib)) in REFUSED.iter().enumerate() {
+        let is_refused = regs.set(*offset, *attrib, 0) == Err(InvalidField);
+        pass!(check(
+            is_refused && regs == before,
+            "a refusal that changes nothing",
+        )
+        .in_row(row));
     }
+    Ok(())
 }
 
 // A Set of Controller Configuration: the value, what it does, and the Controller Status after it.
@@ -194,21 +212,30 @@ const SCRIPTS: &[(ControllerKind, &[Step])] = &[
     ),
 ];
 
-// Whether the controller is as after this step.
-fn is_as_after(regs: &Regs, step: &Step) -> bool {
-    let cc = step.0 % 0x1_0000_0000;
-    let is_set = regs.get(CC, 0) == Ok(cc) && regs.get(CSTS, 0) == Ok(step.2);
-    is_set && regs.ready() == (step.2 == 0x1)
+// The Set does what it has to, and the controller is as after this step.
+fn check_step(regs: &mut Regs, step: &Step) -> Outcome {
+    let (cc, wanted, csts) = *step;
+    let change = regs.set(CC, 0, cc);
+    pass!(check(change == Ok(wanted), "what the Set does"));
+    pass!(check(regs.get(CC, 0) == Ok(cc % 0x1_0000_0000), "CC after it"));
+    pass!(check(regs.get(CSTS, 0) == Ok(csts), "CSTS after it"));
+    check(regs.ready() == (csts == 0x1), "whether it is ready then")
+}
+
+fn check_steps(kind: ControllerKind, steps: &[Step]) -> Outcome {
+    let mut regs = Regs::new(kind);
+    for (number, step) in steps.iter().enumerate() {
+        pass!(check_step(&mut regs, step).at_step(number));
+    }
+    Ok(())
 }
 
 #[test]
-fn controller_configuration_is_set(rt: HostRuntime) {
-    for (kind, steps) in SCRIPTS {
-        let mut regs = Regs::new(*kind);
-        for step in *steps {
-            assert!(rt; regs.set(CC, 0, step.0) == Ok(step.1) && is_as_after(&regs, step));
-        }
+fn controller_configuration_is_set() -> Outcome {
+    for (row, (kind, steps)) in SCRIPTS.iter().enumerate() {
+        pass!(check_steps(*kind, steps).in_row(row));
     }
+    Ok(())
 }
 
 #[test]

@@ -3,11 +3,11 @@ use number_table::NumberTable;
 use rand_core::utils::NextWord;
 use rand_pcg::Pcg32;
 use std::alloc::{AllocError, Global};
-use std::test::Fail;
+use testkit_tables::{Outcome, Placed, check, check_number, pass};
 
-const RUNS: u64 = 8;
+const SCRIPTS: u64 = 8;
 
-const CHANGES: u32 = 60;
+const CHANGES: usize = 60;
 
 const PLACES: usize = 9;
 
@@ -31,14 +31,13 @@ fn full(alloc: Global, values: &[u8]) -> Result<NumberTable<u8>, AllocError> {
     Ok(table)
 }
 
-// Whether the table has these values, a space being none, and none past them.
-fn holds(table: &NumberTable<u8>, values: &[u8]) -> bool {
+// The table has these values, a space being none, and none past them.
+fn check_values(table: &NumberTable<u8>, values: &[u8]) -> Outcome {
     for (number, value) in values.iter().enumerate() {
-        if table.get(number).copied().unwrap_or(b' ') != *value {
-            return false;
-        }
+        let got = table.get(number).copied().unwrap_or(b' ');
+        pass!(check(got == *value, "the value of this number at the end").at_step(number));
     }
-    table.get(values.len()).is_none()
+    check(table.get(values.len()).is_none(), "nothing past the values")
 }
 
 // A call, and what it answers.
@@ -67,13 +66,11 @@ fn finds_nothing(table: &mut NumberTable<u8>, number: usize) -> bool {
     (got, lent, table.remove(number)) == (false, false, None)
 }
 
-fn are_answered(table: &mut NumberTable<u8>, calls: &[Call]) -> bool {
-    for call in calls {
-        if !is_answered(table, *call) {
-            return false;
-        }
+fn check_calls(table: &mut NumberTable<u8>, calls: &[Call]) -> Outcome {
+    for (step, call) in calls.iter().enumerate() {
+        pass!(check(is_answered(table, *call), "the answer of this call").at_step(step));
     }
-    true
+    Ok(())
 }
 
 // The values of a full table, calls in turn, and the values after them.
@@ -118,22 +115,23 @@ const ROWS: &[(&[u8], &[Call], &[u8])] = &[
     ),
 ];
 
-fn goes_over(table: &mut NumberTable<u8>, calls: &[Call], after: &[u8]) -> bool {
-    table.places() == after.len() && are_answered(table, calls) && holds(table, after)
+fn check_table(table: &mut NumberTable<u8>, calls: &[Call], after: &[u8]) -> Outcome {
+    pass!(check_number(table.places() as u64, after.len() as u64));
+    pass!(check_calls(table, calls));
+    check_values(table, after)
 }
 
-fn is_right(alloc: Global, values: &[u8], calls: &[Call], after: &[u8]) -> bool {
-    match full(alloc, values) {
-        Ok(mut table) => goes_over(&mut table, calls, after),
-        Err(AllocError) => false,
-    }
+fn check_row(alloc: Global, values: &[u8], calls: &[Call], after: &[u8]) -> Outcome {
+    let mut table = full(alloc, values)?;
+    check_table(&mut table, calls, after)
 }
 
 #[test]
-fn calls_are_answered(rt: HostRuntime) {
-    for (values, calls, after) in ROWS {
-        assert!(rt; is_right(rt.alloc(), values, calls, after));
+fn calls_are_answered(rt: HostRuntime) -> Outcome {
+    for (row, (values, calls, after)) in ROWS.iter().enumerate() {
+        pass!(check_row(rt.alloc(), values, calls, after).in_row(row));
     }
+    Ok(())
 }
 
 // Puts words, the second of which is made longer in its place.
@@ -156,25 +154,29 @@ fn takes_out(table: &mut NumberTable<String>, number: usize, expected: &str) -> 
     }
 }
 
-fn writes_back(alloc: Global, table: &mut NumberTable<String>) -> bool {
-    fill(alloc, table).is_ok() && takes_out(table, 0, "zero") && takes_out(table, 1, "one more")
+fn check_written_back(alloc: Global, table: &mut NumberTable<String>) -> Outcome {
+    fill(alloc, table)?;
+    pass!(check(takes_out(table, 0, "zero"), "the word at 0"));
+    check(takes_out(table, 1, "one more"), "the longer word at 1")
 }
 
 #[test]
-fn a_lent_word_is_written_back(rt: HostRuntime) -> Result<(), Fail> {
+fn a_lent_word_is_written_back(rt: HostRuntime) -> Outcome {
     let mut table = NumberTable::new(rt.alloc(), 2)?;
-    assert!(rt; writes_back(rt.alloc(), &mut table));
-    Ok(())
+    check_written_back(rt.alloc(), &mut table)
 }
 
-// Whether the plain list and the table have the same at each number, and past the end.
-fn is_same(table: &NumberTable<u32>, plain: &[Option<u32>]) -> bool {
+// The plain list and the table have the same at each number, which is the row, and past the end.
+fn check_same(table: &NumberTable<u32>, plain: &[Option<u32>]) -> Outcome {
     for number in 0..PLACES + 2 {
-        if table.get(number).copied() != plain.get(number).copied().flatten() {
-            return false;
-        }
+        let is_same = table.get(number).copied() == plain.get(number).copied().flatten();
+        pass!(check(is_same, "the value of this number").in_row(number));
     }
-    table.places() == plain.len() && table.least_free() == first_empty(plain)
+    pass!(check_number(table.places() as u64, plain.len() as u64));
+    check(
+        table.least_free() == first_empty(plain),
+        "the least free number",
+    )
 }
 
 fn first_empty(plain: &[Option<u32>]) -> Option<usize> {
@@ -239,34 +241,31 @@ fn change(table: &mut NumberTable<u32>, plain: &mut [Option<u32>], random: &mut 
     }
 }
 
-fn changes_agree(
-    table: &mut NumberTable<u32>,
-    plain: &mut [Option<u32>],
-    random: &mut Pcg32,
-) -> bool {
-    for _ in 0..CHANGES {
-        if !change(table, plain, random) || !is_same(table, plain) {
-            return false;
-        }
+// A table and a plain list agree, new and after each of a script's random changes.
+fn check_script(table: &mut NumberTable<u32>, random: &mut Pcg32) -> Outcome {
+    let mut plain = [None; PLACES];
+    pass!(check_same(table, &plain));
+    for step in 0..CHANGES {
+        pass!(check(
+            change(table, &mut plain, random),
+            "the answer of this change",
+        )
+        .at_step(step));
+        pass!(check_same(table, &plain).at_step(step));
     }
-    true
+    Ok(())
 }
 
-// Whether a table and a plain list agree, new and after each of a run of random changes.
-fn run_agrees(alloc: Global, run: u64) -> bool {
-    let mut random = Pcg32::new(SEED, run);
-    let mut plain = [None; PLACES];
-    match NumberTable::new(alloc, PLACES) {
-        Ok(mut table) => {
-            is_same(&table, &plain) && changes_agree(&mut table, &mut plain, &mut random)
-        }
-        Err(AllocError) => false,
-    }
+fn check_new(alloc: Global, number: u64) -> Outcome {
+    let mut random = Pcg32::new(SEED, number);
+    let mut table = NumberTable::new(alloc, PLACES)?;
+    check_script(&mut table, &mut random)
 }
 
 #[test]
-fn agrees_with_a_plain_list(rt: HostRuntime) {
-    for run in 0..RUNS {
-        assert!(rt; run_agrees(rt.alloc(), run));
+fn agrees_with_a_plain_list(rt: HostRuntime) -> Outcome {
+    for number in 0..SCRIPTS {
+        pass!(check_new(rt.alloc(), number).in_script(SEED, number));
     }
+    Ok(())
 }

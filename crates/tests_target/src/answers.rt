@@ -7,6 +7,7 @@ use nvt_fields::DISCOVERY_NQN;
 use std::alloc::Global;
 use target_core::Target;
 use testkit_edits::{Blocks, Line, edit};
+use testkit_tables::{Outcome, Placed, check, pass};
 
 const NAMESPACE: Blocks = Blocks {
     nsid: 1,
@@ -144,16 +145,15 @@ fn is_answered(
     }
 }
 
-pub fn are_answered(alloc: Global, target: &mut Target<MemoryDisk>) -> bool {
-    for (line, answer) in ROWS {
-        if !is_answered(alloc, target, *line, *answer) {
-            return false;
-        }
+pub fn check_answers(alloc: Global, target: &mut Target<MemoryDisk>) -> Outcome {
+    for (row, (line, answer)) in ROWS.iter().enumerate() {
+        let is_answered = is_answered(alloc, target, *line, *answer);
+        pass!(check(is_answered, "the answer of this edit").in_row(row));
     }
-    true
+    Ok(())
 }
 
 #[test]
-fn each_kind_of_edit_is_answered(rt: HostRuntime) {
-    assert!(rt; holds(rt.alloc(), Script::Answers));
+fn each_kind_of_edit_is_answered(rt: HostRuntime) -> Outcome {
+    holds(rt.alloc(), Script::Answers)
 }

@@ -6,6 +6,7 @@ use nvt_config::NewFault;
 use std::alloc::{AllocError, Global};
 use target_core::{Stepped, Target};
 use testkit_edits::{Line, edit, memory_disks};
+use testkit_tables::{Outcome, Placed, check};
 
 /// What a test does with its driver.
 #[derive(Clone, Copy)]
@@ -22,11 +23,14 @@ pub enum Script {
     AllWait,
 }
 
-/// Whether all that a script expects of a target holds.
-pub fn holds(alloc: Global, script: Script) -> bool {
+/// All that a script expects of a target holds.
+pub fn holds(alloc: Global, script: Script) -> Outcome {
     match Driver::new(alloc) {
-        Ok(mut driver) => driver.runs(script) && !driver.failed,
-        Err(_) => false,
+        Ok(mut driver) => {
+            let outcome = driver.runs(script);
+            driver.outcome.and(outcome)
+        }
+        Err(_) => check(false, "memory"),
     }
 }
 
@@ -41,12 +45,14 @@ pub fn target_over(alloc: Global, units: &[u64]) -> Result<Target<MemoryDisk>, N
     }
 }
 
-/// A target of one disk, and whether a call was refused that must not be.
+/// A target of one disk, how many edits, connections and PDUs it was brought, and which of them was the
+/// first to be refused that must not be.
 #[derive(Drop)]
 pub struct Driver {
     pub alloc: Global,
     pub target: Target<MemoryDisk>,
-    failed: bool,
+    step: usize,
+    outcome: Outcome,
 }
 
 impl Driver {
@@ -55,19 +61,30 @@ impl Driver {
         Ok(Driver {
             alloc,
             target,
-            failed: false,
+            step: 0,
+            outcome: Ok(()),
         })
     }
 
+    fn expect(&mut self, holds: bool, fact: &'static str) {
+        if self.outcome.is_ok() {
+            self.outcome = check(holds, fact).at_step(self.step);
+        }
+    }
+
+    fn count(&mut self) {
+        self.step = self.step.saturating_add(1);
+    }
+
     // Each script but the first goes on from ports 1 and 2.
-    fn runs(&mut self, script: Script) -> bool {
+    fn runs(&mut self, script: Script) -> Outcome {
         if matches!(script, Script::Answers) {
-            return answers::are_answered(self.alloc, &mut self.target);
+            return answers::check_answers(self.alloc, &mut self.target);
         }
         self.edit(Line::PortAdd(1, b"127.0.0.1", 4420));
         self.edit(Line::PortAdd(2, b"127.0.0.1", 4420));
         match script {
-            Script::Answers => false,
+            Script::Answers => Ok(()),
             Script::NumberPastAll => connections::knows_none_past_all(&mut self.target),
             Script::PortDeleted => connections::ends_with_its_port(self),
             Script::EndedTakesNothing => connections::takes_nothing_ended(self),
@@ -81,28 +98,35 @@ impl Driver {
     }
 
     pub fn edit(&mut self, line: Line<'_>) {
-        match edit(self.alloc, line) {
-            Ok(edit) => self.failed |= self.target.edit(&edit).is_err(),
-            Err(_) => self.failed = true,
-        }
+        self.count();
+        let is_made = match edit(self.alloc, line) {
+            Ok(edit) => self.target.edit(&edit).is_ok(),
+            Err(_) => false,
+        };
+        self.expect(is_made, "an edit that is accepted");
     }
 
     /// Opens a connection, which gets this number.
     pub fn open(&mut self, k: usize) {
-        self.failed |= self.target.open(1) != Ok(k);
+        self.count();
+        let is_opened = self.target.open(1) == Ok(k);
+        self.expect(is_opened, "the number of a connection");
     }
 
     /// Brings a whole PDU, and takes it.
     pub fn bring(&mut self, k: usize, pdu: Result<Vec<u8>, AllocError>) {
-        match pdu {
-            Ok(bytes) => self.take(k, &bytes),
-            Err(AllocError) => self.failed = true,
-        }
+        self.count();
+        let is_taken = match pdu {
+            Ok(bytes) => self.takes(k, &bytes),
+            Err(AllocError) => false,
+        };
+        self.expect(is_taken, "a PDU that is taken");
     }
 
-    fn take(&mut self, k: usize, bytes: &[u8]) {
-        self.failed |= self.target.receive(k, bytes) != Ok(bytes.len());
-        self.failed |= self.target.step(k) != Ok(Stepped::One);
+    fn takes(&mut self, k: usize, bytes: &[u8]) -> bool {
+        let received = self.target.receive(k, bytes);
+        let stepped = self.target.step(k);
+        received == Ok(bytes.len()) && stepped == Ok(Stepped::One)
     }
 
     /// Brings a connection to where its Connect is answered, and returns the response.
@@ -119,7 +143,7 @@ impl Driver {
         match self.target.open(1) {
             Ok(k) => self.page_on(k, host, offset),
             Err(_) => {
-                self.failed = true;
+                self.expect(false, "one more connection");
                 [0; 1024]
             }
         }
@@ -129,7 +153,8 @@ impl Driver {
         self.connect(k, host);
         self.bring(k, property(self.alloc, 2, 0, 0x14));
         self.bring(k, log_read(self.alloc, 3, offset));
-        self.failed |= self.target.output(k).len() != BEFORE_DATA + 1024 + 24;
+        let len = self.target.output(k).len();
+        self.expect(len == BEFORE_DATA + 1024 + 24, "the length of what is sent");
         let mut data = [0u8; 1024];
         self.copy_output(k, BEFORE_DATA, &mut data);
         self.target.end(k);
@@ -143,7 +168,7 @@ impl Driver {
         };
         match found {
             Some(found) => bytes.copy_from_slice(found),
-            None => self.failed = true,
+            None => self.expect(false, "as many bytes sent"),
         }
     }
 }

@@ -3,18 +3,17 @@ use super::driver::{Driver, Script, holds};
 use super::pdus::{A, B, H1, H2};
 use nvt_config::{Access, Family};
 use testkit_edits::Line;
+use testkit_tables::{Outcome, Placed, check_bytes, pass};
 
-// Whether each host's page has this GENCTR and NUMREC, and no other byte in its header.
-fn counts(driver: &mut Driver, genctr: u8, numrec: u8) -> bool {
+// Each host's page has this GENCTR and NUMREC, and no other byte in its header. The hosts are the steps.
+fn counts(driver: &mut Driver, genctr: u8, numrec: u8) -> Outcome {
     let mut wanted = [0u8; 1024];
     wanted[0] = genctr;
     wanted[8] = numrec;
-    for host in [H1, H2, H1] {
-        if driver.page(host, 0) != wanted {
-            return false;
-        }
+    for (step, host) in [H1, H2, H1].iter().enumerate() {
+        pass!(check_bytes(&driver.page(host, 0), &wanted).at_step(step));
     }
-    true
+    Ok(())
 }
 
 // Edits, and the GENCTR and NUMREC of each host's page after them.
@@ -41,19 +40,17 @@ fn edit_all(driver: &mut Driver, lines: &[Line<'_>]) {
     }
 }
 
-pub fn counts_each_change(driver: &mut Driver) -> bool {
-    for (lines, genctr, numrec) in ROWS {
+pub fn counts_each_change(driver: &mut Driver) -> Outcome {
+    for (row, (lines, genctr, numrec)) in ROWS.iter().enumerate() {
         edit_all(driver, lines);
-        if !counts(driver, *genctr, *numrec) {
-            return false;
-        }
+        pass!(counts(driver, *genctr, *numrec).in_row(row));
     }
-    true
+    Ok(())
 }
 
 #[test]
-fn each_change_of_the_records_is_counted(rt: HostRuntime) {
-    assert!(rt; holds(rt.alloc(), Script::RecordsCounted));
+fn each_change_of_the_records_is_counted(rt: HostRuntime) -> Outcome {
+    holds(rt.alloc(), Script::RecordsCounted)
 }
 
 /// The record of A on port 1, which listens at 127.0.0.1 for the service 4421.
@@ -75,12 +72,12 @@ pub const ONE_RECORD: &[Line<'static>] = &[
     MOVE,
 ];
 
-pub fn tells_a_record(driver: &mut Driver) -> bool {
+pub fn tells_a_record(driver: &mut Driver) -> Outcome {
     edit_all(driver, ONE_RECORD);
-    driver.page(H1, 1024) == record()
+    check_bytes(&driver.page(H1, 1024), &record())
 }
 
 #[test]
-fn a_record_tells_the_port_and_the_subsystem(rt: HostRuntime) {
-    assert!(rt; holds(rt.alloc(), Script::RecordTold));
+fn a_record_tells_the_port_and_the_subsystem(rt: HostRuntime) -> Outcome {
+    holds(rt.alloc(), Script::RecordTold)
 }

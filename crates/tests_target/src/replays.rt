@@ -2,7 +2,7 @@
 use nvt_replay::{ReplayFault, replay};
 use std::alloc::Global;
 use std::io::{self, Write};
-use std::test::Fail;
+use testkit_tables::{Outcome, Placed, check, check_bytes, pass};
 
 const PORT: &[u8] = b"port add 1 ipv4 127.0.0.1 4420\n";
 
@@ -33,10 +33,9 @@ fn disks_are_judged_first(rt: HostRuntime) {
 }
 
 #[test]
-fn the_fault_of_disks_has_a_text(rt: HostRuntime) -> Result<(), Fail> {
+fn the_fault_of_disks_has_a_text(rt: HostRuntime) -> Outcome {
     let text = ReplayFault::Disks.to_string(rt.alloc())?;
-    assert!(rt; text.as_str() == "disks");
-    Ok(())
+    check_bytes(text.as_bytes(), b"disks")
 }
 
 // A writer that takes this many more bytes, and knows whether it was asked for one more.
@@ -78,12 +77,17 @@ fn outcome(alloc: Global, left: usize) -> (Result<(), ReplayFault>, bool) {
     (outcome, out.has_failed)
 }
 
-// Two lines of seven bytes are printed.
+// Two lines of seven bytes are printed. The row is how many bytes the writer takes.
 #[test]
-fn a_write_that_fails_ends_the_replay(rt: HostRuntime) {
-    for left in 0..14 {
-        assert!(rt; outcome(rt.alloc(), left) == (Err(ReplayFault::Io), true));
+fn a_write_that_fails_ends_the_replay(rt: HostRuntime) -> Outcome {
+    for left in 0..16usize {
+        let wanted = if left < 14 {
+            (Err(ReplayFault::Io), true)
+        } else {
+            (Ok(()), false)
+        };
+        let ends = outcome(rt.alloc(), left) == wanted;
+        pass!(check(ends, "how the replay ends").in_row(left));
     }
-    assert!(rt; outcome(rt.alloc(), 14) == (Ok(()), false));
-    assert!(rt; outcome(rt.alloc(), 15) == (Ok(()), false));
+    Ok(())
 }

@@ -4,6 +4,7 @@ use super::pages::{ONE_RECORD, record};
 use super::pdus::{A, H1, connect_to, ic_req, identify, log_part, property, read};
 use nvt_config::Access;
 use testkit_edits::{Blocks, Line};
+use testkit_tables::{Outcome, Placed, check, pass};
 
 /// The ICResp and the responses to the Connect and the Property Set.
 const BEFORE_READS: usize = 128 + 24 + 24;
@@ -37,20 +38,15 @@ fn is_page(data: &[u8]) -> bool {
     data.starts_with(&page) && data.iter().skip(2048).all(|byte| *byte == 0)
 }
 
-// Whether the output begins, after `at` bytes, with what the reads from CID 3 to `last` are sent, and
-// ends there.
-fn holds_reads(output: &[u8], at: usize, last: u8) -> bool {
-    let Some(reads) = output.get(at..) else {
-        return false;
-    };
+// The output begins, after `at` bytes, with what the reads from CID 3 to `last` are sent, and ends there.
+// The row is the CID.
+fn check_reads(output: &[u8], at: usize, last: u8) -> Outcome {
     let mut cid = 3u8;
-    for sent in reads.chunks(READ) {
-        if !is_read(sent, cid) {
-            return false;
-        }
+    for sent in output.get(at..).unwrap_or(&[]).chunks(READ) {
+        pass!(check(is_read(sent, cid), "what this Read is sent").in_row(usize::from(cid)));
         cid = cid.saturating_add(1);
     }
-    cid == last.saturating_add(1)
+    check(cid == last.saturating_add(1), "as many Reads")
 }
 
 // A host that connects, enables its controller, and reads three times; nothing is taken.
@@ -73,17 +69,17 @@ fn take_and_read(driver: &mut Driver) {
     driver.bring(0, log_part(driver.alloc, 6, 0, 8192));
 }
 
-pub fn goes_on(driver: &mut Driver) -> bool {
-    let opened = driver.target.open(1);
+pub fn goes_on(driver: &mut Driver) -> Outcome {
+    driver.open(0);
     read_three_times(driver);
-    let are_there = holds_reads(driver.target.output(0), BEFORE_READS, 5);
+    pass!(check_reads(driver.target.output(0), BEFORE_READS, 5).at_step(0));
     take_and_read(driver);
-    opened == Ok(0) && are_there && holds_reads(driver.target.output(0), 0, 6)
+    check_reads(driver.target.output(0), 0, 6).at_step(1)
 }
 
 #[test]
-fn steps_go_on_while_output_waits(rt: HostRuntime) {
-    assert!(rt; holds(rt.alloc(), Script::OutputWaits));
+fn steps_go_on_while_output_waits(rt: HostRuntime) -> Outcome {
+    holds(rt.alloc(), Script::OutputWaits)
 }
 
 /// So many Identify commands of an admin queue, and Reads of 32 KiB of an I/O queue, are sent more than
@@ -149,26 +145,26 @@ fn ends_with(output: &[u8], len: usize, cid: u8, sqhd: u8) -> bool {
     output.len() == len && output.ends_with(&response)
 }
 
-// The queues have 32 entries.
-fn are_full(driver: &Driver) -> bool {
-    let mut are_full = true;
+// The queues have 32 entries. The row is the connection of the admin queue.
+fn check_full(driver: &Driver) -> Outcome {
     for k in 0..32usize {
-        are_full &= ends_with(driver.target.output(k), ADMIN_OUTPUT, 68, 4);
-        are_full &= ends_with(driver.target.output(k + 32), IO_OUTPUT, 10, 10);
+        let is_full = ends_with(driver.target.output(k), ADMIN_OUTPUT, 68, 4)
+            && ends_with(driver.target.output(k + 32), IO_OUTPUT, 10, 10);
+        pass!(check(is_full, "the outputs of this controller").in_row(k));
     }
-    are_full
+    Ok(())
 }
 
-pub fn waits_on_all(driver: &mut Driver) -> bool {
+pub fn waits_on_all(driver: &mut Driver) -> Outcome {
     for line in SERVED {
         driver.edit(*line);
     }
     fill_admin_queues(driver);
     fill_io_queues(driver);
-    are_full(driver)
+    check_full(driver)
 }
 
 #[test]
-fn more_than_256_kib_wait_on_each_of_64_connections(rt: HostRuntime) {
-    assert!(rt; holds(rt.alloc(), Script::AllWait));
+fn more_than_256_kib_wait_on_each_of_64_connections(rt: HostRuntime) -> Outcome {
+    holds(rt.alloc(), Script::AllWait)
 }

@@ -8,11 +8,11 @@ use rand_core::utils::NextWord;
 use rand_pcg::Pcg32;
 use script::{CONNECTIONS, Script};
 use std::alloc::{AllocError, Global};
-use std::test::Fail;
+use testkit_tables::{Outcome, Placed, check, pass};
 
 const SCRIPTS: u64 = 240;
 
-const EVENTS: u32 = 36;
+const EVENTS: usize = 36;
 
 const SEED: u64 = 0x6e76_6d65;
 
@@ -55,7 +55,8 @@ fn run(script: &mut Script, number: u64) {
     let mut random = Pcg32::new(SEED, number);
     let mut taken = Pcg32::new(SEED, TAKEN.saturating_add(number));
     script.add_ports();
-    for _ in 0..EVENTS {
+    for event in 0..EVENTS {
+        script.begin_step(event);
         go_on(script, &mut random);
         if random::rarely(&mut taken, 4) {
             let number = (taken.next_word() % CONNECTIONS) as usize;
@@ -91,7 +92,8 @@ fn bytes_of(alloc: Global, pdu: Pdu) -> Result<Vec<u8>, AllocError> {
 fn converse(script: &mut Script, pdus: &[Pdu], wanted: usize) {
     script.add_ports();
     script.open(1);
-    for pdu in pdus {
+    for (step, pdu) in pdus.iter().enumerate() {
+        script.begin_step(step);
         script.take(0, bytes_of(script.alloc, *pdu), 127);
     }
     script.compare(0);
@@ -135,36 +137,31 @@ enum Walk {
     Conversation(&'static [Pdu], usize),
 }
 
-// What goes wrong first.
-fn fault_of(alloc: Global, walk: Walk) -> Option<&'static str> {
+fn check_walk(alloc: Global, walk: Walk) -> Outcome {
     match Script::new(alloc) {
         Ok(mut script) => {
             match walk {
                 Walk::Random(number) => run(&mut script, number),
                 Walk::Conversation(pdus, wanted) => converse(&mut script, pdus, wanted),
             }
-            script.fault()
+            script.outcome()
         }
-        Err(_) => Some("want of memory for a target"),
+        Err(_) => check(false, "memory for a target"),
     }
 }
 
 #[test]
-fn sends_the_same_however_a_stream_is_cut(rt: HostRuntime) -> Result<(), Fail> {
+fn sends_the_same_however_a_stream_is_cut(rt: HostRuntime) -> Outcome {
     for number in 0..SCRIPTS {
-        if let Some(fault) = fault_of(rt.alloc(), Walk::Random(number)) {
-            return Err(Fail::new(fault));
-        }
+        pass!(check_walk(rt.alloc(), Walk::Random(number)).in_script(SEED, number));
     }
     Ok(())
 }
 
 #[test]
-fn the_first_conversation_is_the_same_in_pieces(rt: HostRuntime) -> Result<(), Fail> {
-    for (pdus, wanted) in ROWS {
-        if let Some(fault) = fault_of(rt.alloc(), Walk::Conversation(pdus, *wanted)) {
-            return Err(Fail::new(fault));
-        }
+fn the_first_conversation_is_the_same_in_pieces(rt: HostRuntime) -> Outcome {
+    for (row, (pdus, wanted)) in ROWS.iter().enumerate() {
+        pass!(check_walk(rt.alloc(), Walk::Conversation(pdus, *wanted)).in_row(row));
     }
     Ok(())
 }

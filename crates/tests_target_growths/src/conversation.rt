@@ -1,14 +1,14 @@
 //! The first conversation: from the opening of a connection to its log page, and a fault.
 use super::pdus::{FAULTY, PDUS, TERMINATION, laid, wanted};
-use super::targets::{Script, is_edited, is_opened, is_used};
+use super::targets::{Script, is_edited, is_opened, use_new};
 use block_store::MemoryDisk;
 use nvt_config::NewFault;
 use std::alloc::{AllocError, Global};
-use std::process::Abort;
 use std::test::Fail;
 use target_core::{StepFault, Stepped, Target};
-use testkit_edits::growths::tell;
+use testkit_edits::growths::{tell, used};
 use testkit_edits::{Line, again};
+use testkit_tables::{Outcome, Placed, check, check_bytes, check_rows, pass};
 
 // What is seen of a connection.
 fn seen(target: &Target<MemoryDisk>, k: usize) -> (usize, bool, usize) {
@@ -37,17 +37,14 @@ fn is_taken(
 }
 
 // The output of the PDUs is not taken, so that it grows.
-fn is_served(target: &mut Target<MemoryDisk>, k: usize, refused: &mut u32) -> bool {
-    for (len, pieces) in PDUS {
+fn check_served(target: &mut Target<MemoryDisk>, k: usize, refused: &mut u32) -> Outcome {
+    for (row, (len, pieces)) in PDUS.iter().enumerate() {
         let pdu: [u8; 1096] = laid(pieces);
-        if !is_taken(target, k, &pdu[..(*len).min(1096)], Stepped::One, refused) {
-            return false;
-        }
-        if target.step(k) != Ok(Stepped::Idle) {
-            return false;
-        }
+        let is_taken = is_taken(target, k, &pdu[..(*len).min(1096)], Stepped::One, refused)
+            && target.step(k) == Ok(Stepped::Idle);
+        pass!(check(is_taken, "the step of this PDU").in_row(row));
     }
-    target.output(k) == wanted().as_slice()
+    check_bytes(target.output(k), &wanted())
 }
 
 // Takes all output, in two parts.
@@ -68,31 +65,30 @@ fn is_ended_by_a_fault(target: &mut Target<MemoryDisk>, k: usize, refused: &mut 
     [ends, is_told, is_ended, target.output(k).is_empty()] == [true; 4]
 }
 
-pub fn serve_one(
-    rt: &impl Abort,
-    alloc: Global,
-    target: &mut Target<MemoryDisk>,
-    refused: &mut u32,
-) {
+pub fn serve_one(alloc: Global, target: &mut Target<MemoryDisk>, refused: &mut u32) -> Outcome {
     let line = Line::PortAdd(1, b"127.0.0.1", 4420);
-    again!(
-        rt,
+    let answer = again!(
         *refused,
         AllocError,
         is_edited(alloc, target, line, refused)
     );
-    assert!(rt; is_opened(target, 1, 0, refused) && is_served(target, 0, refused));
-    assert!(rt; is_output_taken(target, 0) && is_ended_by_a_fault(target, 0, refused));
+    let begins = answer == Ok(true) && is_opened(target, 1, 0, refused);
+    pass!(check(begins, "a port, and a connection on it"));
+    pass!(check_served(target, 0, refused));
+    let rows = [
+        is_output_taken(target, 0),
+        is_ended_by_a_fault(target, 0, refused),
+    ];
+    check_rows(&rows, "the output that is taken, and the end")
 }
 
 #[test]
 fn each_call_is_made_again(rt: HostRuntime) -> Result<(), Fail> {
     let mut refused = 0u32;
-    again!(
-        rt,
+    let answer = again!(
         refused,
         NewFault::Memory,
-        is_used(&rt, rt.alloc(), Script::Conversation, &mut refused)
+        use_new(rt.alloc(), Script::Conversation, &mut refused)
     );
-    tell(&rt, refused)
+    tell(&rt, refused, used(answer))
 }

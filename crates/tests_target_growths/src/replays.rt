@@ -4,9 +4,9 @@ ghost use Rattle.std.specs.Prelude.{◌≤◌, length};
 use nvt_replay::{ReplayFault, replay};
 use std::alloc::Global;
 use std::io::{self, ErrorKind, Write};
-use std::process::Abort;
 use std::test::Fail;
 use testkit_edits::growths::{UNITS, tell};
+use testkit_tables::{Outcome, check};
 
 const EDITS: &[u8] = b"port add 1 ipv4 127.0.0.1 4420\nport add 2 ipv6 ::1 4420\n";
 
@@ -75,19 +75,21 @@ fn replayed(alloc: Global) -> (Result<(), ReplayFault>, bool, bool) {
     )
 }
 
-fn is_replayed(rt: &impl Abort, alloc: Global, refused: &mut u32) {
+fn check_replay(alloc: Global, refused: &mut u32) -> Outcome {
     let mut replay = replayed(alloc);
     if replay.0 == Err(ReplayFault::Memory) {
-        assert!(rt; replay.1);
+        if !replay.1 {
+            return check(false, "whole lines before the refusal");
+        }
         *refused = refused.saturating_add(1);
         replay = replayed(alloc);
     }
-    assert!(rt; replay == (Ok(()), true, true));
+    check(replay == (Ok(()), true, true), "what the replay prints")
 }
 
 #[test]
 fn replays(rt: HostRuntime) -> Result<(), Fail> {
     let mut refused = 0;
-    is_replayed(&rt, rt.alloc(), &mut refused);
-    tell(&rt, refused)
+    let outcome = check_replay(rt.alloc(), &mut refused);
+    tell(&rt, refused, outcome)
 }

@@ -4,11 +4,11 @@ use super::pdus::ic_req;
 use block_store::MemoryDisk;
 use nvt_config::{Config, Edit, EditFault, NewFault};
 use std::alloc::{AllocError, Global};
-use std::process::Abort;
 use std::test::Fail;
 use target_core::{OpenFault, StepFault, Stepped, Target};
-use testkit_edits::growths::{EDITS, UNITS, edit_of, tell};
+use testkit_edits::growths::{EDITS, UNITS, edit_of, tell, used};
 use testkit_edits::{Line, again, is_same, memory_disks};
+use testkit_tables::{Outcome, Placed, check, pass};
 
 // What is seen of the connections: of each its room, whether it is ended, and how much output waits.
 fn seen(target: &Target<MemoryDisk>) -> [(usize, bool, usize); 3] {
@@ -80,28 +80,29 @@ fn is_initialized(target: &mut Target<MemoryDisk>, k: usize, refused: &mut u32) 
 }
 
 // Opens connections on both ports.
-fn open_both(rt: &impl Abort, target: &mut Target<MemoryDisk>, refused: &mut u32) {
+fn open_both(target: &mut Target<MemoryDisk>, refused: &mut u32) -> Outcome {
     for (k, port) in [(0usize, 1u16), (1, 2)] {
-        assert!(rt; is_opened(target, port, k, refused));
-        assert!(rt; is_initialized(target, k, refused));
+        let is_open = is_opened(target, port, k, refused) && is_initialized(target, k, refused);
+        pass!(check(is_open, "this connection").in_row(k));
     }
+    Ok(())
 }
 
 fn make_edits(
-    rt: &impl Abort,
     alloc: Global,
     target: &mut Target<MemoryDisk>,
     lines: &[Line<'_>],
     refused: &mut u32,
-) {
-    for line in lines {
-        again!(
-            rt,
+) -> Outcome {
+    for (row, line) in lines.iter().enumerate() {
+        let answer = again!(
             *refused,
             AllocError,
             is_edited(alloc, target, *line, refused)
         );
+        pass!(check(answer == Ok(true), "this edit").in_row(row));
     }
+    Ok(())
 }
 
 // Takes the output of both connections, and gives both up.
@@ -125,12 +126,13 @@ fn are_both_served(target: &mut Target<MemoryDisk>) -> bool {
     seen(target) == [(32_768, false, 128), (0, true, 128), (0, false, 0)] && are_ended(target)
 }
 
-fn serve_both(rt: &impl Abort, alloc: Global, target: &mut Target<MemoryDisk>, refused: &mut u32) {
+// The edits are those before the connections open, and those after it: steps 0 and 1.
+fn serve_both(alloc: Global, target: &mut Target<MemoryDisk>, refused: &mut u32) -> Outcome {
     let (first, others) = EDITS.split_at(EDITS.len().min(BEFORE));
-    make_edits(rt, alloc, target, first, refused);
-    open_both(rt, target, refused);
-    make_edits(rt, alloc, target, others, refused);
-    assert!(rt; are_both_served(target));
+    pass!(make_edits(alloc, target, first, refused).at_step(0));
+    pass!(open_both(target, refused));
+    pass!(make_edits(alloc, target, others, refused).at_step(1));
+    check(are_both_served(target), "both connections at the end")
 }
 
 /// What a test does with a target.
@@ -148,34 +150,27 @@ fn new_target(alloc: Global) -> Result<Target<MemoryDisk>, NewFault> {
 }
 
 /// Makes a target, and uses it.
-pub fn is_used(
-    rt: &impl Abort,
-    alloc: Global,
-    script: Script,
-    refused: &mut u32,
-) -> Result<bool, NewFault> {
+pub fn use_new(alloc: Global, script: Script, refused: &mut u32) -> Result<Outcome, NewFault> {
     let mut target = new_target(alloc)?;
-    match script {
-        Script::Edits => serve_both(rt, alloc, &mut target, refused),
-        Script::Conversation => conversation::serve_one(rt, alloc, &mut target, refused),
-    }
-    Ok(true)
+    Ok(match script {
+        Script::Edits => serve_both(alloc, &mut target, refused),
+        Script::Conversation => conversation::serve_one(alloc, &mut target, refused),
+    })
 }
 
 // A test that makes no growth of its own: what stands beside each test's growths is counted with it.
 #[test]
 fn nothing_grows(rt: HostRuntime) -> Result<(), Fail> {
-    tell(&rt, 0)
+    tell(&rt, 0, Ok(()))
 }
 
 #[test]
 fn targets(rt: HostRuntime) -> Result<(), Fail> {
     let mut refused = 0u32;
-    again!(
-        rt,
+    let answer = again!(
         refused,
         NewFault::Memory,
-        is_used(&rt, rt.alloc(), Script::Edits, &mut refused)
+        use_new(rt.alloc(), Script::Edits, &mut refused)
     );
-    tell(&rt, refused)
+    tell(&rt, refused, used(answer))
 }

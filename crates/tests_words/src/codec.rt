@@ -6,7 +6,8 @@ ghost use Rattle.pdu_codec.specs.C2hData.{c2h_data, piece_with};
 use bytes::BytesMut;
 use nvt_fields::Status;
 use pdu_codec::{C2hHead, Cqe, DataHead, Full, IcResp, R2t};
-use std::alloc::{AllocError, Global};
+use std::alloc::Global;
+use testkit_tables::{Outcome, check, check_bytes, pass};
 
 const RESPONSE: &[u8; 24] =
     b"\x05\x00\x18\x00\x18\x00\x00\x00\x01\x02\x03\x04\x05\x06\x07\x08\x09\x0a\x00\x00\x0b\x0c\x05\x83";
@@ -95,14 +96,17 @@ fn write_room(room: &mut [u8], payload: &[u8])
     room.copy_from_slice(payload);
 }
 
-// Whether a buffer with room for one such PDU takes one and no more.
-fn takes_one(alloc: Global) -> Result<bool, AllocError> {
-    let mut out = BytesMut::with_capacity(alloc, 36)?;
-    let first = write_in_place(&mut out, &HEAD, b"abcd").is_ok() && out.as_slice() == DATA;
-    Ok(first && HEAD.write(&mut out) == Err(Full) && out.as_slice() == DATA)
+// A buffer with room for one such PDU takes one and no more.
+fn check_one(out: &mut BytesMut) -> Outcome {
+    let is_written = write_in_place(out, &HEAD, b"abcd").is_ok();
+    pass!(check(is_written, "room for the first"));
+    pass!(check_bytes(out.as_slice(), DATA));
+    pass!(check(HEAD.write(out) == Err(Full), "no room for a second"));
+    check_bytes(out.as_slice(), DATA)
 }
 
 #[test]
-fn data_are_written_in_place(rt: HostRuntime) {
-    assert!(rt; matches!(takes_one(rt.alloc()), Ok(true)));
+fn data_are_written_in_place(rt: HostRuntime) -> Outcome {
+    let mut out = BytesMut::with_capacity(rt.alloc(), 36)?;
+    check_one(&mut out)
 }

@@ -1,5 +1,6 @@
 //! Each command by its name, and what its data are.
 use super::talk::{Turn, talks};
+use testkit_tables::Outcome;
 
 const FABRICS_COMMANDS: &[Turn] = &[
     Turn::Output(b"0 open", b""),
@@ -46,8 +47,8 @@ const FABRICS_COMMANDS: &[Turn] = &[
 ];
 
 #[test]
-fn fabrics_commands(rt: HostRuntime) {
-    assert!(rt; talks(rt.alloc(), FABRICS_COMMANDS));
+fn fabrics_commands(rt: HostRuntime) -> Outcome {
+    talks(rt.alloc(), FABRICS_COMMANDS)
 }
 
 const ADMIN_COMMANDS: &[Turn] = &[
@@ -100,8 +101,8 @@ const ADMIN_COMMANDS: &[Turn] = &[
 ];
 
 #[test]
-fn admin_commands(rt: HostRuntime) {
-    assert!(rt; talks(rt.alloc(), ADMIN_COMMANDS));
+fn admin_commands(rt: HostRuntime) -> Outcome {
+    talks(rt.alloc(), ADMIN_COMMANDS)
 }
 
 // Once a Connect has asked for an I/O queue, and until one asks for the admin queue.
@@ -165,8 +166,8 @@ const IO_COMMANDS: &[Turn] = &[
 ];
 
 #[test]
-fn io_commands(rt: HostRuntime) {
-    assert!(rt; talks(rt.alloc(), IO_COMMANDS));
+fn io_commands(rt: HostRuntime) -> Outcome {
+    talks(rt.alloc(), IO_COMMANDS)
 }
 
 const RESULTS: &[Turn] = &[
@@ -194,8 +195,8 @@ const RESULTS: &[Turn] = &[
 ];
 
 #[test]
-fn results(rt: HostRuntime) {
-    assert!(rt; talks(rt.alloc(), RESULTS));
+fn results(rt: HostRuntime) -> Outcome {
+    talks(rt.alloc(), RESULTS)
 }
 
 const IDENTIFY_DATA: &[Turn] = &[
@@ -248,8 +249,8 @@ const IDENTIFY_DATA: &[Turn] = &[
 ];
 
 #[test]
-fn identify_data(rt: HostRuntime) {
-    assert!(rt; talks(rt.alloc(), IDENTIFY_DATA));
+fn identify_data(rt: HostRuntime) -> Outcome {
+    talks(rt.alloc(), IDENTIFY_DATA)
 }
 
 const LOG_PAGE_DATA: &[Turn] = &[
@@ -309,8 +310,8 @@ const LOG_PAGE_DATA: &[Turn] = &[
 ];
 
 #[test]
-fn log_page_data(rt: HostRuntime) {
-    assert!(rt; talks(rt.alloc(), LOG_PAGE_DATA));
+fn log_page_data(rt: HostRuntime) -> Outcome {
+    talks(rt.alloc(), LOG_PAGE_DATA)
 }
 
 // Data with SUCCESS stand for a response.
@@ -342,8 +343,8 @@ const TRANSFERS: &[Turn] = &[
 ];
 
 #[test]
-fn transfers(rt: HostRuntime) {
-    assert!(rt; talks(rt.alloc(), TRANSFERS));
+fn transfers(rt: HostRuntime) -> Outcome {
+    talks(rt.alloc(), TRANSFERS)
 }
 
 const TERMINATIONS: &[Turn] = &[
@@ -387,8 +388,8 @@ const TERMINATIONS: &[Turn] = &[
 ];
 
 #[test]
-fn terminations(rt: HostRuntime) {
-    assert!(rt; talks(rt.alloc(), TERMINATIONS));
+fn terminations(rt: HostRuntime) -> Outcome {
+    talks(rt.alloc(), TERMINATIONS)
 }
 
 const PDUS_OF_THE_HOST: &[Turn] = &[
@@ -414,6 +415,6 @@ const PDUS_OF_THE_HOST: &[Turn] = &[
 ];
 
 #[test]
-fn pdus_of_the_host(rt: HostRuntime) {
-    assert!(rt; talks(rt.alloc(), PDUS_OF_THE_HOST));
+fn pdus_of_the_host(rt: HostRuntime) -> Outcome {
+    talks(rt.alloc(), PDUS_OF_THE_HOST)
 }

@@ -1,5 +1,6 @@
 //! Which command a PDU belongs to.
 use super::talk::{Turn, talks};
+use testkit_tables::Outcome;
 
 // The conversation of examples/first.
 const FIRST: &[Turn] = &[
@@ -39,8 +40,8 @@ const FIRST: &[Turn] = &[
 ];
 
 #[test]
-fn the_first_conversation(rt: HostRuntime) {
-    assert!(rt; talks(rt.alloc(), FIRST));
+fn the_first_conversation(rt: HostRuntime) -> Outcome {
+    talks(rt.alloc(), FIRST)
 }
 
 // Two commands with one CID: the conflict is the newest one's.
@@ -69,8 +70,8 @@ const CONFLICT: &[Turn] = &[
 ];
 
 #[test]
-fn a_conflict_is_the_newest_commands(rt: HostRuntime) {
-    assert!(rt; talks(rt.alloc(), CONFLICT));
+fn a_conflict_is_the_newest_commands(rt: HostRuntime) -> Outcome {
+    talks(rt.alloc(), CONFLICT)
 }
 
 const KEEP_ALIVE_ANSWERED: &[u8] = b"0 pdu 050018001800000000000000000000000100000009000000";
@@ -104,8 +105,8 @@ const CONNECTIONS: &[Turn] = &[
 ];
 
 #[test]
-fn connections_are_apart(rt: HostRuntime) {
-    assert!(rt; talks(rt.alloc(), CONNECTIONS));
+fn connections_are_apart(rt: HostRuntime) -> Outcome {
+    talks(rt.alloc(), CONNECTIONS)
 }
 
 // A Keep Alive in three pieces, the last with an Abort, a header that cannot be cut, and one more
@@ -130,6 +131,6 @@ const PIECES: &[Turn] = &[
 ];
 
 #[test]
-fn a_stream_is_cut(rt: HostRuntime) {
-    assert!(rt; talks(rt.alloc(), PIECES));
+fn a_stream_is_cut(rt: HostRuntime) -> Outcome {
+    talks(rt.alloc(), PIECES)
 }

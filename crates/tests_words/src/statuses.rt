@@ -1,5 +1,6 @@
 //! Each status by its name.
 use super::talk::{Turn, talks};
+use testkit_tables::Outcome;
 
 const GENERIC: &[Turn] = &[
     Turn::Output(
@@ -122,21 +123,21 @@ const WITHOUT_A_NAME: &[Turn] = &[
 ];
 
 #[test]
-fn generic(rt: HostRuntime) {
-    assert!(rt; talks(rt.alloc(), GENERIC));
+fn generic(rt: HostRuntime) -> Outcome {
+    talks(rt.alloc(), GENERIC)
 }
 
 #[test]
-fn command_specific(rt: HostRuntime) {
-    assert!(rt; talks(rt.alloc(), COMMAND_SPECIFIC));
+fn command_specific(rt: HostRuntime) -> Outcome {
+    talks(rt.alloc(), COMMAND_SPECIFIC)
 }
 
 #[test]
-fn media_and_path(rt: HostRuntime) {
-    assert!(rt; talks(rt.alloc(), MEDIA_AND_PATH));
+fn media_and_path(rt: HostRuntime) -> Outcome {
+    talks(rt.alloc(), MEDIA_AND_PATH)
 }
 
 #[test]
-fn without_a_name(rt: HostRuntime) {
-    assert!(rt; talks(rt.alloc(), WITHOUT_A_NAME));
+fn without_a_name(rt: HostRuntime) -> Outcome {
+    talks(rt.alloc(), WITHOUT_A_NAME)
 }

@@ -2,6 +2,7 @@
 use replay_words::Explained;
 use std::alloc::{AllocError, Global};
 use std::io::{self, Write};
+use testkit_tables::{Outcome, check, check_lines};
 
 /// A line of a talk.
 #[derive(Clone, Copy)]
@@ -22,11 +23,12 @@ const ENTRY: usize = 128;
 
 const BEFORE_CDW10: usize = 80;
 
-/// Whether each line of the target is printed with the words that are wanted.
-pub fn talks(alloc: Global, turns: &[Turn]) -> bool {
+/// Each line of the target is printed with the words that are wanted; the row is the line.
+pub fn talks(alloc: Global, turns: &[Turn]) -> Outcome {
     let mut out = Vec::new(alloc);
     let mut wanted = Vec::new(alloc);
-    talk(alloc, &mut out, &mut wanted, turns).is_ok() && out.as_slice() == wanted.as_slice()
+    let has_talked = talk(alloc, &mut out, &mut wanted, turns).is_ok();
+    check(has_talked, "memory").and(check_lines(&out, &wanted))
 }
 
 fn talk(alloc: Global, out: &mut Vec<u8>, wanted: &mut Vec<u8>, turns: &[Turn]) -> io::Result<()> {

@@ -4,6 +4,7 @@ ghost use Rattle.std.specs.Prelude.{◌<◌};
 use replay_words::Explained;
 use std::alloc::Global;
 use std::io::{self, ErrorKind, Write};
+use testkit_tables::{Outcome, check, check_lines, check_rows};
 
 const PRINTED: &[u8] =
     b"0 open\nedit ok\n0 pdu 050018001800000000000000000000000100000009000000\n0 pdu 05x\n0 pdu\n\n99999999999999999999 pdu 00\n0 pdu 0800180018000000\nno end";
@@ -11,11 +12,12 @@ const PRINTED: &[u8] =
 const WANTED: &[u8] =
     b"0 open\nedit ok\n0 pdu 050018001800000000000000000000000100000009000000 # CapsuleResp CID 9 SQHD 1 success\n0 pdu 05x\n0 pdu\n\n99999999999999999999 pdu 00\n0 pdu 0800180018000000 # no PDU\nno end";
 
-fn passes(alloc: Global, pieces: usize) -> bool
+fn passes(alloc: Global, pieces: usize) -> Outcome
     requires { 0 < pieces }
 {
     let mut out = Vec::new(alloc);
-    write_in(alloc, &mut out, pieces).is_ok() && out.as_slice() == WANTED
+    let is_written = write_in(alloc, &mut out, pieces).is_ok();
+    check(is_written, "memory").and(check_lines(&out, WANTED))
 }
 
 // Writes in pieces of so many bytes.
@@ -30,18 +32,18 @@ fn write_in(alloc: Global, out: &mut Vec<u8>, pieces: usize) -> io::Result<()>
 }
 
 #[test]
-fn lines_are_passed_on(rt: HostRuntime) {
-    assert!(rt; passes(rt.alloc(), 4096));
+fn lines_are_passed_on(rt: HostRuntime) -> Outcome {
+    passes(rt.alloc(), 4096)
 }
 
 #[test]
-fn bytes_are_passed_on_one_by_one(rt: HostRuntime) {
-    assert!(rt; passes(rt.alloc(), 1));
+fn bytes_are_passed_on_one_by_one(rt: HostRuntime) -> Outcome {
+    passes(rt.alloc(), 1)
 }
 
 #[test]
-fn bytes_are_passed_on_by_sevens(rt: HostRuntime) {
-    assert!(rt; passes(rt.alloc(), 7));
+fn bytes_are_passed_on_by_sevens(rt: HostRuntime) -> Outcome {
+    passes(rt.alloc(), 7)
 }
 
 // A writer that has room for so many bytes, and then fails.
@@ -77,7 +79,14 @@ fn fails(alloc: Global, room: usize) -> bool {
 
 // The line has 22 bytes, the words 9, and its end 1.
 #[test]
-fn a_fault_of_the_writer_is_told(rt: HostRuntime) {
-    assert!(rt; fails(rt.alloc(), 0) && fails(rt.alloc(), 21) && fails(rt.alloc(), 22));
-    assert!(rt; fails(rt.alloc(), 31) && !fails(rt.alloc(), 32));
+fn a_fault_of_the_writer_is_told(rt: HostRuntime) -> Outcome {
+    let alloc = rt.alloc();
+    let rows = [
+        fails(alloc, 0),
+        fails(alloc, 21),
+        fails(alloc, 22),
+        fails(alloc, 31),
+        !fails(alloc, 32),
+    ];
+    check_rows(&rows, "whether the writer fails")
 }

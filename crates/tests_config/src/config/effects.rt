@@ -1,18 +1,18 @@
-use super::outline::{has_lists, is_answered};
+use super::outline::{check_answer, check_lists};
 use super::{Script, holds};
 use nvt_config::{Access, AnaState, Config, Family};
 use nvt_fields::DISCOVERY_NQN;
 use std::alloc::Global;
 use testkit_edits::{Blocks, Line};
+use testkit_tables::{Outcome, Placed, check, pass};
 
-/// Whether each edit is accepted in turn, and leaves the lists beside it.
-pub fn are_accepted(alloc: Global, config: &mut Config, rows: &[(Line<'_>, &[u8])]) -> bool {
-    for (line, lists) in rows {
-        if !is_answered(alloc, config, *line, Ok(())) || !has_lists(config, lists) {
-            return false;
-        }
+/// Each edit is accepted in turn, and leaves the lists beside it.
+pub fn check_accepted(alloc: Global, config: &mut Config, rows: &[(Line<'_>, &[u8])]) -> Outcome {
+    for (row, (line, lists)) in rows.iter().enumerate() {
+        pass!(check_answer(alloc, config, *line, Ok(())).in_row(row));
+        pass!(check_lists(config, lists).in_row(row));
     }
-    true
+    Ok(())
 }
 
 const SETS: &[(Line<'static>, &[u8])] = &[
@@ -46,13 +46,14 @@ fn is_second_port(config: &Config, family: Family, address: &[u8]) -> bool {
     }
 }
 
-pub fn are_sets_made(alloc: Global, config: &mut Config) -> bool {
-    are_accepted(alloc, config, SETS) && is_second_port(config, Family::Ipv6, b"::1")
+pub fn check_sets(alloc: Global, config: &mut Config) -> Outcome {
+    pass!(check_accepted(alloc, config, SETS));
+    check(is_second_port(config, Family::Ipv6, b"::1"), "port 2")
 }
 
 #[test]
-fn of_sets(rt: HostRuntime) {
-    assert!(rt; holds(rt.alloc(), Script::Sets));
+fn of_sets(rt: HostRuntime) -> Outcome {
+    holds(rt.alloc(), Script::Sets)
 }
 
 const REMOVALS: &[(Line<'static>, &[u8])] = &[
@@ -87,13 +88,13 @@ const REMOVALS: &[(Line<'static>, &[u8])] = &[
     ),
 ];
 
-pub fn are_removals_made(alloc: Global, config: &mut Config) -> bool {
-    are_accepted(alloc, config, REMOVALS)
+pub fn check_removals(alloc: Global, config: &mut Config) -> Outcome {
+    check_accepted(alloc, config, REMOVALS)
 }
 
 #[test]
-fn of_removals(rt: HostRuntime) {
-    assert!(rt; holds(rt.alloc(), Script::Removals));
+fn of_removals(rt: HostRuntime) -> Outcome {
+    holds(rt.alloc(), Script::Removals)
 }
 
 const HOSTS: &[(Line<'static>, &[u8])] = &[
@@ -107,8 +108,8 @@ const HOSTS: &[(Line<'static>, &[u8])] = &[
 ];
 
 #[test]
-fn of_hosts(rt: HostRuntime) {
-    assert!(rt; holds(rt.alloc(), Script::Effects(HOSTS)));
+fn of_hosts(rt: HostRuntime) -> Outcome {
+    holds(rt.alloc(), Script::Effects(HOSTS))
 }
 
 const FIRST: Blocks = Blocks {
@@ -170,8 +171,8 @@ const NAMESPACES: &[(Line<'static>, &[u8])] = &[
 ];
 
 #[test]
-fn of_namespaces(rt: HostRuntime) {
-    assert!(rt; holds(rt.alloc(), Script::Effects(NAMESPACES)));
+fn of_namespaces(rt: HostRuntime) -> Outcome {
+    holds(rt.alloc(), Script::Effects(NAMESPACES))
 }
 
 const ALLOWS: &[(Line<'static>, &[u8])] = &[
@@ -194,8 +195,8 @@ const ALLOWS: &[(Line<'static>, &[u8])] = &[
 ];
 
 #[test]
-fn of_allows(rt: HostRuntime) {
-    assert!(rt; holds(rt.alloc(), Script::Effects(ALLOWS)));
+fn of_allows(rt: HostRuntime) -> Outcome {
+    holds(rt.alloc(), Script::Effects(ALLOWS))
 }
 
 const STATES: &[(Line<'static>, &[u8])] = &[
@@ -237,8 +238,8 @@ const STATES: &[(Line<'static>, &[u8])] = &[
 ];
 
 #[test]
-fn of_ana_states(rt: HostRuntime) {
-    assert!(rt; holds(rt.alloc(), Script::Effects(STATES)));
+fn of_ana_states(rt: HostRuntime) -> Outcome {
+    holds(rt.alloc(), Script::Effects(STATES))
 }
 
 const REFERRALS: &[(Line<'static>, &[u8])] = &[
@@ -272,11 +273,15 @@ fn is_last_referral(config: &Config, family: Family, address: &[u8]) -> bool {
     }
 }
 
-pub fn are_referrals_made(alloc: Global, config: &mut Config) -> bool {
-    are_accepted(alloc, config, REFERRALS) && is_last_referral(config, Family::Ipv6, b"::2")
+pub fn check_referrals(alloc: Global, config: &mut Config) -> Outcome {
+    pass!(check_accepted(alloc, config, REFERRALS));
+    check(
+        is_last_referral(config, Family::Ipv6, b"::2"),
+        "the last referral",
+    )
 }
 
 #[test]
-fn of_referrals(rt: HostRuntime) {
-    assert!(rt; holds(rt.alloc(), Script::Referrals));
+fn of_referrals(rt: HostRuntime) -> Outcome {
+    holds(rt.alloc(), Script::Referrals)
 }

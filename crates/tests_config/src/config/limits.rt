@@ -1,8 +1,9 @@
-use super::outline::is_answered;
+use super::outline::check_answer;
 use super::{Script, holds};
 use nvt_config::{Access, Config, EditFault, Item};
 use std::alloc::Global;
 use testkit_edits::Line;
+use testkit_tables::{Outcome, Placed, check, check_number, pass};
 
 // The name `nqn.` and a number of three digits.
 fn name(number: u8) -> [u8; 7] {
@@ -13,47 +14,43 @@ fn name(number: u8) -> [u8; 7] {
     name
 }
 
-fn are_answered(
+fn check_answers(
     alloc: Global,
     config: &mut Config,
     rows: &[(Line<'_>, Result<(), EditFault>)],
-) -> bool {
-    for (line, answer) in rows {
-        if !is_answered(alloc, config, *line, *answer) {
-            return false;
-        }
+) -> Outcome {
+    for (row, (line, answer)) in rows.iter().enumerate() {
+        pass!(check_answer(alloc, config, *line, *answer).in_row(row));
     }
-    true
+    Ok(())
 }
 
-// Whether 32 subsystems are added.
-fn are_subsystems_added(alloc: Global, config: &mut Config) -> bool {
-    let mut are_added = true;
-    for number in 0..32 {
+// 32 subsystems are added; the step is the subsystem's number.
+fn add_subsystems(alloc: Global, config: &mut Config) -> Outcome {
+    for number in 0..32u8 {
         let line = Line::SubsystemAdd(&name(number), b"SN", Access::Open);
-        are_added &= is_answered(alloc, config, line, Ok(()));
+        pass!(check_answer(alloc, config, line, Ok(())).at_step(usize::from(number)));
     }
-    are_added
+    Ok(())
 }
 
-// Whether a port is added, and a link of each subsystem on it.
-fn is_port_linked(alloc: Global, config: &mut Config, port: u64) -> bool {
+// A port is added, and a link of each subsystem on it.
+fn add_port(alloc: Global, config: &mut Config, port: u64) -> Outcome {
     let line = Line::PortAdd(port, &[b'!'; 256], 65_535);
-    let mut are_added = is_answered(alloc, config, line, Ok(()));
-    for number in 0..32 {
+    pass!(check_answer(alloc, config, line, Ok(())));
+    for number in 0..32u8 {
         let line = Line::LinkAdd(port, &name(number));
-        are_added &= is_answered(alloc, config, line, Ok(()));
+        pass!(check_answer(alloc, config, line, Ok(())).at_step(usize::from(number)));
     }
-    are_added
+    Ok(())
 }
 
-// Whether 16 ports are added, and a link of each subsystem on each port.
-fn are_ports_linked(alloc: Global, config: &mut Config) -> bool {
-    let mut are_linked = true;
+// 16 ports are added, and a link of each subsystem on each port; the row is the port.
+fn add_ports(alloc: Global, config: &mut Config) -> Outcome {
     for port in 65_520..65_536u64 {
-        are_linked &= is_port_linked(alloc, config, port);
+        pass!(add_port(alloc, config, port).in_row(port as usize));
     }
-    are_linked
+    Ok(())
 }
 
 const OVER_ALL_LINKED: &[(Line<'static>, Result<(), EditFault>)] = &[
@@ -72,28 +69,27 @@ const OVER_ALL_LINKED: &[(Line<'static>, Result<(), EditFault>)] = &[
     (Line::PortAdd(1, b"~", 1), Err(EditFault::Full(Item::Port))),
 ];
 
-pub fn is_full_of_links(alloc: Global, config: &mut Config) -> bool {
-    let are_linked = are_subsystems_added(alloc, config) && are_ports_linked(alloc, config);
-    let are_answered = are_answered(alloc, config, OVER_ALL_LINKED);
-    let lens = [
-        config.subsystems().len(),
-        config.ports().len(),
-        config.links().len(),
-    ];
-    are_linked && are_answered && lens == [32, 16, 512]
+pub fn check_links(alloc: Global, config: &mut Config) -> Outcome {
+    pass!(add_subsystems(alloc, config));
+    pass!(add_ports(alloc, config));
+    pass!(check_answers(alloc, config, OVER_ALL_LINKED));
+    pass!(check_number(config.subsystems().len() as u64, 32));
+    pass!(check_number(config.ports().len() as u64, 16));
+    check_number(config.links().len() as u64, 512)
 }
 
 #[test]
-fn each_subsystem_on_each_port(rt: HostRuntime) {
-    assert!(rt; holds(rt.alloc(), Script::AllLinked));
+fn each_subsystem_on_each_port(rt: HostRuntime) -> Outcome {
+    holds(rt.alloc(), Script::AllLinked)
 }
 
-fn are_hosts_added(alloc: Global, config: &mut Config) -> bool {
-    let mut are_added = true;
-    for number in 0..=255 {
-        are_added &= is_answered(alloc, config, Line::HostAdd(&name(number)), Ok(()));
+// The step is the host's number.
+fn add_hosts(alloc: Global, config: &mut Config) -> Outcome {
+    for number in 0..=255u8 {
+        let line = Line::HostAdd(&name(number));
+        pass!(check_answer(alloc, config, line, Ok(())).at_step(usize::from(number)));
     }
-    are_added
+    Ok(())
 }
 
 const FULL: Result<(), EditFault> = Err(EditFault::Full(Item::Host));
@@ -117,14 +113,14 @@ fn is_live_at(config: &Config, place: usize, nqn: &[u8]) -> bool {
     }
 }
 
-pub fn is_full_of_hosts(alloc: Global, config: &mut Config) -> bool {
-    are_hosts_added(alloc, config)
-        && are_answered(alloc, config, OVER_ALL_HOSTS)
-        && config.hosts().len() == 256
-        && is_live_at(config, 7, b"nqn.007")
+pub fn check_hosts(alloc: Global, config: &mut Config) -> Outcome {
+    pass!(add_hosts(alloc, config));
+    pass!(check_answers(alloc, config, OVER_ALL_HOSTS));
+    pass!(check_number(config.hosts().len() as u64, 256));
+    check(is_live_at(config, 7, b"nqn.007"), "host 7")
 }
 
 #[test]
-fn names_of_hosts(rt: HostRuntime) {
-    assert!(rt; holds(rt.alloc(), Script::AllHosts));
+fn names_of_hosts(rt: HostRuntime) -> Outcome {
+    holds(rt.alloc(), Script::AllHosts)
 }

@@ -3,6 +3,7 @@ use nvt_config::{Access, AnaState, Config, EditFault, GroupState, Namespace, Por
 use nvt_fields::Nqn;
 use std::alloc::Global;
 use testkit_edits::{Line, edit};
+use testkit_tables::{Outcome, check, check_bytes};
 
 // As many bytes of a line as there is room for.
 #[derive(Clone, Copy)]
@@ -96,19 +97,19 @@ impl Outline {
     }
 }
 
-/// Whether the configuration has these lists, each in its order: subsystems that are open as a
+/// The configuration has these lists, each in its order: subsystems that are open as a
 /// letter, others in brackets; ports as a number and a service; links as a number and a letter;
 /// hosts that are live as a letter, others in brackets; namespaces as a letter and an identifier, a
 /// disk, a size and a group; allows as two letters; ANA states as a port, a letter, a group and a
 /// letter; referrals as ports behind a `>`.
-pub fn has_lists(config: &Config, lists: &[u8]) -> bool {
+pub fn check_lists(config: &Config, lists: &[u8]) -> Outcome {
     let mut outline = Outline {
         bytes: [0; 96],
         len: 0,
     };
     outline.push_items(config);
     outline.push_uses(config);
-    outline.bytes.get(..outline.len) == Some(lists)
+    check_bytes(outline.bytes.get(..outline.len).unwrap_or(&[]), lists)
 }
 
 fn last_letter(nqn: &Nqn) -> u8 {
@@ -125,15 +126,18 @@ fn letter_of(state: AnaState) -> u8 {
     }
 }
 
-/// Whether `check` and `apply` answer the edit of a line so.
-pub fn is_answered(
+/// `check` and `apply` answer the edit of a line so.
+pub fn check_answer(
     alloc: Global,
     config: &mut Config,
     line: Line<'_>,
     answer: Result<(), EditFault>,
-) -> bool {
+) -> Outcome {
     match edit(alloc, line) {
-        Ok(edit) => (config.check(&edit), config.apply(&edit)) == (answer, answer),
-        Err(_) => false,
+        Ok(edit) => {
+            let answers = (config.check(&edit), config.apply(&edit));
+            check(answers == (answer, answer), "the answer of this edit")
+        }
+        Err(_) => check(false, "the edit of this line"),
     }
 }

@@ -1,32 +1,34 @@
-use super::outline::is_answered;
-use super::{DISKS, Script, holds, is_filled};
+use super::outline::check_answer;
+use super::{DISKS, Script, fill, holds};
 use nvt_config::{Access, Config, EditFault, Family, Item, Value};
 use nvt_fields::DISCOVERY_NQN;
 use std::alloc::Global;
 use testkit_edits::{Line, is_same};
+use testkit_tables::{Outcome, Placed, check, pass};
 
-// Whether both calls refuse each edit for its first reason, and leave all as it was.
-pub fn are_refused(alloc: Global, config: &mut Config, rows: &[(Line<'_>, EditFault)]) -> bool {
+// Both calls refuse each edit for its first reason, and leave all as it was.
+pub fn check_refused(
+    alloc: Global,
+    config: &mut Config,
+    rows: &[(Line<'_>, EditFault)],
+) -> Outcome {
     match Config::new(alloc, DISKS) {
-        Ok(mut before) => {
-            is_filled(alloc, &mut before) && leaves_all(alloc, config, &before, rows)
-        }
-        Err(_) => false,
+        Ok(mut before) => { fill(alloc, &mut before).and(check_rows(alloc, config, &before, rows)) }
+        Err(_) => check(false, "memory"),
     }
 }
 
-fn leaves_all(
+fn check_rows(
     alloc: Global,
     config: &mut Config,
     before: &Config,
     rows: &[(Line<'_>, EditFault)],
-) -> bool {
-    for (line, fault) in rows {
-        if !is_answered(alloc, config, *line, Err(*fault)) || !is_same(config, before) {
-            return false;
-        }
+) -> Outcome {
+    for (row, (line, fault)) in rows.iter().enumerate() {
+        pass!(check_answer(alloc, config, *line, Err(*fault)).in_row(row));
+        pass!(check(is_same(config, before), "a refusal that changes nothing").in_row(row));
     }
-    true
+    Ok(())
 }
 
 const NO_SUBSYSTEM: EditFault = EditFault::NoSuch(Item::Subsystem);
@@ -79,8 +81,8 @@ const SUBSYSTEMS: &[(Line<'static>, EditFault)] = &[
 ];
 
 #[test]
-fn of_subsystems(rt: HostRuntime) {
-    assert!(rt; holds(rt.alloc(), Script::Refusals(SUBSYSTEMS)));
+fn of_subsystems(rt: HostRuntime) -> Outcome {
+    holds(rt.alloc(), Script::Refusals(SUBSYSTEMS))
 }
 
 // A port's number, its address and its service, which are refused when it is added and when it is set.
@@ -95,22 +97,20 @@ const PORT_VALUES: &[(u64, &[u8], u64, EditFault)] = &[
     (4, b"a", 65_536, BAD_SERVICE),
 ];
 
-pub fn are_port_values_refused(alloc: Global, config: &mut Config) -> bool {
-    for (id, address, service, fault) in PORT_VALUES {
-        let rows = [
-            (Line::PortAdd(*id, address, *service), *fault),
-            (Line::PortSet(*id, Family::Ipv6, address, *service), *fault),
-        ];
-        if !are_refused(alloc, config, &rows) {
-            return false;
-        }
+// The row is that of the values; step 0 adds a port, and step 1 sets one.
+pub fn check_port_values(alloc: Global, config: &mut Config) -> Outcome {
+    for (row, (id, address, service, fault)) in PORT_VALUES.iter().enumerate() {
+        let adds = [(Line::PortAdd(*id, address, *service), *fault)];
+        pass!(check_refused(alloc, config, &adds).at_step(0).in_row(row));
+        let sets = [(Line::PortSet(*id, Family::Ipv6, address, *service), *fault)];
+        pass!(check_refused(alloc, config, &sets).at_step(1).in_row(row));
     }
-    true
+    Ok(())
 }
 
 #[test]
-fn of_the_values_of_ports(rt: HostRuntime) {
-    assert!(rt; holds(rt.alloc(), Script::PortValues));
+fn of_the_values_of_ports(rt: HostRuntime) -> Outcome {
+    holds(rt.alloc(), Script::PortValues)
 }
 
 const PORTS: &[(Line<'static>, EditFault)] = &[
@@ -124,8 +124,8 @@ const PORTS: &[(Line<'static>, EditFault)] = &[
 ];
 
 #[test]
-fn of_ports(rt: HostRuntime) {
-    assert!(rt; holds(rt.alloc(), Script::Refusals(PORTS)));
+fn of_ports(rt: HostRuntime) -> Outcome {
+    holds(rt.alloc(), Script::Refusals(PORTS))
 }
 
 const LINKS: &[(Line<'static>, EditFault)] = &[
@@ -143,8 +143,8 @@ const LINKS: &[(Line<'static>, EditFault)] = &[
 ];
 
 #[test]
-fn of_links(rt: HostRuntime) {
-    assert!(rt; holds(rt.alloc(), Script::Refusals(LINKS)));
+fn of_links(rt: HostRuntime) -> Outcome {
+    holds(rt.alloc(), Script::Refusals(LINKS))
 }
 
 const HOSTS: &[(Line<'static>, EditFault)] = &[
@@ -154,6 +154,6 @@ const HOSTS: &[(Line<'static>, EditFault)] = &[
 ];
 
 #[test]
-fn of_hosts(rt: HostRuntime) {
-    assert!(rt; holds(rt.alloc(), Script::Refusals(HOSTS)));
+fn of_hosts(rt: HostRuntime) -> Outcome {
+    holds(rt.alloc(), Script::Refusals(HOSTS))
 }

@@ -4,6 +4,7 @@ use nvt_config::{Edit, NewFault};
 use std::alloc::{AllocError, Global};
 use target_core::{OpenFault, Stepped, Target};
 use testkit_edits::{Line, edit};
+use testkit_tables::{Outcome, Placed, check};
 
 pub const CONNECTIONS: u32 = 4;
 
@@ -33,7 +34,8 @@ pub struct Script {
     pub target: Target<MemoryDisk>,
     whole: Target<MemoryDisk>,
     known: [Known; 4],
-    fault: Option<&'static str>,
+    step: usize,
+    outcome: Outcome,
 }
 
 impl Script {
@@ -46,17 +48,23 @@ impl Script {
             target,
             whole,
             known: [UNKNOWN; 4],
-            fault: None,
+            step: 0,
+            outcome: Ok(()),
         })
     }
 
-    pub fn fault(&self) -> Option<&'static str> {
-        self.fault
+    /// What went wrong first, and at which step.
+    pub fn outcome(&self) -> Outcome {
+        self.outcome
     }
 
-    pub fn expect(&mut self, holds: bool, what: &'static str) {
-        if !holds && self.fault.is_none() {
-            self.fault = Some(what);
+    pub fn begin_step(&mut self, step: usize) {
+        self.step = step;
+    }
+
+    pub fn expect(&mut self, holds: bool, fact: &'static str) {
+        if self.outcome.is_ok() {
+            self.outcome = check(holds, fact).at_step(self.step);
         }
     }
 
