@@ -129,32 +129,17 @@ impl Placed for Outcome {
     ghost passes = { λ outcome. IsOk outcome };
 
     fn in_row(self, row: usize) -> Outcome {
-        match self {
-            Ok(()) => Ok(()),
-            Err(failure) => Err(Failure {
-                row: Some(row),
-                ..failure
-            }),
-        }
+        let row = Some(row);
+        self.map_err(|failure| Failure { row, ..failure })
     }
 
     fn at_step(self, step: usize) -> Outcome {
-        match self {
-            Ok(()) => Ok(()),
-            Err(failure) => Err(Failure {
-                step: Some(step),
-                ..failure
-            }),
-        }
+        let step = Some(step);
+        self.map_err(|failure| Failure { step, ..failure })
     }
 
     fn in_script(self, seed: u64, number: u64) -> Outcome {
-        match self {
-            Ok(()) => Ok(()),
-            Err(failure) => Err(Failure {
-                script: Some((seed, number)),
-                ..failure
-            }),
-        }
+        let script = Some((seed, number));
+        self.map_err(|failure| Failure { script, ..failure })
     }
 }
