@@ -1,9 +1,7 @@
 //! Tests of the words for PDUs (`pdu_words`, `host_commands`), through the public calls of
-//! `replay_words`, and of the readers and writers of `pdu_codec` that a host needs.
+//! `replay_words`.
 #![tactic(auto)]
 
-#[cfg(test)]
-mod codec;
 #[cfg(test)]
 mod commands;
 #[cfg(test)]
