@@ -187,9 +187,13 @@ fn counting_disk(alloc: Global, calls: Rc<Cell<Calls>>) -> Result<Vec<CountingDi
     Ok(disks)
 }
 
+fn check_syncs(alloc: Global) -> Result<Outcome, AllocError> {
+    let calls = Rc::new(alloc, Cell::new(NONE))?;
+    let disks = counting_disk(alloc, Rc::clone(&calls)?)?;
+    Ok(holds_over(alloc, disks, &Counted { calls }))
+}
+
 #[test]
 fn a_flush_and_fua_sync_once(rt: HostRuntime) -> Outcome {
-    let calls = Rc::new(rt.alloc(), Cell::new(NONE))?;
-    let disks = counting_disk(rt.alloc(), Rc::clone(&calls)?)?;
-    holds_over(rt.alloc(), disks, &Counted { calls })
+    check_syncs(rt.alloc())?
 }
