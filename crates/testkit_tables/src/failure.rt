@@ -46,7 +46,7 @@ impl Failure {
 
 impl From<AllocError> for Failure {
     fn from(_: AllocError) -> Failure {
-        Failure::of(What::Fact("memory is wanted"))
+        Failure::of(What::Fact("memory"))
     }
 }
 
