@@ -26,10 +26,7 @@ pub enum Script {
 /// All that a script expects of a target holds.
 pub fn holds(alloc: Global, script: Script) -> Outcome {
     match Driver::new(alloc) {
-        Ok(mut driver) => {
-            let outcome = driver.runs(script);
-            driver.outcome.and(outcome)
-        }
+        Ok(mut driver) => driver.check_script(script),
         Err(_) => check(false, "memory"),
     }
 }
@@ -74,6 +71,11 @@ impl Driver {
 
     fn count(&mut self) {
         self.step = self.step.saturating_add(1);
+    }
+
+    fn check_script(&mut self, script: Script) -> Outcome {
+        let outcome = self.runs(script);
+        self.outcome.and(outcome)
     }
 
     // Each script but the first goes on from ports 1 and 2.

@@ -137,15 +137,17 @@ enum Walk {
     Conversation(&'static [Pdu], usize),
 }
 
+fn walk_on(script: &mut Script, walk: Walk) -> Outcome {
+    match walk {
+        Walk::Random(number) => run(script, number),
+        Walk::Conversation(pdus, wanted) => converse(script, pdus, wanted),
+    }
+    script.outcome()
+}
+
 fn check_walk(alloc: Global, walk: Walk) -> Outcome {
     match Script::new(alloc) {
-        Ok(mut script) => {
-            match walk {
-                Walk::Random(number) => run(&mut script, number),
-                Walk::Conversation(pdus, wanted) => converse(&mut script, pdus, wanted),
-            }
-            script.outcome()
-        }
+        Ok(mut script) => walk_on(&mut script, walk),
         Err(_) => check(false, "memory for a target"),
     }
 }

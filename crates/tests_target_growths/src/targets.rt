@@ -149,13 +149,22 @@ fn new_target(alloc: Global) -> Result<Target<MemoryDisk>, NewFault> {
     }
 }
 
+fn use_target(
+    alloc: Global,
+    target: &mut Target<MemoryDisk>,
+    script: Script,
+    refused: &mut u32,
+) -> Outcome {
+    match script {
+        Script::Edits => serve_both(alloc, target, refused),
+        Script::Conversation => conversation::serve_one(alloc, target, refused),
+    }
+}
+
 /// Makes a target, and uses it.
 pub fn use_new(alloc: Global, script: Script, refused: &mut u32) -> Result<Outcome, NewFault> {
     let mut target = new_target(alloc)?;
-    Ok(match script {
-        Script::Edits => serve_both(alloc, &mut target, refused),
-        Script::Conversation => conversation::serve_one(alloc, &mut target, refused),
-    })
+    Ok(use_target(alloc, &mut target, script, refused))
 }
 
 // A test that makes no growth of its own: what stands beside each test's growths is counted with it.
