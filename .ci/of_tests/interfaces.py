@@ -1,5 +1,6 @@
 """What the proof of a crate of tests may read of the libraries below it, by their texts: of each function that the
-tests may call its contract, of each type that these name its declaration, and the definitions that they cite."""
+tests may call its contract, of each type that these name its declaration, of each macro its text, and the definitions
+that they cite."""
 
 import os
 import re
@@ -7,6 +8,7 @@ from functools import lru_cache
 
 from source import COMMENT_OR_TEXT, WORD, functions_of
 
+MACRO = re.compile(r"\bmacro_rules!\s+(\w+)")
 TYPE = re.compile(r"\b(?:struct|enum|trait|type|const|static)\s+(\w+)")
 CITED = re.compile(r"Rattle\.(\w+)\.specs((?:\.\w+)*)")
 
@@ -38,7 +40,7 @@ class Source:
             if it.function.trait or head.lstrip().startswith("pub fn") or head.lstrip().startswith("pub const fn"):
                 self.functions.append((it.function, folded(uncommented(head))))
         self.rest = folded(uncommented("".join([*rest, text[end:]])))
-        self.types = {*TYPE.findall(self.rest)}
+        self.types, self.macros = {*TYPE.findall(self.rest)}, {*MACRO.findall(self.rest)}
 
 
 class Interfaces:
@@ -62,13 +64,16 @@ class Interfaces:
 
     def read_by(self, crate, words):
         """Returns the contracts of the functions that have one of these names, or are of a trait for a type that is
-        named; and of each file that has such a function or type all that is no function."""
-        types, found, before = names_of_types(" ".join(words)), set(), -1
+        named; and of each file that has such a function, type or macro all that is no function. What a macro names is
+        named, too."""
+        words, types, found, before = {*words}, names_of_types(" ".join(words)), set(), -1
         while len(found) > before:
             before = len(found)
             for it in [it for name in crate.below for it in self.sources(name)]:
                 called = [text for of, text in it.functions if of.name in words or of.trait and of.owner in types]
-                texts = [*called, it.rest] if called or it.types & types else []
+                is_written = it.macros & words
+                texts = [*called, it.rest] if called or is_written or it.types & types else []
+                words |= {*WORD.findall(it.rest)} if is_written else set()
                 found.update(f"{it.crate}/{it.file} {text}" for text in texts)
                 types |= names_of_types(" ".join(texts))
         return found

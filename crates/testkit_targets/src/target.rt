@@ -1,0 +1,52 @@
+//! A target over disks of a test's own.
+use block_store::Disk;
+use std::alloc::Global;
+use target_core::{Stepped, Target};
+use testkit_edits::{Line, edit};
+
+/// A target whose calls are to go well.
+#[derive(Drop)]
+pub struct TestTarget<D: Disk> {
+    alloc: Global,
+    target: Target<D>,
+}
+
+impl<D: Disk + Drop> TestTarget<D> {
+    /// A target over these disks.
+    pub fn over(alloc: Global, disks: Vec<D>) -> Option<TestTarget<D>> {
+        match Target::new(alloc, disks) {
+            Ok(target) => Some(TestTarget { alloc, target }),
+            Err(_) => None,
+        }
+    }
+
+    /// Whether this edit is accepted.
+    pub fn edits(&mut self, line: Line<'_>) -> bool {
+        match edit(self.alloc, line) {
+            Ok(edit) => self.target.edit(&edit) == Ok(()),
+            Err(_) => false,
+        }
+    }
+
+    /// Whether the connection that opens on port 1 is this one.
+    pub fn opens(&mut self, k: usize) -> bool {
+        self.target.open(1) == Ok(k)
+    }
+
+    /// Whether a whole PDU is received, and stepped.
+    pub fn takes(&mut self, k: usize, bytes: &[u8]) -> bool {
+        self.target.receive(k, bytes) == Ok(bytes.len()) && self.target.step(k) == Ok(Stepped::One)
+    }
+
+    /// What was sent on a connection and is not taken away.
+    pub fn sent(&self, k: usize) -> &[u8] {
+        self.target.output(k)
+    }
+
+    /// Takes away all that was sent.
+    pub fn empties(&mut self, k: usize) -> bool {
+        let len = self.target.output(k).len();
+        self.target.taken(k, len);
+        self.target.output(k).is_empty()
+    }
+}

@@ -1,0 +1,12 @@
+//! Want of memory in a target and in a replay, at any growth: as `tests_growths`, which has the parts
+//! below. What owns a target only makes it and lends it.
+#![tactic(auto)]
+
+#[cfg(test)]
+mod conversation;
+#[cfg(test)]
+mod pdus;
+#[cfg(test)]
+mod replays;
+#[cfg(test)]
+mod targets;
