@@ -5,7 +5,7 @@ ghost use Rattle.data_transfer.specs.DataFault.{fei_of, fes_of};
 use nvt_fields::FatalErrorStatus;
 
 /// What is wrong with an H2CData, in the order in which it is looked for (TCP Transport 1.0, section
-/// 3.6.2.7).
+/// 3.6).
 #[derive(Clone, Copy, Debug, PartialEq, Eq)]
 pub enum DataFault {
     /// The connection has no transfer of that tag.

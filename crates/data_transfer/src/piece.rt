@@ -8,7 +8,7 @@ use std::marker::Model;
 /// The most data of one C2HData that is sent, in bytes.
 pub const PIECE_LEN: u32 = 32_768;
 
-/// One of the C2HData that the data of a reply is split into (TCP Transport 1.0, section 3.6.2.6).
+/// One of the C2HData that the data of a reply is split into (TCP Transport 1.0, section 3.6).
 #[derive(Clone, Copy, Debug, PartialEq, Eq)]
 pub struct Piece {
     /// DATAO: where its data begins, in bytes from the beginning of all.
