@@ -1,0 +1,6 @@
+pub mod Counting
+pub mod Members
+pub mod Numbers
+pub mod Pages
+pub mod Tables
+pub mod Views
