@@ -1,9 +1,11 @@
 -- The namespaces in a group, by a table.
-use Rattle.std.proofs.Common.{◌≡◌, ◌≢◌, ℕ, zero, suc, ◌+◌, ◌<◌, ◌≤◌, ◌==◌, Bool, true, false, not, List, [], ◌∷◌, filter, find, length, Option, Some, None, refl, ap, sym, ◌∙◌, arith, inl, inr}
+use Rattle.std.proofs.Common.{◌&&◌, ◌-◌, ◌+◌, ◌≡◌, ◌≢◌, ℕ, zero, suc, ◌<◌, ◌≤◌, ◌==◌, Bool, true, false, not, List, [], ◌∷◌, filter, find, length, Option, Some, None, refl, ap, sym, ◌∙◌, arith, inl, inr, length-append}
 use Rattle.std.proofs.Math.Bool.{beq}
 use Rattle.std.proofs.lemmas.Bool.{cases_Bool}
 use Rattle.std.proofs.lemmas.Bool.Decides.{nat_tests}
 use Rattle.std.specs.Option.{option_map, unwrap_or}
+use Rattle.std.specs.Prelude.{if◌then◌else◌}
+use Rattle.config_lists.specs.declared.group_state.AnaState.{AnaState}
 use Rattle.config_lists.specs.declared.group_state.AnaState.TheVariants.{Optimized}
 use Rattle.config_lists.specs.declared.group_state.GroupState.{GroupState}
 use Rattle.config_lists.specs.declared.namespace.Namespace.{Namespace}
@@ -11,10 +13,10 @@ use Rattle.config_lists.specs.GroupState.{is_state_for, state_for, state_or}
 use Rattle.config_lists.specs.Namespace.{is_named}
 use Rattle.config_rules.specs.Configuration.{Configuration}
 use Rattle.config_words.specs.Numbered.{numbers_from}
-use Rattle.ana_view.specs.Group.{are_same_numbers, descriptor, descriptor_with, is_in_group, members}
+use Rattle.ana_view.specs.Group.{are_same, are_same_numbers, descriptor, descriptor_with, is_in_group, members, state_code}
 use Rattle.ana_view.specs.declared.groups.Groups.{Groups}
 use Rattle.ana_view.specs.Tables.{IsTable, descriptor_of, is_group, is_member, nsids_of, state_of}
-use Rattle.ana_view.proofs.Numbers.{few_kept, kept_alike}
+use Rattle.ana_view.proofs.Numbers.{dropped_next, few_kept, kept_alike, kept_next}
 
 pub same_is_same : (ns : List ℕ) → are_same_numbers ns ns ≡ true
 same_is_same [] = refl
@@ -117,3 +119,35 @@ table_descriptor c subsystem port t group len wide few named set =
     ap (λ o. unwrap_or o Optimized) (set group within) ∙ by_states (find (is_state_for port subsystem group) c.states) in
     ap (λ s. descriptor_with group s (nsids_of t group)) state
     ∙ ap (descriptor_with group (state_for port subsystem group c.states)) (table_members c subsystem t group len named)
+
+-- ---- how many there are
+
+-- lists of different lengths are not the same
+apart_by_length : (xs ys : List ℕ) → length xs ≢ length ys → are_same_numbers xs ys ≡ false
+apart_by_length [] [] differ = absurd (differ refl)
+apart_by_length [] (y ∷ ys) differ = refl
+apart_by_length (x ∷ xs) [] differ = refl
+apart_by_length (x ∷ xs) (y ∷ ys) differ = and_false (x == y) (are_same_numbers xs ys) (apart_by_length xs ys (λ same. differ (ap suc same))) where
+  and_false : (a b : Bool) → b ≡ false → (a && b) ≡ false
+  and_false true b h = h
+  and_false false b h = refl
+
+apart_by_sizes : (group : ℕ) (s u : AnaState) (xs ys : List ℕ) → length xs ≢ length ys → are_same (descriptor_with group s xs) (descriptor_with group u ys) ≡ false
+apart_by_sizes group s u [] [] differ = absurd (differ refl)
+apart_by_sizes group s u [] (y ∷ ys) differ = refl
+apart_by_sizes group s u (x ∷ xs) [] differ = refl
+apart_by_sizes group s u (x ∷ xs) (y ∷ ys) differ = and_false (state_code s == state_code u) (are_same_numbers (x ∷ xs) (y ∷ ys)) (apart_by_length (x ∷ xs) (y ∷ ys) differ) where
+  and_false : (a b : Bool) → b ≡ false → (a && b) ≡ false
+  and_false true b h = h
+  and_false false b h = refl
+
+pub sizes_apart : (t u : Groups) (group m n : ℕ) → m ≡ length (nsids_of t group) → n ≡ length (nsids_of u group) → m ≢ n → are_same (descriptor_of t group) (descriptor_of u group) ≡ false
+sizes_apart t u group m n own others differ =
+    apart_by_sizes group (state_of t group) (state_of u group) (nsids_of t group) (nsids_of u group) (λ same. differ (own ∙ same ∙ sym others))
+
+-- one identifier more, in a group or not
+pub sizes_next : (p : ℕ → Bool) (k o n : ℕ) → 1 ≤ k → n ≡ (if p k then o + 1 else o) → o ≡ length (filter p (numbers_from 1 (k - 1))) → n ≡ length (filter p (numbers_from 1 (k + 1 - 1)))
+sizes_next p k o n above more so_far = by_test (p k) refl more where
+  by_test : (b : Bool) → p k ≡ b → n ≡ (if b then o + 1 else o) → n ≡ length (filter p (numbers_from 1 (k + 1 - 1)))
+  by_test true there is = rw (kept_next p k above there) (omega (arith, length-append (filter p (numbers_from 1 (k - 1))) (k ∷ []), so_far, is))
+  by_test false absent is = rw (dropped_next p k above absent) (is ∙ so_far)

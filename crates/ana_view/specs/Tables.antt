@@ -1,6 +1,6 @@
 -- What a log page shows, as it is taken from a configuration: by identifier the group of each namespace of a
 -- subsystem, and by group the state that was set on a port.
-use Rattle.std.specs.Prelude.{◌≡◌, ◌<◌, ℕ, Bool, false, not, ◌==◌, List, Option, Some, None, filter, find, is_none, length, slice_index_or, slice_set, unwrap_or, if◌then◌else◌}
+use Rattle.std.specs.Prelude.{◌≡◌, ◌<◌, ℕ, Bool, false, not, ◌==◌, List, Option, Some, None, filter, find, is_none, length, slice_index, slice_index_or, slice_set, unwrap_or, if◌then◌else◌}
 use Rattle.std.specs.Option.{option_map}
 use Rattle.config_lists.specs.declared.group_state.AnaState.{AnaState}
 use Rattle.config_lists.specs.declared.group_state.AnaState.TheVariants.{Optimized}
@@ -46,3 +46,7 @@ shown_of t group = record { id = group; state = state_of t group; nsids = nsids_
 -- whether a group is another in the second table than in the first
 abbrev pub group_differs : Groups → Groups → ℕ → Bool
 group_differs old new group = not (are_same (descriptor_of old group) (descriptor_of new group))
+
+-- by group, how many identifiers are in it
+abbrev pub AreSizes : Groups → List ℕ → Type 0
+AreSizes t sizes = (group : ℕ) → group < 33 → slice_index sizes group ≡ length (nsids_of t group)

@@ -91,9 +91,12 @@ fn count_changes(counts: &mut [u64; GROUPS], old: &Groups, new: &Groups) -> bool
     ensures counts { counts.new ≡ for_each_group
         (λ group. count_after (group_differs old.now new.now group) (count_in counts.old group)) }
 {
+    let old_sizes = old.sizes();
+    let new_sizes = new.sizes();
     let mut changed = false;
     for group in 1..GROUP_END {
-        if !old.is_same(new, group) {
+        let sizes = (old_sizes[group as usize], new_sizes[group as usize]);
+        if !old.is_same(new, group, sizes) {
             let at = group as usize - 1;
             counts[at] = counts[at].wrapping_add(1);
             changed = true;

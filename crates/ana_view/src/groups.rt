@@ -1,9 +1,9 @@
 //! The ANA groups that the controllers of one subsystem on one port show.
-ghost use Rattle.std.specs.Prelude.{◌≡◌, ◌≤◌, ◌<◌, ℕ, length};
+ghost use Rattle.std.specs.Prelude.{◌≡◌, ◌≤◌, ◌<◌, ◌+◌, ℕ, if◌then◌else◌, length, slice_index};
 ghost use Rattle.config_lists.specs.GroupState.{is_state_for, is_state_on};
 ghost use Rattle.config_lists.specs.Namespace.{is_named};
 ghost use Rattle.ana_view.specs.Group.{are_same, are_same_numbers, descriptor};
-ghost use Rattle.ana_view.specs.Tables.{IsEmptyTable, IsTable, with_first};
+ghost use Rattle.ana_view.specs.Tables.{IsEmptyTable, IsTable, is_group, with_first};
 
 use crate::state::state_code;
 use nvt_config::{AnaState, Config, GroupState, Namespace};
@@ -25,7 +25,7 @@ pub(crate) struct Groups {
 }
 
 impl Groups {
-    ghost use Rattle.ana_view.specs.Tables.{descriptor_of, is_member, nsids_of, state_of};
+    ghost use Rattle.ana_view.specs.Tables.{AreSizes, descriptor_of, is_member, nsids_of, state_of};
 
     /// Those of a configuration.
     pub(crate) fn of(config: &Config, subsystem: &[u8], port: u16) -> Groups
@@ -48,18 +48,15 @@ impl Groups {
         }
     }
 
-    /// How many namespaces are in the group.
-    pub(crate) fn count(&self, group: u32) -> u32
-        ensures count { result ≡ length (nsids_of self.now group) }
-        ensures bound { result ≤ 1024 }
+    /// By group, how many namespaces are in it.
+    pub(crate) fn sizes(&self) -> [u32; GROUP_END as usize]
+        ensures { AreSizes self.now result }
     {
-        let mut count = 0;
+        let mut sizes = [0u32; GROUP_END as usize];
         for nsid in 1..NSID_END {
-            if self.has(nsid, group) {
-                count += 1;
-            }
+            count_member(&mut sizes, self.members[nsid as usize]);
         }
-        count
+        sizes
     }
 
     /// The state of the group: optimized where none was set.
@@ -73,12 +70,18 @@ impl Groups {
     }
 
     /// Whether the group's descriptor is the other's, both being absent where they hold no namespace.
-    pub(crate) fn is_same(&self, other: &Groups, group: u32) -> bool
+    /// So many namespaces are in the one and in the other.
+    pub(crate) fn is_same(&self, other: &Groups, group: u32, sizes: (u32, u32)) -> bool
+        requires own { sizes.0 ≡ length (nsids_of self.now group) }
+        requires others { sizes.1 ≡ length (nsids_of other.now group) }
         ensures { result ≡ are_same (descriptor_of self.now group) (descriptor_of other.now group) }
     {
-        self.has_same_members(other, group)
-            && (self.count(group) == 0
-                || state_code(self.state(group)) == state_code(other.state(group)))
+        if sizes.0 != sizes.1 {
+            return false;
+        }
+        sizes.0 == 0
+            || (state_code(self.state(group)) == state_code(other.state(group))
+                && self.has_same_members(other, group))
     }
 
     fn has_same_members(&self, other: &Groups, group: u32) -> bool
@@ -90,6 +93,20 @@ impl Groups {
             }
         }
         true
+    }
+}
+
+// One more in the group, where there is one.
+fn count_member(sizes: &mut [u32; GROUP_END as usize], group: Option<u32>)
+    requires { (k : ℕ) → slice_index sizes.old k ≤ 1024 }
+    ensures { (k : ℕ) → k < 33 → slice_index sizes.new k
+        ≡ (if is_group group k then slice_index sizes.old k + 1 else slice_index sizes.old k) }
+{
+    if let Some(group) = group {
+        let at = group as usize;
+        if at < sizes.len() {
+            sizes[at] += 1;
+        }
     }
 }
 

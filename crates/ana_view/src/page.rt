@@ -31,11 +31,12 @@ pub(crate) fn write_page(
     out.fill(0);
     write_part(out, offset, 0, &counts.changes().to_le_bytes());
     write_part(out, offset, 8, &listed(groups).to_le_bytes());
+    let sizes = groups.sizes();
     let mut at = HEADER_LEN;
     for group in 1..GROUP_END {
-        let count = groups.count(group);
+        let count = sizes[group as usize];
         if count > 0 {
-            write_group(out, offset, at, groups, counts, group, groups_only);
+            write_group(out, offset, at, groups, counts, group, count, groups_only);
             at += descriptor_len(count, groups_only);
         }
     }
@@ -46,9 +47,10 @@ pub(crate) fn page_len(groups: &Groups, groups_only: bool) -> u64
     ensures { (counts : Counts) → result
         ≡ length (ana_page groups_only counts (listing_of groups.now)) }
 {
+    let sizes = groups.sizes();
     let mut len = HEADER_LEN;
     for group in 1..GROUP_END {
-        let count = groups.count(group);
+        let count = sizes[group as usize];
         if count > 0 {
             len += descriptor_len(count, groups_only);
         }
@@ -60,9 +62,10 @@ pub(crate) fn page_len(groups: &Groups, groups_only: bool) -> u64
 fn listed(groups: &Groups) -> u16
     ensures { result ≡ length (listing_of groups.now) }
 {
+    let sizes = groups.sizes();
     let mut listed = 0;
     for group in 1..GROUP_END {
-        if groups.count(group) > 0 {
+        if sizes[group as usize] > 0 {
             listed += 1;
         }
     }
@@ -80,7 +83,8 @@ fn descriptor_len(count: u32, groups_only: bool) -> u64
     }
 }
 
-// Goes on with a page of `at` bytes, of which `out` shows a part: with the descriptor of the group.
+// Goes on with a page of `at` bytes, of which `out` shows a part: with the descriptor of the group,
+// of so many namespaces.
 fn write_group(
     out: &mut [u8],
     offset: u64,
@@ -88,9 +92,11 @@ fn write_group(
     groups: &Groups,
     counts: &AnaCounts,
     group: u32,
+    count: u32,
     groups_only: bool,
 )
-    requires { at ≤ 2 ^ 32 }
+    requires place { at ≤ 2 ^ 32 }
+    requires count { count ≡ length (nsids_of groups.now group) }
     ensures { (page : List ℕ) → length page ≡ at → out.old ≡ window page offset (length out.old)
         → out.new ≡ window
         (page ++ descriptor_bytes groups_only counts.now (shown_of groups.now group)) offset
@@ -99,7 +105,7 @@ fn write_group(
     if groups_only {
         write_head(out, offset, at, groups, counts, group, 0);
     } else {
-        write_head(out, offset, at, groups, counts, group, groups.count(group));
+        write_head(out, offset, at, groups, counts, group, count);
         write_members(out, offset, at + DESCRIPTOR_LEN, groups, group);
     }
 }

@@ -2,6 +2,7 @@ use Rattle.std.proofs.Common.{◌≡◌, ◌+◌, ◌<◌, ◌≤◌, ◌++◌, 
 use Rattle.std.specs.List.{flat_map}
 use Rattle.ana_view.specs.Page.{descriptor_bytes}
 use Rattle.ana_view.specs.Tables.{listing_of, nsids_of, shown_of}
+use Rattle.ana_view.proofs.Members.{few_members}
 use Rattle.ana_view.proofs.Pages.{all_shown, header_of, len_bound, length_next, length_of_header, page_parts, passed_next, shown_next, shown_until}
 use Rattle.ana_view.proofs.page.page_len.Goals as goal
 use Rattle.ana_view.proofs.page.page_len.Goals.{else-count-gt0, then-count-gt0}
@@ -13,15 +14,15 @@ loop-group-preserved c =
     let above : 1 ≤ group = omega arith in
     elim c.if-count-gt0.branch [
       | then-count-gt0 w ↦
-          let some : 0 < length (nsids_of t group) = omega (arith, c.count-count.ensures.count, w.if-count-gt0.true) in
+          let some : 0 < length (nsids_of t group) = omega (arith, c.sizes-sizes.ensures group (omega arith), w.if-count-gt0.true) in
           let more = shown_next t group above some in
-          let len = rw c.count-count.ensures.count at w.descriptor_len-len.ensures in
+          let len = rw (c.sizes-sizes.ensures group (omega arith)) at w.descriptor_len-len.ensures in
           record {
             len = λ counts. rw (w.len-is, more) (omega (arith, len, length_next c.args.groups_only counts (shown_until t group) (shown_of t group), c.loop-group.invariant.len counts));
-            bound = omega (arith, w.len-is, len, len_bound c.args.groups_only (length (nsids_of t group)), c.count-count.ensures.count, c.count-count.ensures.bound, c.loop-group.invariant.bound);
+            bound = omega (arith, w.len-is, len, len_bound c.args.groups_only (length (nsids_of t group)), few_members t group, c.loop-group.invariant.bound);
           }
       | else-count-gt0 w ↦
-          let none : length (nsids_of t group) ≡ 0 = omega (arith, c.count-count.ensures.count, w.if-count-gt0.false) in
+          let none : length (nsids_of t group) ≡ 0 = omega (arith, c.sizes-sizes.ensures group (omega arith), w.if-count-gt0.false) in
           record {
             len = λ counts. rw (w.len-is, passed_next t group above none) (c.loop-group.invariant.len counts);
             bound = omega (arith, w.len-is, c.loop-group.invariant.bound);

@@ -19,7 +19,7 @@ returns-else-groups_only c = λ page len shown.
     let head = descriptor_head group (length (nsids_of t group)) count (state_code (state_of t group)) in
     let out = c.write_head-else-groups_only.new.out in
     let wide : length out ≡ length c.args.out.now = omega arith in
-    let first = rw (c.count.ensures.count, ← wide) at (c.write_head-else-groups_only.ensures page len shown) in
+    let first = rw (c.requires.count, ← wide) at (c.write_head-else-groups_only.ensures page len shown) in
     let so_far : length (page ++ head) ≡ c.args.at + 32 = omega (arith, length-append page head, length_of_head group (length (nsids_of t group)) count (state_code (state_of t group)), len) in
     let both = rw wide at (c.write_members.ensures (page ++ head) so_far first) in
     rw (c.if-groups_only.false, ← append_assoc) both

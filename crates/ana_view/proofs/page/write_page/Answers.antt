@@ -5,6 +5,7 @@ use Rattle.std.specs.List.{flat_map}
 use Rattle.nvt_fields.proofs.Windows.{window_of_nothing}
 use Rattle.ana_view.specs.Page.{descriptor_bytes}
 use Rattle.ana_view.specs.Tables.{listing_of, nsids_of, shown_of}
+use Rattle.ana_view.proofs.Members.{few_members}
 use Rattle.ana_view.proofs.Pages.{all_shown, header_of, header_shown, len_bound, length_of_descriptor, length_of_header, own_length, page_next, page_parts, passed_next, shown_next, shown_until}
 use Rattle.ana_view.proofs.page.write_page.Goals as goal
 use Rattle.ana_view.proofs.page.write_page.Goals.{else-count-gt0, then-count-gt0}
@@ -39,20 +40,20 @@ loop-group-preserved c =
     let len : length c.loop-group.out ≡ length c.args.out.now = omega arith in
     elim c.if-count-gt0.branch [
       | then-count-gt0 w ↦
-          let some : 0 < length (nsids_of t group) = omega (arith, c.count-count.ensures.count, w.if-count-gt0.true) in
+          let some : 0 < length (nsids_of t group) = omega (arith, c.sizes-sizes.ensures group (omega arith), w.if-count-gt0.true) in
           let g = shown_of t group in
           let more = ap (λ gs. header ++ flat_map (descriptor_bytes only counts) gs) (shown_next t group above some) ∙ page_next header only counts (shown_until t group) g in
           let bytes = descriptor_bytes only counts g in
-          let added = rw c.count-count.ensures.count at w.descriptor_len-at.ensures in
+          let added = rw (c.sizes-sizes.ensures group (omega arith)) at w.descriptor_len-at.ensures in
           let before = rw (← len) at c.loop-group.invariant.shown in
           let after = rw len at (w.write_group.ensures page c.loop-group.invariant.at before) in
           record {
             at = rw (more, w.at-is) (omega (arith, length-append page bytes, length_of_descriptor only counts g, added, c.loop-group.invariant.at));
-            bound = omega (arith, w.at-is, added, len_bound only (length (nsids_of t group)), c.count-count.ensures.count, c.count-count.ensures.bound, c.loop-group.invariant.bound);
+            bound = omega (arith, w.at-is, added, len_bound only (length (nsids_of t group)), few_members t group, c.loop-group.invariant.bound);
             shown = rw (more, w.out-is) after;
           }
       | else-count-gt0 w ↦
-          let none : length (nsids_of t group) ≡ 0 = omega (arith, c.count-count.ensures.count, w.if-count-gt0.false) in
+          let none : length (nsids_of t group) ≡ 0 = omega (arith, c.sizes-sizes.ensures group (omega arith), w.if-count-gt0.false) in
           let same = passed_next t group above none in
           record {
             at = rw (same, w.at-is) c.loop-group.invariant.at;
