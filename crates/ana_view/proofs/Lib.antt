@@ -1,4 +1,5 @@
 pub mod Counting
+pub mod Listings
 pub mod Members
 pub mod Numbers
 pub mod Pages

@@ -6,7 +6,8 @@ use std::test::Fail;
 use test_edits::growths::{A, B, edit_of, tell};
 use test_edits::{Blocks, Line, again};
 
-const UNITS: &[u64] = &[8; 3];
+/// The disks.
+pub const UNITS: &[u64] = &[8; 3];
 
 // A namespace on each disk.
 const FIRST: Blocks = Blocks {
@@ -36,8 +37,8 @@ const THIRD: Blocks = Blocks {
     group: 1,
 };
 
-// In the end each list of the configuration has an item.
-const EDITS: &[Line<'static>] = &[
+/// They are accepted in turn. In the end each list of the configuration has an item.
+pub const EDITS: &[Line<'static>] = &[
     Line::SubsystemAdd(A, b"SN", Access::Open),
     Line::SubsystemAdd(B, b"SN", Access::Closed),
     Line::PortAdd(1, b"127.0.0.1", 4420),

@@ -1,7 +1,6 @@
 //! A configuration and the view that follows its edits.
 use ana_view::{AnaView, Plan};
-use nvt_config::{Config, Edit, EditFault, NewFault};
-use nvt_fields::NqnFault;
+use nvt_config::{Config, Edit, NewFault};
 use std::alloc::{AllocError, Global};
 use test_edits::{Blocks, Line, edit};
 
@@ -51,23 +50,14 @@ pub fn plan(followed: &mut Followed, edit: &Edit) -> Result<Option<Plan>, AllocE
     Ok(Some(followed.view.prepare(&followed.config, edit)?))
 }
 
-/// Makes an edit that was planned; whether that went well.
-pub fn make(followed: &mut Followed, edit: &Edit, plan: Plan) -> Result<bool, AllocError> {
-    match followed.config.apply(edit) {
-        Ok(()) => {
-            followed.view.commit(plan);
-            Ok(true)
-        }
-        Err(EditFault::Memory) => Err(AllocError),
-        Err(_) => Ok(false),
-    }
+/// Makes an edit that was planned; whether the configuration makes it too.
+pub fn make(followed: &mut Followed, edit: &Edit, plan: Plan) -> bool {
+    let applied = followed.config.apply(edit).is_ok();
+    followed.view.commit(plan);
+    applied
 }
 
 /// The edit of a line.
-pub fn edit_of(alloc: Global, line: Line<'_>) -> Result<Option<Edit>, AllocError> {
-    match edit(alloc, line) {
-        Ok(edit) => Ok(Some(edit)),
-        Err(NqnFault::Memory) => Err(AllocError),
-        Err(NqnFault::TooLong | NqnFault::BadNqn) => Ok(None),
-    }
+pub fn edit_of(alloc: Global, line: Line<'_>) -> Option<Edit> {
+    edit(alloc, line).ok()
 }

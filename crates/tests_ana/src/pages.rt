@@ -10,8 +10,6 @@ use test_edits::{Blocks, Line};
 enum Step {
     // An edit that is accepted; whether it changes what the controller shows.
     Make(Line<'static>, bool),
-    // An edit that is accepted, of which only a plan is made.
-    Plan(Line<'static>),
     Enable,
     // The page, and zeros behind it.
     Shows(&'static [u8]),
@@ -52,11 +50,7 @@ fn is_made(
         return Ok(false);
     };
     let changed = counts.note(&plan, A, 1);
-    Ok(make(followed, edit, plan)? && changed == changes)
-}
-
-fn is_planned(followed: &mut Followed, edit: &Edit) -> Result<bool, AllocError> {
-    Ok(plan(followed, edit)?.is_some())
+    Ok(make(followed, edit, plan) && changed == changes)
 }
 
 fn is_edited(
@@ -64,21 +58,19 @@ fn is_edited(
     followed: &mut Followed,
     counts: &mut AnaCounts,
     line: Line<'_>,
-    changes: Option<bool>,
+    changes: bool,
 ) -> Result<bool, AllocError> {
-    match (edit_of(alloc, line)?, changes) {
-        (Some(edit), Some(changes)) => is_made(followed, counts, &edit, changes),
-        (Some(edit), None) => is_planned(followed, &edit),
-        (None, _) => Ok(false),
+    match edit_of(alloc, line) {
+        Some(edit) => is_made(followed, counts, &edit, changes),
+        None => Ok(false),
     }
 }
 
 fn is_taken(alloc: Global, followed: &mut Followed, counts: &mut AnaCounts, step: Step) -> bool {
     match step {
         Step::Make(line, changes) => {
-            is_edited(alloc, followed, counts, line, Some(changes)) == Ok(true)
+            is_edited(alloc, followed, counts, line, changes) == Ok(true)
         }
-        Step::Plan(line) => is_edited(alloc, followed, counts, line, None) == Ok(true),
         Step::Enable => {
             counts.reset();
             true
@@ -194,7 +186,6 @@ const STEPS: &[Step] = &[
     Step::Make(Line::NamespaceAdd(B, OF_B), false),
     Step::Enable,
     Step::Shows(FIRST),
-    Step::Plan(Line::AnaSet(1, A, 1, AnaState::Change)),
     Step::Make(Line::AnaSet(2, A, 1, AnaState::Change), false),
     Step::Make(Line::NamespaceSize(A, 1, 2), false),
     Step::Make(Line::AnaSet(1, A, 9, AnaState::Change), false),

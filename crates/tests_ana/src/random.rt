@@ -183,9 +183,19 @@ fn is_counted(
         return Ok(true);
     };
     let (first, second, third) = count_changes(all, &plan);
-    let made = make(followed, edit, plan)?;
+    let made = make(followed, edit, plan);
     past.look(&followed.config)?;
     Ok(made && is_noted(past, 0, first) && is_noted(past, 1, second) && is_noted(past, 2, third))
+}
+
+fn is_edit_right(
+    alloc: Global,
+    followed: &mut Followed,
+    past: &mut Past,
+    all: &mut Controllers,
+    edit: &Edit,
+) -> Result<bool, AllocError> {
+    Ok(is_counted(followed, past, all, edit)? && are_shown(alloc, followed, past, all)?)
 }
 
 fn is_right(
@@ -195,10 +205,10 @@ fn is_right(
     all: &mut Controllers,
     line: Line<'_>,
 ) -> Result<bool, AllocError> {
-    let Some(edit) = edit_of(alloc, line)? else {
-        return Ok(false);
-    };
-    Ok(is_counted(followed, past, all, &edit)? && are_shown(alloc, followed, past, all)?)
+    match edit_of(alloc, line) {
+        Some(edit) => is_edit_right(alloc, followed, past, all, &edit),
+        None => Ok(false),
+    }
 }
 
 // The first controller is enabled again, now and then.
