@@ -10,7 +10,7 @@ const ANA_BIT: u32 = 0x0000_0800;
 const DISCOVERY_BIT: u32 = 0x8000_0000;
 
 /// What an event tells a host: that what a log page shows has changed.
-#[derive(Clone, Copy, Debug, PartialEq, Eq)]
+#[derive(Clone, Copy, PartialEq, Eq)]
 pub enum EventKind {
     /// Namespace Attribute Changed: the Changed Namespace List.
     Namespace,
