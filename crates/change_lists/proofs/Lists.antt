@@ -35,12 +35,12 @@ numbers_rise first zero = λ i j d less below. absurd (omega arith)
 numbers_rise first (suc n) =
     AllPairs-cons ◌<◌ first (numbers_from (suc first) n) (All-above first (suc first) n (omega arith)) (numbers_rise (suc first) n)
 
-numbers_between : (first n k : ℕ) → list_any (nat_eq k) (numbers_from first n) ≡ (nat_lt k (first + n) && not (nat_lt k first))
+pub numbers_between : (first n k : ℕ) → list_any (nat_eq k) (numbers_from first n) ≡ (nat_lt k (first + n) && not (nat_lt k first))
 numbers_between first zero k = grind (arith, nat_tests)
 numbers_between first (suc n) k = rw (numbers_between (suc first) n k) (grind (arith, nat_tests))
 
 -- a number is kept where it passes
-kept_where : (test : ℕ → Bool) (xs : List ℕ) (k : ℕ) → list_any (nat_eq k) (filter test xs) ≡ (test k && list_any (nat_eq k) xs)
+pub kept_where : (test : ℕ → Bool) (xs : List ℕ) (k : ℕ) → list_any (nat_eq k) (filter test xs) ≡ (test k && list_any (nat_eq k) xs)
 kept_where test xs k =
     any-filter_same (nat_eq k) test (test k) (λ j same. ap test (grind (arith, nat_tests, same))) xs
 

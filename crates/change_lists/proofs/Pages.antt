@@ -21,7 +21,7 @@ length-page (n ∷ nsids) =
 pub length-kept : (test : ℕ → Bool) (xs : List ℕ) → length (filter test xs) ≤ length xs
 length-kept test xs = omega (arith, length-filter_both test (λ x. not (test x)) (λ _. refl) xs)
 
-length-numbers : (first n : ℕ) → length (numbers_from first n) ≡ n
+pub length-numbers : (first n : ℕ) → length (numbers_from first n) ≡ n
 length-numbers first zero = refl
 length-numbers first (suc n) = ap suc (length-numbers (suc first) n)
 

@@ -1,2 +1,4 @@
 pub mod ActiveList
 pub mod ActiveView
+pub mod ChangedSet
+pub mod Changes

@@ -1,8 +1,10 @@
-//! The lists of namespaces that a controller tells its host: those that are active in its subsystem. It
-//! knows no connection and no command.
+//! The lists of namespaces that a controller tells its host: those that are active in its subsystem, and
+//! those that changed since the host last read which. It knows no connection and no command.
 #![tactic(auto)]
 
 pub mod active_list;
 pub mod active_view;
+pub mod changed_set;
 
 pub use active_view::{ActiveView, Plan};
+pub use changed_set::{ChangedSet, empties};

@@ -8,6 +8,8 @@
 #![tactic(auto)]
 
 #[cfg(test)]
+mod ana;
+#[cfg(test)]
 mod configs;
 #[cfg(test)]
 mod disks;

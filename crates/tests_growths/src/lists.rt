@@ -7,7 +7,8 @@ use testkit_edits::growths::{A, B, edit_of, tell, used};
 use testkit_edits::{Blocks, Line, again};
 use testkit_tables::{Outcome, Placed, check, check_bytes};
 
-const UNITS: &[u64] = &[8; 3];
+/// The disks.
+pub const UNITS: &[u64] = &[8; 3];
 
 // A namespace on each disk.
 const FIRST: Blocks = Blocks {
@@ -37,8 +38,8 @@ const THIRD: Blocks = Blocks {
     group: 1,
 };
 
-// In the end each list of the configuration has an item.
-const EDITS: &[Line<'static>] = &[
+/// They are accepted in turn. In the end each list of the configuration has an item.
+pub const EDITS: &[Line<'static>] = &[
     Line::SubsystemAdd(A, b"SN", Access::Open),
     Line::SubsystemAdd(B, b"SN", Access::Closed),
     Line::PortAdd(1, b"127.0.0.1", 4420),

@@ -1,0 +1,7 @@
+pub mod Counting
+pub mod Listings
+pub mod Members
+pub mod Numbers
+pub mod Pages
+pub mod Tables
+pub mod Views

@@ -1,0 +1,7 @@
+pub mod Changes
+pub mod Counts
+pub mod Group
+pub mod Laws
+pub mod Page
+pub mod Tables
+pub mod View

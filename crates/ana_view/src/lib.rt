@@ -1,0 +1,15 @@
+//! The Asymmetric Namespace Access log page of each controller (Base 2.0, section 5.16.1.13): which ANA
+//! groups a configuration shows to the controllers of a subsystem on a port, in which states, how often
+//! edits changed that, for each controller, and the page's bytes from any offset. It knows no connection
+//! and no command.
+#![tactic(auto)]
+
+pub mod counts;
+mod groups;
+pub mod laws;
+mod page;
+mod state;
+pub mod view;
+
+pub use counts::AnaCounts;
+pub use view::{AnaView, Plan};

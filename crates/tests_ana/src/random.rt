@@ -1,0 +1,264 @@
+//! What controllers show beside the plain program, while random edits are made.
+use super::followed::{A, B, Followed, edit_of, make, on_disk, plan, start};
+use super::seen::{GROUPS, Group, NSIDS, PLACES, Past};
+use ana_view::{AnaCounts, Plan};
+use nvt_config::{Access, AnaState, Edit};
+use rand_core::utils::NextWord;
+use rand_pcg::Pcg32;
+use std::alloc::{AllocError, Global};
+use test_edits::Line;
+
+const SCRIPTS: u64 = 3;
+
+const EDITS: usize = 45;
+
+// The counts of a controller, and after how many looks of the plain program it was enabled.
+#[derive(Drop)]
+struct Counted {
+    counts: AnaCounts,
+    enabled: usize,
+}
+
+// Those of each of PLACES.
+#[derive(Drop)]
+struct Controllers {
+    first: Counted,
+    second: Counted,
+    third: Counted,
+}
+
+fn at_first() -> Counted {
+    Counted {
+        counts: AnaCounts::new(),
+        enabled: 1,
+    }
+}
+
+fn state(random: &mut Pcg32) -> AnaState {
+    match random.next_word() % 5 {
+        0 => AnaState::Optimized,
+        1 => AnaState::NonOptimized,
+        2 => AnaState::Inaccessible,
+        3 => AnaState::PersistentLoss,
+        _ => AnaState::Change,
+    }
+}
+
+fn nsid(random: &mut Pcg32) -> u64 {
+    match NSIDS.get(random.next_word() as usize % 5) {
+        Some(nsid) => u64::from(*nsid),
+        None => 1,
+    }
+}
+
+fn group_id(random: &mut Pcg32) -> u64 {
+    match GROUPS.get(random.next_word() as usize % 3) {
+        Some(group) => u64::from(*group),
+        None => 1,
+    }
+}
+
+fn line(random: &mut Pcg32) -> Line<'static> {
+    let nqn = if random.next_word() % 3 == 0 { B } else { A };
+    let port = u64::from(random.next_word() % 2 + 1);
+    match random.next_word() % 12 {
+        0..=3 => {
+            let disk = (random.next_word() % 8) as u8;
+            Line::NamespaceAdd(nqn, on_disk(nsid(random), disk, group_id(random)))
+        }
+        4 => Line::NamespaceDel(nqn, nsid(random)),
+        5 => Line::NamespaceSize(nqn, nsid(random), 2),
+        6 => Line::NamespaceGroup(nqn, nsid(random), group_id(random)),
+        7 => Line::LinkDel(port, nqn),
+        8 => Line::LinkAdd(port, nqn),
+        _ => Line::AnaSet(port, nqn, group_id(random), state(random)),
+    }
+}
+
+const FIRST: &[Line<'static>] = &[
+    Line::SubsystemAdd(A, b"SN", Access::Open),
+    Line::SubsystemAdd(B, b"SN", Access::Open),
+    Line::PortAdd(1, b"127.0.0.1", 4420),
+    Line::PortAdd(2, b"127.0.0.2", 4420),
+    Line::LinkAdd(1, A),
+    Line::LinkAdd(2, A),
+    Line::LinkAdd(1, B),
+];
+
+// The page by the plain program: its header, and each group with its members.
+fn page(alloc: Global, past: &Past, place: usize, enabled: usize) -> Result<Vec<u8>, AllocError> {
+    let mut groups = Vec::new(alloc);
+    let mut listed = 0u8;
+    for (at, id) in GROUPS.iter().enumerate() {
+        let group = past.group(place, at);
+        if group.members != 0 {
+            append_head(&mut groups, *id, group, past.changes(enabled, place, at))?;
+            append_members(&mut groups, group)?;
+            listed = listed.saturating_add(1);
+        }
+    }
+    let mut page = Vec::from_slice(alloc, &past.changes(enabled, place, 3).to_le_bytes())?;
+    page.extend_from_slice(&[listed, 0, 0, 0, 0, 0, 0, 0])?;
+    page.extend_from_slice(&groups)?;
+    Ok(page)
+}
+
+fn append_head(page: &mut Vec<u8>, id: u32, group: Group, count: u64) -> Result<(), AllocError> {
+    page.extend_from_slice(&id.to_le_bytes())?;
+    page.extend_from_slice(&group.members.count_ones().to_le_bytes())?;
+    page.extend_from_slice(&count.to_le_bytes())?;
+    page.extend_from_slice(&[group.state, 0, 0, 0, 0, 0, 0, 0, 0, 0, 0, 0, 0, 0, 0, 0])?;
+    Ok(())
+}
+
+fn append_members(page: &mut Vec<u8>, group: Group) -> Result<(), AllocError> {
+    for (at, nsid) in NSIDS.iter().enumerate() {
+        if at < 5 && group.members >> at & 1 == 1 {
+            page.extend_from_slice(&nsid.to_le_bytes())?;
+        }
+    }
+    Ok(())
+}
+
+fn is_shown(
+    alloc: Global,
+    followed: &Followed,
+    past: &Past,
+    counted: &Counted,
+    at: usize,
+) -> Result<bool, AllocError> {
+    let Some(place) = PLACES.get(at) else {
+        return Ok(false);
+    };
+    let page = page(alloc, past, at, counted.enabled)?;
+    let mut bytes = [0xA5; 160];
+    let view = &followed.view;
+    view.window(
+        place.subsystem,
+        place.port,
+        &counted.counts,
+        false,
+        0,
+        &mut bytes,
+    );
+    let (front, rest) = bytes.split_at(page.len().min(160));
+    let len = view.len(place.subsystem, place.port, false);
+    Ok(*front == *page && !rest.iter().any(|byte| *byte != 0) && len == page.len() as u64)
+}
+
+fn are_shown(
+    alloc: Global,
+    followed: &Followed,
+    past: &Past,
+    all: &Controllers,
+) -> Result<bool, AllocError> {
+    Ok(
+        is_shown(alloc, followed, past, &all.first, 0)?
+            && is_shown(alloc, followed, past, &all.second, 1)?
+            && is_shown(alloc, followed, past, &all.third, 2)?,
+    )
+}
+
+// Whether each controller is said to show something else exactly where it will.
+fn count_changes(all: &mut Controllers, plan: &Plan) -> (bool, bool, bool) {
+    (
+        all.first.counts.note(plan, A, 1),
+        all.second.counts.note(plan, A, 2),
+        all.third.counts.note(plan, B, 1),
+    )
+}
+
+fn is_noted(past: &Past, place: usize, noted: bool) -> bool {
+    (past.changes(past.looks().saturating_sub(1), place, 3) == 1) == noted
+}
+
+// Makes an edit, where it is accepted; whether it changed what was said.
+fn is_counted(
+    followed: &mut Followed,
+    past: &mut Past,
+    all: &mut Controllers,
+    edit: &Edit,
+) -> Result<bool, AllocError> {
+    let Some(plan) = plan(followed, edit)? else {
+        return Ok(true);
+    };
+    let (first, second, third) = count_changes(all, &plan);
+    let made = make(followed, edit, plan);
+    past.look(&followed.config)?;
+    Ok(made && is_noted(past, 0, first) && is_noted(past, 1, second) && is_noted(past, 2, third))
+}
+
+fn is_edit_right(
+    alloc: Global,
+    followed: &mut Followed,
+    past: &mut Past,
+    all: &mut Controllers,
+    edit: &Edit,
+) -> Result<bool, AllocError> {
+    Ok(is_counted(followed, past, all, edit)? && are_shown(alloc, followed, past, all)?)
+}
+
+fn is_right(
+    alloc: Global,
+    followed: &mut Followed,
+    past: &mut Past,
+    all: &mut Controllers,
+    line: Line<'_>,
+) -> Result<bool, AllocError> {
+    match edit_of(alloc, line) {
+        Some(edit) => is_edit_right(alloc, followed, past, all, &edit),
+        None => Ok(false),
+    }
+}
+
+// The first controller is enabled again, now and then.
+fn enable(random: &mut Pcg32, past: &Past, counted: &mut Counted) {
+    if random.next_word() % 12 == 0 {
+        counted.counts.reset();
+        counted.enabled = past.looks();
+    }
+}
+
+// The number of the first line that goes wrong, counted from 1; how many edits were made is added.
+fn first_wrong(
+    alloc: Global,
+    followed: &mut Followed,
+    seed: u64,
+    made: &mut usize,
+) -> Result<usize, AllocError> {
+    let mut random = Pcg32::new(seed, 0);
+    let mut past = Past::new(alloc);
+    past.look(&followed.config)?;
+    let mut all = Controllers {
+        first: at_first(),
+        second: at_first(),
+        third: at_first(),
+    };
+    for at in 0..EDITS {
+        let next = match FIRST.get(at) {
+            Some(first) => *first,
+            None => line(&mut random),
+        };
+        if !is_right(alloc, followed, &mut past, &mut all, next)? {
+            return Ok(at.saturating_add(1));
+        }
+        enable(&mut random, &past, &mut all.first);
+    }
+    *made = made.saturating_add(past.looks());
+    Ok(0)
+}
+
+fn starts_and_fails(alloc: Global, seed: u64, made: &mut usize) -> Result<usize, AllocError> {
+    let mut followed = start(alloc)?;
+    first_wrong(alloc, &mut followed, seed, made)
+}
+
+#[test]
+fn pages_and_counts_are_what_a_look_back_says(rt: HostRuntime) {
+    let mut made = 0;
+    for seed in 0..SCRIPTS {
+        let wrong = starts_and_fails(rt.alloc(), seed, &mut made);
+        assert!(rt; wrong == Ok(0), "seed {seed}, line {wrong:?}");
+    }
+    assert!(rt; made > 70);
+}

@@ -1,0 +1,187 @@
+//! What calls answer, by the codes of the standard (Base 2.0, sections 5.2.1 and 5.27.1.8).
+use event_queue::{Completion, EventKind, Events, LimitExceeded, ViewChanges};
+use std::alloc::Global;
+
+// A call and what it is to answer.
+#[derive(Clone, Copy)]
+enum Step {
+    // A request that waits.
+    Waits(u16),
+    // A request that is completed at once, with this result.
+    Completes(u16, u64),
+    // A request beyond the limit.
+    Exceeds(u16),
+    // A change that completes that request with this result.
+    Tells(EventKind, u16, u64),
+    // A change that completes none.
+    Hides(EventKind),
+    // A read, and whether it retains the event.
+    Reads(EventKind, bool),
+    // A value of Asynchronous Event Configuration, and what is kept of it.
+    Configures(u32, u32),
+    Resets,
+    // Whether an edit of namespaces, of Asymmetric Namespace Access and of the discovery log page is
+    // an event for that kind.
+    Counts(EventKind, (bool, bool, bool), bool),
+}
+
+fn is_requested(events: &mut Events, cid: u16, answer: Result<Option<u64>, LimitExceeded>) -> bool {
+    match (events.request(cid), answer) {
+        (Ok(None), Ok(None)) | (Err(LimitExceeded), Err(LimitExceeded)) => true,
+        (Ok(Some(completion)), Ok(Some(result))) => completion == Completion { cid, result },
+        _ => false,
+    }
+}
+
+fn is_configured(events: &mut Events, mask: u32, kept: u32) -> bool {
+    events.configure(mask);
+    events.mask() == kept
+}
+
+fn is_counted(events: &Events, kind: EventKind, views: (bool, bool, bool)) -> bool {
+    let changes = ViewChanges {
+        namespace: views.0,
+        ana: views.1,
+        discovery: views.2,
+    };
+    events.counts(kind, changes)
+}
+
+fn is_taken(events: &mut Events, step: Step) -> bool {
+    match step {
+        Step::Waits(cid) => is_requested(events, cid, Ok(None)),
+        Step::Completes(cid, result) => is_requested(events, cid, Ok(Some(result))),
+        Step::Exceeds(cid) => is_requested(events, cid, Err(LimitExceeded)),
+        Step::Tells(kind, cid, result) => events.arise(kind) == Some(Completion { cid, result }),
+        Step::Hides(kind) => events.arise(kind).is_none(),
+        Step::Reads(kind, rae) => {
+            events.read(kind, rae);
+            true
+        }
+        Step::Configures(mask, kept) => is_configured(events, mask, kept),
+        Step::Resets => {
+            events.reset();
+            events.mask() == 0
+        }
+        Step::Counts(kind, views, counts) => is_counted(events, kind, views) == counts,
+    }
+}
+
+// The number of the first step that answers otherwise, counted from 1.
+fn first_wrong(steps: &[Step]) -> usize {
+    let mut events = Events::new();
+    for (at, step) in steps.iter().enumerate() {
+        if !is_taken(&mut events, *step) {
+            return at.saturating_add(1);
+        }
+    }
+    0
+}
+
+use EventKind::{Ana, Discovery, Namespace};
+
+const NAMESPACE: u64 = 0x0004_0002;
+
+const ANA: u64 = 0x000C_0302;
+
+const DISCOVERY: u64 = 0x0070_F002;
+
+// Each kind is told once until its log page is read.
+const ONCE: &[Step] = &[
+    Step::Configures(0x0000_0900, 0x0000_0900),
+    Step::Waits(1),
+    Step::Waits(2),
+    Step::Waits(3),
+    Step::Waits(4),
+    Step::Exceeds(5),
+    Step::Tells(Namespace, 1, NAMESPACE),
+    Step::Tells(Ana, 2, ANA),
+    Step::Hides(Namespace),
+    Step::Hides(Ana),
+    Step::Reads(Namespace, true),
+    Step::Hides(Namespace),
+    Step::Reads(Namespace, false),
+    Step::Tells(Namespace, 3, NAMESPACE),
+    Step::Reads(Ana, false),
+    Step::Tells(Ana, 4, ANA),
+    Step::Hides(Discovery),
+];
+
+// What arises while no request waits is pending, and completes the next ones in the order of kinds.
+const PENDING: &[Step] = &[
+    Step::Configures(0xFFFF_FFFF, 0x8000_0900),
+    Step::Hides(Discovery),
+    Step::Hides(Ana),
+    Step::Hides(Namespace),
+    Step::Hides(Namespace),
+    Step::Completes(9, NAMESPACE),
+    Step::Completes(9, ANA),
+    Step::Reads(Discovery, true),
+    Step::Completes(9, DISCOVERY),
+    Step::Waits(9),
+    Step::Reads(Discovery, false),
+    Step::Tells(Discovery, 9, DISCOVERY),
+    Step::Reads(Ana, false),
+    Step::Hides(Ana),
+    Step::Reads(Ana, false),
+    Step::Waits(7),
+];
+
+// A kind that is disabled stays as it is, and a reset drops everything.
+const DISABLED: &[Step] = &[
+    Step::Hides(Namespace),
+    Step::Configures(0x7FFF_F6FF, 0),
+    Step::Hides(Namespace),
+    Step::Configures(0x0000_0100, 0x0000_0100),
+    Step::Hides(Namespace),
+    Step::Configures(0, 0),
+    Step::Hides(Namespace),
+    Step::Completes(3, NAMESPACE),
+    Step::Configures(0x8000_0100, 0x8000_0100),
+    Step::Hides(Namespace),
+    Step::Waits(4),
+    Step::Resets,
+    Step::Configures(0x0000_0100, 0x0000_0100),
+    Step::Hides(Namespace),
+    Step::Completes(5, NAMESPACE),
+];
+
+// A change of namespaces that Asymmetric Namespace Access shows too is one event.
+const COUNTED: &[Step] = &[
+    Step::Counts(Namespace, (true, true, true), false),
+    Step::Configures(0x8000_0900, 0x8000_0900),
+    Step::Counts(Namespace, (true, true, false), true),
+    Step::Counts(Ana, (true, true, false), false),
+    Step::Counts(Ana, (false, true, false), true),
+    Step::Counts(Namespace, (false, true, true), false),
+    Step::Counts(Discovery, (false, false, true), true),
+    Step::Counts(Discovery, (true, true, false), false),
+    Step::Configures(0x0000_0800, 0x0000_0800),
+    Step::Counts(Namespace, (true, true, false), false),
+    Step::Counts(Ana, (true, true, false), true),
+    Step::Counts(Discovery, (false, false, true), false),
+];
+
+#[test]
+fn calls_answer_by_the_states_of_kinds(rt: HostRuntime) {
+    for (script, steps) in [ONCE, PENDING, DISABLED, COUNTED].into_iter().enumerate() {
+        assert_eq!(rt;
+            first_wrong(steps),
+            0,
+            "the first wrong step of script {script}"
+        );
+    }
+}
+
+// Whether this is the text of the refusal.
+fn says(alloc: Global, text: &str) -> bool {
+    match LimitExceeded.to_string(alloc) {
+        Ok(said) => said.as_str() == text,
+        Err(_) => false,
+    }
+}
+
+#[test]
+fn a_refusal_has_its_text(rt: HostRuntime) {
+    assert!(rt; says(rt.alloc(), "asynchronous event request limit exceeded"));
+}

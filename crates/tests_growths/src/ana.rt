@@ -1,0 +1,108 @@
+//! The view of ANA groups: it is made, and follows edits, which a controller counts.
+use super::lists::{EDITS, UNITS};
+use ana_view::{AnaCounts, AnaView, Plan};
+use nvt_config::{Config, Edit, EditFault, NewFault};
+use std::alloc::{AllocError, Global};
+use std::test::Fail;
+use test_edits::growths::{A, edit_of, tell};
+use test_edits::{Line, again};
+
+// A configuration and its view.
+#[derive(Drop)]
+struct Followed {
+    config: Config,
+    view: AnaView,
+    counts: AnaCounts,
+}
+
+fn follow_config(alloc: Global, config: Config) -> Result<Followed, AllocError> {
+    let view = AnaView::new(alloc, &config)?;
+    Ok(Followed {
+        config,
+        view,
+        counts: AnaCounts::new(),
+    })
+}
+
+fn start(alloc: Global) -> Result<Followed, AllocError> {
+    match Config::new(alloc, UNITS) {
+        Ok(config) => follow_config(alloc, config),
+        Err(NewFault::Disks | NewFault::Memory) => Err(AllocError),
+    }
+}
+
+// Makes an edit that is planned; where memory is wanted for it, nothing is counted.
+fn make(followed: &mut Followed, edit: &Edit, plan: Plan) -> Result<bool, AllocError> {
+    match followed.config.apply(edit) {
+        Ok(()) => {
+            followed.counts.note(&plan, A, 1);
+            followed.view.commit(plan);
+            Ok(true)
+        }
+        Err(EditFault::Memory) => Err(AllocError),
+        Err(_) => Ok(false),
+    }
+}
+
+// Makes an edit; whether the configuration accepts it.
+fn follow_edit(followed: &mut Followed, edit: &Edit) -> Result<bool, AllocError> {
+    if followed.config.check(edit).is_err() {
+        return Ok(false);
+    }
+    let plan = followed.view.prepare(&followed.config, edit)?;
+    make(followed, edit, plan)
+}
+
+fn follow(alloc: Global, followed: &mut Followed, line: Line<'_>) -> Result<bool, AllocError> {
+    match edit_of(alloc, line)? {
+        Some(edit) => follow_edit(followed, &edit),
+        None => Ok(false),
+    }
+}
+
+// The page of A's controllers on port 1 up to its first descriptor's end.
+fn shown(followed: &Followed) -> [u8; 52] {
+    let mut page = [0x5A; 52];
+    followed
+        .view
+        .window(A, 1, &followed.counts, false, 0, &mut page);
+    page
+}
+
+// Group 1 has changed three times, and is inaccessible with namespace 3 alone.
+const LAST: &[u8; 52] = b"\
+    \x03\0\0\0\0\0\0\0\x01\0\0\0\0\0\0\0\
+    \x01\0\0\0\x01\0\0\0\x03\0\0\0\0\0\0\0\
+    \x03\0\0\0\0\0\0\0\0\0\0\0\0\0\0\0\
+    \x03\0\0\0";
+
+// Whether an edit is accepted. Where memory is wanted the page has to be as before.
+fn is_followed(alloc: Global, followed: &mut Followed, line: Line<'_>) -> Result<bool, AllocError> {
+    let before = shown(followed);
+    let answer = follow(alloc, followed, line);
+    if answer.is_err() && shown(followed) != before {
+        return Ok(false);
+    }
+    answer
+}
+
+fn are_followed(alloc: Global, followed: &mut Followed) -> Result<bool, AllocError> {
+    for line in EDITS {
+        if !is_followed(alloc, followed, *line)? {
+            return Ok(false);
+        }
+    }
+    Ok(shown(followed) == *LAST && followed.view.len(A, 1, false) == 52)
+}
+
+fn is_used(alloc: Global) -> Result<bool, AllocError> {
+    let mut followed = start(alloc)?;
+    are_followed(alloc, &mut followed)
+}
+
+#[test]
+fn ana_groups(rt: HostRuntime) -> Result<(), Fail> {
+    let mut refused = 0u32;
+    again!(rt, refused, AllocError, is_used(rt.alloc()));
+    tell(&rt, refused)
+}
