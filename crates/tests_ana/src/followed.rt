@@ -2,7 +2,7 @@
 use ana_view::{AnaView, Plan};
 use nvt_config::{Config, Edit, NewFault};
 use std::alloc::{AllocError, Global};
-use test_edits::{Blocks, Line, edit};
+use testkit_edits::{Blocks, Line, edit};
 
 pub const A: &[u8] = b"nqn.2026-01.test:a";
 

@@ -3,7 +3,7 @@ use super::followed::{A, B, Followed, edit_of, make, plan, start};
 use ana_view::AnaCounts;
 use nvt_config::{Access, AnaState, Edit};
 use std::alloc::{AllocError, Global};
-use test_edits::{Blocks, Line};
+use testkit_edits::{Blocks, Line};
 
 // What a test does, or expects of the controller of A on port 1.
 #[derive(Clone, Copy)]

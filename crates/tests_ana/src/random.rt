@@ -6,7 +6,7 @@ use nvt_config::{Access, AnaState, Edit};
 use rand_core::utils::NextWord;
 use rand_pcg::Pcg32;
 use std::alloc::{AllocError, Global};
-use test_edits::Line;
+use testkit_edits::Line;
 
 const SCRIPTS: u64 = 3;
 

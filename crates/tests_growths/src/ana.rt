@@ -4,8 +4,9 @@ use ana_view::{AnaCounts, AnaView, Plan};
 use nvt_config::{Config, Edit, EditFault, NewFault};
 use std::alloc::{AllocError, Global};
 use std::test::Fail;
-use test_edits::growths::{A, edit_of, tell};
-use test_edits::{Line, again};
+use testkit_edits::growths::{A, edit_of, tell, used};
+use testkit_edits::{Line, again};
+use testkit_tables::{Outcome, Placed, check, check_bytes, check_number};
 
 // A configuration and its view.
 #[derive(Drop)]
@@ -86,23 +87,28 @@ fn is_followed(alloc: Global, followed: &mut Followed, line: Line<'_>) -> Result
     answer
 }
 
-fn are_followed(alloc: Global, followed: &mut Followed) -> Result<bool, AllocError> {
-    for line in EDITS {
-        if !is_followed(alloc, followed, *line)? {
-            return Ok(false);
-        }
-    }
-    Ok(shown(followed) == *LAST && followed.view.len(A, 1, false) == 52)
+fn check_last(followed: &Followed) -> Outcome {
+    check_bytes(&shown(followed), LAST)?;
+    check_number(followed.view.len(A, 1, false) as u64, 52)
 }
 
-fn is_used(alloc: Global) -> Result<bool, AllocError> {
+fn follow_all(alloc: Global, followed: &mut Followed) -> Result<Outcome, AllocError> {
+    for (row, line) in EDITS.iter().enumerate() {
+        if !is_followed(alloc, followed, *line)? {
+            return Ok(check(false, "this edit").in_row(row));
+        }
+    }
+    Ok(check_last(followed))
+}
+
+fn use_new(alloc: Global) -> Result<Outcome, AllocError> {
     let mut followed = start(alloc)?;
-    are_followed(alloc, &mut followed)
+    follow_all(alloc, &mut followed)
 }
 
 #[test]
 fn ana_groups(rt: HostRuntime) -> Result<(), Fail> {
     let mut refused = 0u32;
-    again!(rt, refused, AllocError, is_used(rt.alloc()));
-    tell(&rt, refused)
+    let answer = again!(refused, AllocError, use_new(rt.alloc()));
+    tell(&rt, refused, used(answer))
 }

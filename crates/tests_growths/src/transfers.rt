@@ -1,10 +1,10 @@
 //! Transfers: each takes its memory when it begins, and then no more.
 use data_transfer::{Progress, Transfers};
 use std::alloc::{AllocError, Global};
-use std::process::Abort;
 use std::test::Fail;
-use test_edits::again;
-use test_edits::growths::tell;
+use testkit_edits::again;
+use testkit_edits::growths::{tell, used};
+use testkit_tables::{Outcome, check};
 
 const CONN: usize = 5;
 
@@ -43,34 +43,35 @@ fn is_finished(transfers: &mut Transfers<u8>, ttag: u16, cid: u16, bytes: &[u8])
     }
 }
 
-// The first transfer makes the table of its connection too. The second is refused between two
-// pieces of the first.
-fn use_transfers(rt: &impl Abort, transfers: &mut Transfers<u8>, refused: &mut u32) {
-    again!(rt, *refused, AllocError, is_begun(transfers, 7, 0));
-    assert!(rt; comes(transfers, 0, 7, 0, b"ab"));
-    again!(rt, *refused, AllocError, is_begun(transfers, 8, 1));
-    assert!(rt; comes(transfers, 0, 7, 2, b"cd") && comes(transfers, 1, 8, 0, b"efgh"));
-    assert!(rt; is_finished(transfers, 0, 7, b"abcd"));
-    again!(rt, *refused, AllocError, is_begun(transfers, 9, 0));
-    assert!(rt; is_finished(transfers, 1, 8, b"efgh"));
-    transfers.drop_queue(CONN);
-    again!(rt, *refused, AllocError, is_begun(transfers, 9, 0));
+// Begins a transfer, again where memory is wanted.
+fn begin(transfers: &mut Transfers<u8>, cid: u16, ttag: u16, refused: &mut u32) -> bool {
+    again!(*refused, AllocError, is_begun(transfers, cid, ttag)) == Ok(true)
 }
 
-fn is_used(rt: &impl Abort, alloc: Global, refused: &mut u32) -> Result<bool, AllocError> {
+// The first transfer makes the table of its connection too. The second is refused between two
+// pieces of the first.
+fn check_use(transfers: &mut Transfers<u8>, refused: &mut u32) -> Outcome {
+    check(begin(transfers, 7, 0, refused), "the first transfer")?;
+    check(comes(transfers, 0, 7, 0, b"ab"), "a piece of it")?;
+    check(begin(transfers, 8, 1, refused), "the second")?;
+    check(comes(transfers, 0, 7, 2, b"cd"), "the rest of the first")?;
+    check(comes(transfers, 1, 8, 0, b"efgh"), "the second, whole")?;
+    check(is_finished(transfers, 0, 7, b"abcd"), "the first has all")?;
+    check(begin(transfers, 9, 0, refused), "the third, under its tag")?;
+    check(is_finished(transfers, 1, 8, b"efgh"), "the second has all")?;
+    transfers.drop_queue(CONN);
+    check(begin(transfers, 9, 0, refused), "one more after the end")
+}
+
+fn use_new(alloc: Global, refused: &mut u32) -> Result<Outcome, AllocError> {
     let mut transfers = Transfers::new(alloc)?;
-    use_transfers(rt, &mut transfers, refused);
-    Ok(true)
+    Ok(check_use(&mut transfers, refused))
 }
 
 #[test]
 fn transfers(rt: HostRuntime) -> Result<(), Fail> {
     let mut refused = 0u32;
-    again!(
-        rt,
-        refused,
-        AllocError,
-        is_used(&rt, rt.alloc(), &mut refused)
-    );
-    tell(&rt, refused)
+    let mut inner = 0u32;
+    let answer = again!(refused, AllocError, use_new(rt.alloc(), &mut inner));
+    tell(&rt, refused.saturating_add(inner), used(answer))
 }

@@ -1,6 +1,6 @@
 //! Tests of transfers and of pieces, through the public calls: each fault of an H2CData, alone and with
 //! another, scripts of calls, and random ones beside a plain list of transfers. Want of memory is tested
-//! in `growth_tests`.
+//! in `tests_growths`.
 #![tactic(auto)]
 
 #[cfg(test)]
