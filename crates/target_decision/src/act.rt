@@ -47,7 +47,14 @@ pub fn perform<D: Disk>(
     let data = Data::of(world, &conversation.session, decision);
     let returned = len_in(&data) + room_of(decision);
     output.reserve(WIRE_MAX + head_of(front).len() + returned)?;
-    wire::write(output, stores, conversation.alignment, decision, front, &data);
+    wire::write(
+        output,
+        stores,
+        conversation.alignment,
+        decision,
+        front,
+        &data,
+    );
     conversation.turn(decision);
     Ok(())
 }

@@ -74,7 +74,13 @@ fn write_reply<D: Disk>(
             write_response(output, reply, given.status, given.result);
         }
         Answer::Performed(operation) => {
-            let status = perform(stores, operation, bytes_at(front), format_of(reply, alignment), output);
+            let status = perform(
+                stores,
+                operation,
+                bytes_at(front),
+                format_of(reply, alignment),
+                output,
+            );
             write_response(output, reply, status, 0);
         }
     }
