@@ -18,8 +18,8 @@ use Rattle.target_decision.specs.declared.decision.Decision.{Decision}
 use Rattle.target_decision.specs.declared.decision.Decision.TheVariants as decision
 use Rattle.target_decision.specs.Begin.{BeginsFree, FreeBy, row_by, row_decided}
 use Rattle.target_decision.specs.Controller.{updated}
-use Rattle.target_history.specs.declared.ending.Ending.{Ending}
-use Rattle.target_history.specs.Happening.{consequence_decided, controller_changed, ready_after, row_changed, row_kept}
+use Rattle.target_history.specs.declared.end_cause.EndCause.{EndCause}
+use Rattle.target_history.specs.Occurrence.{consequence_decided, controller_changed, ready_after, row_changed, row_kept}
 
 -- what stands at each place after the change of one
 changed_place : (c : ℕ) (f : Row → Row) (o : Option Row) (old new : List (Option Row)) → place old c ≡ o → ChangedAt c f o old new → (n : ℕ)
@@ -73,7 +73,7 @@ left_none false f None none = refl
 left_none false f (Some a) none = cc
 
 -- what ended does not hinder what begins
-can_follow_by : (ch : Consequence) (port : ℕ) (found : Front) (old : List (Option Row)) (t : TablesState) (gone : ℕ → Bool) (e : Ending) → FreeBy (λ c. place old c) ch
+can_follow_by : (ch : Consequence) (port : ℕ) (found : Front) (old : List (Option Row)) (t : TablesState) (gone : ℕ → Bool) (e : EndCause) → FreeBy (λ c. place old c) ch
     → ((n : ℕ) → place t.rows n ≡ (if gone n then None else option_map (row_kept e n) (place old n))) → CanFollow ch (row_by ch port found) t
 can_follow_by (consequence.Begin b) port found old t gone e free rows = record {
   row = refl;
@@ -85,13 +85,13 @@ can_follow_by (consequence.Begin b) port found old t gone e free rows = record {
 }
 can_follow_by _ port found old t gone e free rows = tt
 
-can_follow_so : (d : Decision) (port : ℕ) (found : Front) (old : List (Option Row)) (t : TablesState) (gone : ℕ → Bool) (e : Ending) → BeginsFree (λ c. place old c) d
+can_follow_so : (d : Decision) (port : ℕ) (found : Front) (old : List (Option Row)) (t : TablesState) (gone : ℕ → Bool) (e : EndCause) → BeginsFree (λ c. place old c) d
     → ((n : ℕ) → place t.rows n ≡ (if gone n then None else option_map (row_kept e n) (place old n)))
     → CanFollow (consequence_decided (Some d)) (row_decided d port found) t
 can_follow_so (decision.Reply r) port found old t gone e free rows = can_follow_by r.consequence port found old t gone e free rows
 can_follow_so _ port found old t gone e free rows = tt
 
-pub can_follow : (d : Decision) (ch : Consequence) (begun : Option Row) (port : ℕ) (found : Front) (old : List (Option Row)) (t : TablesState) (gone : ℕ → Bool) (e : Ending)
+pub can_follow : (d : Decision) (ch : Consequence) (begun : Option Row) (port : ℕ) (found : Front) (old : List (Option Row)) (t : TablesState) (gone : ℕ → Bool) (e : EndCause)
     → ch ≡ consequence_decided (Some d) → begun ≡ row_decided d port found → BeginsFree (λ c. place old c) d
     → ((n : ℕ) → place t.rows n ≡ (if gone n then None else option_map (row_kept e n) (place old n))) → CanFollow ch begun t
 can_follow d ch begun port found old t gone e is made free rows = rw (is, made) (can_follow_so d port found old t gone e free rows)

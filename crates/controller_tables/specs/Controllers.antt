@@ -9,8 +9,8 @@ use Rattle.target_decision.specs.declared.controller.Controller.{Controller}
 use Rattle.target_decision.specs.declared.consequence.Consequence.{Consequence}
 use Rattle.target_decision.specs.declared.consequence.Consequence.TheVariants as consequence
 use Rattle.target_decision.specs.World.{World}
-use Rattle.target_history.specs.declared.ending.Ending.{Ending}
-use Rattle.target_history.specs.Ending.{ends_controller}
+use Rattle.target_history.specs.declared.end_cause.EndCause.{EndCause}
+use Rattle.target_history.specs.EndCause.{ends_controller}
 
 -- the places of the tables: one for each identifier from 1 on, and for 0, which is never given
 abbrev pub controller_places : ℕ
@@ -43,8 +43,8 @@ world_with pages config t = record {
 -- ---- the controllers that an event ends
 
 -- whether it ends the controller of this identifier, where the configuration has become this
-abbrev pub gone_by : Ending → Configuration → TablesState → ℕ → Bool
-gone_by ending config t cntlid = ends_controller ending config cntlid (place t.rows cntlid) (place t.own cntlid)
+abbrev pub gone_by : EndCause → Configuration → TablesState → ℕ → Bool
+gone_by cause config t cntlid = ends_controller cause config cntlid (place t.rows cntlid) (place t.own cntlid)
 
 -- .. as it was found
 abbrev pub is_gone : List Bool → ℕ → Bool

@@ -7,7 +7,7 @@ ghost use Rattle.controller_tables.specs.Controllers.{AreTables, CanFollow, IsNe
 ghost use Rattle.target_decision.specs.declared.consequence.Consequence.TheVariants as consequence;
 ghost use Rattle.admin_queue.specs.Pages.{pages_in};
 ghost use Rattle.target_decision.specs.World.{world_in};
-ghost use Rattle.target_history.specs.Happening.{consequence_decided, controller_changed, ready_after, row_changed, row_kept};
+ghost use Rattle.target_history.specs.Occurrence.{consequence_decided, controller_changed, ready_after, row_changed, row_kept};
 
 use admin_queue::Pages;
 use fabrics_connect::{Controllers, Row};
@@ -16,7 +16,7 @@ use nvt_config::Config;
 use std::alloc::{AllocError, Global};
 use std::marker::Model;
 use target_decision::{Consequence, Controller, Decision, Update, World};
-use target_history::Ending;
+use target_history::EndCause;
 
 /// The places of a table, and of the answer of `ControllerTables::end`: one for each controller
 /// identifier from 1 to 32, and for 0, which is never given.
@@ -69,20 +69,20 @@ impl ControllerTables {
     /// Alive Timeout (Base 2.0, section 3.9), with their admin connection, their port or their host's
     /// permission. From those that stay it takes the I/O queues that are gone, of one that is reset
     /// all. It answers for each identifier whether its controller is ended.
-    pub fn end(&mut self, config: &Config, ending: &Ending) -> [bool; PLACES]
+    pub fn end(&mut self, config: &Config, cause: &EndCause) -> [bool; PLACES]
         ensures gone { (c : ℕ) → is_gone result c
-            ≡ gone_by ending.now config.now self.old c }
+            ≡ gone_by cause.now config.now self.old c }
         ensures rows { (c : ℕ) → place self.new.rows c
-            ≡ (if gone_by ending.now config.now self.old c then None else
-            option_map (row_kept ending.now c) (place self.old.rows c)) }
+            ≡ (if gone_by cause.now config.now self.old c then None else
+            option_map (row_kept cause.now c) (place self.old.rows c)) }
         ensures own { (c : ℕ) → place self.new.own c
-            ≡ (if gone_by ending.now config.now self.old c then None else
+            ≡ (if gone_by cause.now config.now self.old c then None else
             place self.old.own c) }
     {
-        let gone = gone(&self.rows, &self.own, config, ending);
+        let gone = gone(&self.rows, &self.own, config, cause);
         remove_rows(&mut self.rows, &gone);
         remove(&mut self.own, &gone);
-        leave(&mut self.rows, ending);
+        leave(&mut self.rows, cause);
         gone
     }
 
@@ -120,16 +120,16 @@ fn gone(
     rows: &Controllers,
     own: &NumberTable<Controller>,
     config: &Config,
-    ending: &Ending,
+    cause: &EndCause,
 ) -> [bool; PLACES]
     requires { AreTables (record { rows = rows.now; own = own.now }) }
     ensures { (c : ℕ) → is_gone result c
-        ≡ gone_by ending.now config.now (record { rows = rows.now; own = own.now }) c }
+        ≡ gone_by cause.now config.now (record { rows = rows.now; own = own.now }) c }
 {
     let mut gone = [false; PLACES];
     for cntlid in 0..PLACES as u16 {
         let controller = own.get(usize::from(cntlid));
-        gone[usize::from(cntlid)] = ending.ends_controller(
+        gone[usize::from(cntlid)] = cause.ends_controller(
             config,
             cntlid,
             rows.get(cntlid),
@@ -163,12 +163,12 @@ fn remove(own: &mut NumberTable<Controller>, gone: &[bool; PLACES])
 }
 
 // An I/O queue leaves its controller, or all leave one that is reset.
-fn leave(rows: &mut Controllers, ending: &Ending)
-    ensures { (c : ℕ) → place rows.new c ≡ option_map (row_kept ending.now c) (place rows.old c) }
+fn leave(rows: &mut Controllers, cause: &EndCause)
+    ensures { (c : ℕ) → place rows.new c ≡ option_map (row_kept cause.now c) (place rows.old c) }
 {
-    match ending {
-        Ending::Queue { cntlid, qid } => rows.leave(*cntlid, *qid),
-        Ending::Reset(cntlid) => rows.leave_all(*cntlid),
+    match cause {
+        EndCause::Queue { cntlid, qid } => rows.leave(*cntlid, *qid),
+        EndCause::Reset(cntlid) => rows.leave_all(*cntlid),
         _ => {}
     }
 }
@@ -195,6 +195,10 @@ pub fn consequence_of(decision: &Decision) -> Consequence
 {
     match decision {
         Decision::Reply(reply) => reply.consequence,
-        Decision::Initialize(_) | Decision::Terminate(_) | Decision::Close => Consequence::Nothing,
+        Decision::Initialize(_)
+        | Decision::Request(_)
+        | Decision::Receive { .. }
+        | Decision::Terminate(_)
+        | Decision::Close => Consequence::Nothing,
     }
 }

@@ -7,8 +7,8 @@ use Rattle.std.proofs.lemmas.Bool.Decides.{nat_tests}
 use Rattle.std.proofs.lemmas.List.{get_or-set_other, get_or-set_same, reverse-append}
 use Rattle.number_table.specs.Table.{place}
 use Rattle.host_commands.specs.declared.outstanding.Sent.{Sent}
-use Rattle.host_commands.specs.Conversation.{Heard, saying}
-use Rattle.host_commands.specs.Conversations.{Known, HeardBy, after_saying, said_on}
+use Rattle.host_commands.specs.HostStream.{Heard, saying}
+use Rattle.host_commands.specs.HostStreams.{Known, HeardBy, after_saying, said_on}
 use Rattle.host_commands.specs.Laws.{ConnectionsAreApart, ClosedIsForgotten, SentIsKnown}
 use Rattle.host_commands.specs.Outstanding.{command_at, last_place_of, has_cid}
 

@@ -3,7 +3,7 @@ use Rattle.std.specs.Prelude.{◌≡◌, ◌≢◌, ℕ, ◌<◌, List, length, 
 use Rattle.number_table.specs.Table.{place, without}
 use Rattle.host_commands.specs.declared.outstanding.Sent.{Sent}
 use Rattle.pdu_words.specs.declared.subject.Which.TheVariants.{Newest}
-use Rattle.host_commands.specs.Conversations.{Known, HeardOn, after_saying, said_on}
+use Rattle.host_commands.specs.HostStreams.{Known, HeardOn, after_saying, said_on}
 use Rattle.pdu_words.specs.Explanation.{explanation_of}
 use Rattle.host_commands.specs.Outstanding.{command_of_subject, remembered}
 

@@ -1,5 +1,5 @@
-pub mod Conversation
-pub mod Conversations
 pub mod Hearing
+pub mod HostStream
+pub mod HostStreams
 pub mod Laws
 pub mod Outstanding

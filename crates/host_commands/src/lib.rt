@@ -3,12 +3,12 @@
 //! decides nothing and keeps no connection alive.
 #![tactic(auto)]
 
-pub mod conversation;
-pub mod conversations;
 mod hearing;
+pub mod host_stream;
+pub mod host_streams;
 pub mod laws;
 pub mod outstanding;
 
-pub use conversation::Conversation;
-pub use conversations::{CONNECTIONS_MAX, Conversations};
+pub use host_stream::HostStream;
+pub use host_streams::{CONNECTIONS_MAX, HostStreams};
 pub use outstanding::{COMMANDS_MAX, OutstandingCommands, Sent};

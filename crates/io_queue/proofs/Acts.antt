@@ -5,13 +5,13 @@ use Rattle.block_store.specs.Range.{FrontWritten, overwritten}
 use Rattle.block_store.specs.Stored.{Stored}
 use Rattle.nvt_fields.specs.declared.status.Status.{Status}
 use Rattle.nvt_fields.specs.Status.{write_fault}
-use Rattle.io_queue.specs.Act.{CountsBy, IsOfWrite, Medium, Writes, good, read_fault, write_fault_after, write_status, written_by}
+use Rattle.io_queue.specs.Act.{CountsBy, IsOfWrite, DiskOutcome, Writes, good, read_fault, write_fault_after, write_status, written_by}
 
 -- a front of the units is new
 pub front_new : (first : ℕ) (units : List (List ℕ)) (old new : Stored) → FrontWritten old.contents first units new.contents
     → new.faults ≢ old.faults → Writes first units old new write_fault
 front_new first units old new front faults = record {
-  medium = write_fault_after front.count;
+  disk_outcome = write_fault_after front.count;
   of_write = front.within;
   answer = refl;
   contents = front.holds;
@@ -21,7 +21,7 @@ front_new first units old new front faults = record {
 -- none of no units is new
 pub none_new : (old new : Stored) → new.contents ≡ old.contents → new.faults ≢ old.faults → Writes 0 [] old new write_fault
 none_new old new contents faults = record {
-  medium = write_fault_after 0;
+  disk_outcome = write_fault_after 0;
   of_write = omega arith;
   answer = refl;
   contents = contents;
@@ -37,11 +37,11 @@ none_below n below = omega (arith, below)
 -- all units are new, and a Flush follows
 pub then_flushed : (first : ℕ) (units : List (List ℕ)) (old mid new : Stored) (status : Status) → mid.contents ≡ overwritten old.contents first units
     → mid.faults ≡ old.faults → Writes 0 [] mid new status → Writes first units old new status
-then_flushed first units old mid new status written kept flushed = by flushed.medium flushed.of_write flushed.answer flushed.contents flushed.faults where
-  by : (m : Medium) → IsOfWrite 0 m → status ≡ write_status m → new.contents ≡ written_by m 0 [] mid.contents
+then_flushed first units old mid new status written kept flushed = by flushed.disk_outcome flushed.of_write flushed.answer flushed.contents flushed.faults where
+  by : (m : DiskOutcome) → IsOfWrite 0 m → status ≡ write_status m → new.contents ≡ written_by m 0 [] mid.contents
       → CountsBy m mid.faults new.faults → Writes first units old new status
   by good of answer contents faults = record {
-    medium = good;
+    disk_outcome = good;
     of_write = tt;
     answer = answer;
     contents = contents ∙ written ∙ whole first units old.contents;
@@ -49,7 +49,7 @@ then_flushed first units old mid new status written kept flushed = by flushed.me
   }
   by read_fault of answer contents faults = absurd of
   by (write_fault_after zero) of answer contents faults = record {
-    medium = write_fault_after (length units);
+    disk_outcome = write_fault_after (length units);
     of_write = omega arith;
     answer = answer;
     contents = contents ∙ written ∙ whole first units old.contents;

@@ -15,40 +15,40 @@ use Rattle.io_queue.specs.declared.operation.Extent.{Extent}
 use Rattle.io_queue.specs.declared.operation.Operation.{Operation}
 use Rattle.io_queue.specs.declared.operation.Operation.TheVariants as operation
 use Rattle.io_queue.specs.declared.reply.DataFormat.{DataFormat}
-use Rattle.io_queue.specs.Act.{Compares, CountsBy, Flushes, IsOfRead, IsOfWrite, Medium, Writes, extent_bytes, good, read_fault, read_status, write_fault_after, write_status, written_by}
+use Rattle.io_queue.specs.Act.{Compares, CountsBy, Flushes, IsOfRead, IsOfWrite, DiskOutcome, Writes, extent_bytes, good, read_fault, read_status, write_fault_after, write_status, written_by}
 use Rattle.io_queue.specs.Execution.{Performs, PerformsOn, Syncs, SyncsIn, Tells, compared, contents_at, disk_at, faults_at, new_of, no_disk, size_of, sizes, write_of, write_on, written}
 use Rattle.io_queue.specs.Operation.{HasExtent, IsOnDisk, IsWithin, brought, disk_of}
 use Rattle.io_queue.specs.Reply.{AppendsRead, read_by, returned_pdus}
 
 pub read_performed : (e : Extent) (bytes : List ℕ) (format : DataFormat) (old new : Stored) (output appended : List ℕ) (status : Status)
     → AppendsRead format e old new output appended status → PerformsOn (operation.Read e) bytes format old new output appended status
-read_performed e bytes format old new output appended status h = by h.medium h.of_read h.answer h.sends h.faults where
-  by : (m : Medium) → IsOfRead m → status ≡ read_status m → appended ≡ output ++ returned_pdus format (read_by m (extent_bytes e old))
+read_performed e bytes format old new output appended status h = by h.disk_outcome h.of_read h.answer h.sends h.faults where
+  by : (m : DiskOutcome) → IsOfRead m → status ≡ read_status m → appended ≡ output ++ returned_pdus format (read_by m (extent_bytes e old))
       → CountsBy m old.faults new.faults → PerformsOn (operation.Read e) bytes format old new output appended status
-  by good of answer sends faults = record { medium = good; meets = tt; answer = answer; sends = sends; contents = h.contents; faults = faults }
-  by read_fault of answer sends faults = record { medium = read_fault; meets = tt; answer = answer; sends = sends; contents = h.contents; faults = faults }
+  by good of answer sends faults = record { disk_outcome = good; meets = tt; answer = answer; sends = sends; contents = h.contents; faults = faults }
+  by read_fault of answer sends faults = record { disk_outcome = read_fault; meets = tt; answer = answer; sends = sends; contents = h.contents; faults = faults }
   by (write_fault_after n) of answer sends faults = absurd of
 
 pub compare_performed : (e : Extent) (at : ℕ) (bytes : List ℕ) (format : DataFormat) (old new : Stored) (output : List ℕ) (status : Status)
     → Compares e (brought e at bytes) old new status → PerformsOn (operation.Compare e at) bytes format old new output output status
-compare_performed e at bytes format old new output status h = by h.medium refl h.of_read h.faults where
-  is_same : (test : Bool) → bytes_eq (brought e at bytes) (extent_bytes e old) ≡ test → h.medium ≡ good → status ≡ compared test
+compare_performed e at bytes format old new output status h = by h.disk_outcome refl h.of_read h.faults where
+  is_same : (test : Bool) → bytes_eq (brought e at bytes) (extent_bytes e old) ≡ test → h.disk_outcome ≡ good → status ≡ compared test
   is_same true same is = h.same is (same_name (brought e at bytes) (extent_bytes e old) same)
   is_same false other is = h.other is (λ same. differ (bytes_eq-same (brought e at bytes) (extent_bytes e old) same)) where
     differ : bytes_eq (brought e at bytes) (extent_bytes e old) ≡ true → ⊥
     differ same = cc
 
-  by : (m : Medium) → h.medium ≡ m → IsOfRead m → CountsBy m old.faults new.faults
+  by : (m : DiskOutcome) → h.disk_outcome ≡ m → IsOfRead m → CountsBy m old.faults new.faults
       → PerformsOn (operation.Compare e at) bytes format old new output output status
   by good is of faults = record {
-    medium = good;
+    disk_outcome = good;
     meets = tt;
     answer = is_same (bytes_eq (brought e at bytes) (extent_bytes e old)) refl is;
     sends = simp append-nil;
     contents = h.contents;
     faults = faults;
   }
-  by read_fault is of faults = record { medium = read_fault; meets = tt; answer = h.failed is; sends = simp append-nil; contents = h.contents; faults = faults }
+  by read_fault is of faults = record { disk_outcome = read_fault; meets = tt; answer = h.failed is; sends = simp append-nil; contents = h.contents; faults = faults }
   by (write_fault_after n) is of faults = absurd of
 
 -- as many units as bytes make
@@ -60,16 +60,16 @@ units_len bytes units is =
 pub write_performed : (e : Extent) (at : ℕ) (fua : Bool) (bytes : List ℕ) (format : DataFormat) (old new : Stored) (output : List ℕ) (status : Status)
     → length (brought e at bytes) ≡ 512 * e.units → Writes e.first (units_of (brought e at bytes)) old new status
     → PerformsOn (operation.Write e at fua) bytes format old new output output status
-write_performed e at fua bytes format old new output status len h = by h.medium h.of_write h.answer h.contents h.faults where
+write_performed e at fua bytes format old new output status len h = by h.disk_outcome h.of_write h.answer h.contents h.faults where
   units : List (List ℕ)
   units = units_of (brought e at bytes)
 
-  by : (m : Medium) → IsOfWrite (length units) m → status ≡ write_status m → new.contents ≡ written_by m e.first units old.contents
+  by : (m : DiskOutcome) → IsOfWrite (length units) m → status ≡ write_status m → new.contents ≡ written_by m e.first units old.contents
       → CountsBy m old.faults new.faults → PerformsOn (operation.Write e at fua) bytes format old new output output status
-  by good of answer contents faults = record { medium = good; meets = tt; answer = answer; sends = simp append-nil; contents = contents; faults = faults }
+  by good of answer contents faults = record { disk_outcome = good; meets = tt; answer = answer; sends = simp append-nil; contents = contents; faults = faults }
   by read_fault of answer contents faults = absurd of
   by (write_fault_after n) of answer contents faults = record {
-    medium = write_fault_after n;
+    disk_outcome = write_fault_after n;
     meets = rw (units_len (brought e at bytes) e.units len) at of;
     answer = answer;
     sends = simp append-nil;
@@ -79,16 +79,16 @@ write_performed e at fua bytes format old new output status len h = by h.medium 
 
 pub zeroes_performed : (e : Extent) (fua : Bool) (bytes : List ℕ) (format : DataFormat) (old new : Stored) (output : List ℕ) (status : Status)
     → Writes e.first (replicate e.units zero_unit) old new status → PerformsOn (operation.WriteZeroes e fua) bytes format old new output output status
-zeroes_performed e fua bytes format old new output status h = by h.medium h.of_write h.answer h.contents h.faults where
+zeroes_performed e fua bytes format old new output status h = by h.disk_outcome h.of_write h.answer h.contents h.faults where
   units : List (List ℕ)
   units = replicate e.units zero_unit
 
-  by : (m : Medium) → IsOfWrite (length units) m → status ≡ write_status m → new.contents ≡ written_by m e.first units old.contents
+  by : (m : DiskOutcome) → IsOfWrite (length units) m → status ≡ write_status m → new.contents ≡ written_by m e.first units old.contents
       → CountsBy m old.faults new.faults → PerformsOn (operation.WriteZeroes e fua) bytes format old new output output status
-  by good of answer contents faults = record { medium = good; meets = tt; answer = answer; sends = simp append-nil; contents = contents; faults = faults }
+  by good of answer contents faults = record { disk_outcome = good; meets = tt; answer = answer; sends = simp append-nil; contents = contents; faults = faults }
   by read_fault of answer contents faults = absurd of
   by (write_fault_after n) of answer contents faults = record {
-    medium = write_fault_after n;
+    disk_outcome = write_fault_after n;
     meets = rw (length-replicate e.units zero_unit) at of;
     answer = answer;
     sends = simp append-nil;
@@ -98,13 +98,13 @@ zeroes_performed e fua bytes format old new output status h = by h.medium h.of_w
 
 pub flush_performed : (disk : ℕ) (bytes : List ℕ) (format : DataFormat) (old new : Stored) (output : List ℕ) (status : Status) → Flushes old new status
     → PerformsOn (operation.Flush disk) bytes format old new output output status
-flush_performed disk bytes format old new output status h = by h.medium h.of_write h.answer h.contents h.faults where
-  by : (m : Medium) → IsOfWrite 0 m → status ≡ write_status m → new.contents ≡ written_by m 0 [] old.contents
+flush_performed disk bytes format old new output status h = by h.disk_outcome h.of_write h.answer h.contents h.faults where
+  by : (m : DiskOutcome) → IsOfWrite 0 m → status ≡ write_status m → new.contents ≡ written_by m 0 [] old.contents
       → CountsBy m old.faults new.faults → PerformsOn (operation.Flush disk) bytes format old new output output status
-  by good of answer contents faults = record { medium = good; meets = tt; answer = answer; sends = simp append-nil; contents = contents; faults = faults }
+  by good of answer contents faults = record { disk_outcome = good; meets = tt; answer = answer; sends = simp append-nil; contents = contents; faults = faults }
   by read_fault of answer contents faults = absurd of
   by (write_fault_after n) of answer contents faults = record {
-    medium = write_fault_after n;
+    disk_outcome = write_fault_after n;
     meets = of;
     answer = answer;
     sends = simp append-nil;
@@ -152,7 +152,7 @@ pub within_on : (disks : List Stored) (brings : ℕ) (op : Operation) (none : St
 within_on disks brings op none h = rw (get_or_default disks (disk_of op) none no_disk (disk_there disks brings op h)) (on_disk disks brings op h)
 
 -- what an act makes of each disk
-acted_at : (m : Medium) (o : Option Write) (disks : List Stored) (i : ℕ) (new : Stored) → i < length disks
+acted_at : (m : DiskOutcome) (o : Option Write) (disks : List Stored) (i : ℕ) (new : Stored) → i < length disks
     → new.contents ≡ written (option_map (new_of m) o) (contents_at disks i) → (d : ℕ) (test : Bool) → (d == i) ≡ test
     → contents_at (slice_set disks i new) d ≡ written (write_on d (option_map (λ w. record { disk = i; write = new_of m w }) o)) (contents_at disks d)
 acted_at m None disks i new within h d true is =
@@ -161,7 +161,7 @@ acted_at m None disks i new within h d false is = same_elsewhere (λ (s : Stored
 acted_at m (Some w) disks i new within h d true is = rw is (rw (eqb-true d i is) (ap (λ (s : Stored). s.contents) (here disks i new within) ∙ h))
 acted_at m (Some w) disks i new within h d false is = rw is (same_elsewhere (λ (s : Stored). s.contents) disks i d new is)
 
-told : (m : Medium) (disks : List Stored) (i : ℕ) (new : Stored) → i < length disks → CountsBy m (faults_at disks i) new.faults
+told : (m : DiskOutcome) (disks : List Stored) (i : ℕ) (new : Stored) → i < length disks → CountsBy m (faults_at disks i) new.faults
     → Tells m disks (slice_set disks i new)
 told m disks i new within h = by m h where
   i_now : (n : ℕ) → new.faults ≡ n → faults_at (slice_set disks i new) i ≡ n
@@ -174,7 +174,7 @@ told m disks i new within h = by m h where
   changes : new.faults ≢ faults_at disks i → ¬ ((d : ℕ) → faults_at (slice_set disks i new) d ≡ faults_at disks d)
   changes differs same = differs (sym (i_now new.faults refl) ∙ same i)
 
-  by : (m : Medium) → CountsBy m (faults_at disks i) new.faults → Tells m disks (slice_set disks i new)
+  by : (m : DiskOutcome) → CountsBy m (faults_at disks i) new.faults → Tells m disks (slice_set disks i new)
   by good h = record { good = λ is d. same_at d (d == i) refl h; failed = λ is. absurd (false≢true (sym is)) }
   by read_fault h = record { good = λ is. absurd (false≢true is); failed = λ is. changes h }
   by (write_fault_after n) h = record { good = λ is. absurd (false≢true is); failed = λ is. changes h }
@@ -185,12 +185,12 @@ performed_on : (op : Operation) (bytes : List ℕ) (format : DataFormat) (disks 
     → PerformsOn op bytes format (disk_at disks (disk_of op)) new output appended status
     → Performs op bytes format disks (slice_set disks (disk_of op) new) output appended status
 performed_on op bytes format disks new output appended status within same h = record {
-  medium = h.medium;
+  disk_outcome = h.disk_outcome;
   meets = h.meets;
-  tells = told h.medium disks (disk_of op) new within h.faults;
+  tells = told h.disk_outcome disks (disk_of op) new within h.faults;
   answer = h.answer;
   sends = h.sends;
-  contents = λ d. acted_at h.medium (write_of op bytes) disks (disk_of op) new within h.contents d (d == disk_of op) refl;
+  contents = λ d. acted_at h.disk_outcome (write_of op bytes) disks (disk_of op) new within h.contents d (d == disk_of op) refl;
   sizes = map-set_same size_of disks (disk_of op) new no_disk same;
 }
 

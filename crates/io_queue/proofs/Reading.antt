@@ -11,7 +11,7 @@ use Rattle.block_store.specs.Write.{Write}
 use Rattle.io_queue.specs.declared.operation.Extent.{Extent}
 use Rattle.io_queue.specs.declared.operation.Operation.{Operation}
 use Rattle.io_queue.specs.declared.operation.Operation.TheVariants as operation
-use Rattle.io_queue.specs.Act.{Medium, count_new, good}
+use Rattle.io_queue.specs.Act.{DiskOutcome, count_new, good}
 use Rattle.io_queue.specs.Execution.{new_of, written}
 use Rattle.io_queue.specs.Laws.{AreApart, IsBeside, ReadsWhatWasWritten, left_by, read_from}
 use Rattle.io_queue.specs.Operation.{IsOnDisk, brought, disk_of}
@@ -63,12 +63,12 @@ zeros e fua bytes contents within =
 
 -- ---- what was not
 
-not_on : (e : Extent) (test : Bool) (m : Medium) (w : Write) (contents : List (List ℕ)) → test ≡ false
+not_on : (e : Extent) (test : Bool) (m : DiskOutcome) (w : Write) (contents : List (List ℕ)) → test ≡ false
     → read_from e (written (if test then Some (new_of m w) else None) contents) ≡ read_from e contents
 not_on e true m w contents other = cc
 not_on e false m w contents other = refl
 
-elsewhere : (e : Extent) (op : Operation) (bytes : List ℕ) (m : Medium) (contents : List (List ℕ))
+elsewhere : (e : Extent) (op : Operation) (bytes : List ℕ) (m : DiskOutcome) (contents : List (List ℕ))
     → ¬ (e.disk ≡ disk_of op) → read_from e (left_by op bytes m e.disk contents) ≡ read_from e contents
 elsewhere e (operation.Flush disk) bytes m contents other = refl
 elsewhere e (operation.Read f) bytes m contents other = refl
@@ -78,7 +78,7 @@ elsewhere e (operation.Write f at fua) bytes m contents other =
 elsewhere e (operation.WriteZeroes f fua) bytes m contents other =
     not_on e (e.disk == f.disk) m (record { first = f.first; units = replicate f.units zero_unit }) contents (ne_eqb e.disk f.disk other)
 
-not_of : (e f : Extent) (test : Bool) (m : Medium) (units contents : List (List ℕ)) → f.first + f.units ≤ length contents → length units ≡ f.units
+not_of : (e f : Extent) (test : Bool) (m : DiskOutcome) (units contents : List (List ℕ)) → f.first + f.units ≤ length contents → length units ≡ f.units
     → AreApart e f → read_from e (written (if test then Some (new_of m (record { first = f.first; units = units })) else None) contents) ≡ read_from e contents
 not_of e f false m units contents within long apart = refl
 not_of e f true m units contents within long apart =
@@ -88,7 +88,7 @@ not_of e f true m units contents within long apart =
     (range_outside contents new f.first (omega (arith, within, few)) e.first e.units
     (elim apart [ inl before ↦ inl before | inr behind ↦ inr (omega (arith, behind, few)) ]))
 
-beside : (e : Extent) (op : Operation) (bytes : List ℕ) (m : Medium) (contents : List (List ℕ))
+beside : (e : Extent) (op : Operation) (bytes : List ℕ) (m : DiskOutcome) (contents : List (List ℕ))
     → IsOnDisk (length contents) (length bytes) op → IsBeside e op
     → read_from e (left_by op bytes m e.disk contents) ≡ read_from e contents
 beside e (operation.Flush disk) bytes m contents within apart = refl

@@ -9,7 +9,7 @@ use Rattle.nvt_fields.specs.Status.{compare_failure, success, unrecovered_read_e
 use Rattle.io_queue.specs.declared.operation.Operation.{Operation}
 use Rattle.io_queue.specs.declared.reply.DataFormat.{DataFormat}
 use Rattle.io_queue.specs.declared.operation.Operation.TheVariants as operation
-use Rattle.io_queue.specs.Act.{CountsBy, IsOfRead, IsOfWrite, IsSynced, Medium, count_new, good, is_good}
+use Rattle.io_queue.specs.Act.{CountsBy, IsOfRead, IsOfWrite, IsSynced, DiskOutcome, count_new, good, is_good}
 use Rattle.io_queue.specs.Operation.{brought, disk_of}
 use Rattle.io_queue.specs.Reply.{returned_pdus}
 
@@ -33,13 +33,13 @@ fault_status (operation.Compare e at) = unrecovered_read_error
 fault_status (operation.WriteZeroes e fua) = write_fault
 
 -- by the data in its capsule and the contents of its disk before it
-abbrev pub status_by : Operation → List ℕ → List (List ℕ) → Medium → Status
+abbrev pub status_by : Operation → List ℕ → List (List ℕ) → DiskOutcome → Status
 status_by op bytes contents m = if is_good m then good_status op bytes contents else fault_status op
 
 -- ---- what it returns
 
 -- a Read that succeeds returns the extent's bytes, and nothing else returns any
-abbrev pub returned : Operation → List (List ℕ) → Medium → Option (List ℕ)
+abbrev pub returned : Operation → List (List ℕ) → DiskOutcome → Option (List ℕ)
 returned (operation.Read e) contents m = if is_good m then Some (bytes_of (units_at contents e.first e.units)) else None
 returned _ contents m = None
 
@@ -52,7 +52,7 @@ write_of (operation.WriteZeroes e fua) bytes = Some (record { first = e.first; u
 write_of _ bytes = None
 
 -- those of its units that are new
-abbrev pub new_of : Medium → Write → Write
+abbrev pub new_of : DiskOutcome → Write → Write
 new_of m w = record { first = w.first; units = take (count_new m (length w.units)) w.units }
 
 -- a write of a disk
@@ -61,7 +61,7 @@ pub record Act : Type 0 where
   pub write : Write
 
 -- what it wrote
-abbrev pub act_of : Operation → List ℕ → Medium → Option Act
+abbrev pub act_of : Operation → List ℕ → DiskOutcome → Option Act
 act_of op bytes m = option_map (λ w. record { disk = disk_of op; write = new_of m w }) (write_of op bytes)
 
 -- what a write makes of the contents
@@ -78,7 +78,7 @@ write_on disk (Some a) = if disk == a.disk then Some a.write else None
 
 -- the disk may do this: a Read or a Compare meets no write fault, and the others no read fault; a write that fails has
 -- at most as many new units as it was to have
-abbrev pub MayMeet : Operation → Medium → Type 0
+abbrev pub MayMeet : Operation → DiskOutcome → Type 0
 MayMeet (operation.Flush disk) m = IsOfWrite 0 m
 MayMeet (operation.Read e) m = IsOfRead m
 MayMeet (operation.Write e at fua) m = IsOfWrite e.units m
@@ -87,12 +87,12 @@ MayMeet (operation.WriteZeroes e fua) m = IsOfWrite e.units m
 
 -- an operation is performed on its disk, and what it returns stands behind the output
 pub record PerformsOn (op : Operation) (bytes : List ℕ) (format : DataFormat) (old new : Stored) (output appended : List ℕ) (status : Status) : Type 0 where
-  pub medium : Medium
-  pub meets : MayMeet op medium
-  pub answer : status ≡ status_by op bytes old.contents medium
-  pub sends : appended ≡ output ++ returned_pdus format (returned op old.contents medium)
-  pub contents : new.contents ≡ written (option_map (new_of medium) (write_of op bytes)) old.contents
-  pub faults : CountsBy medium old.faults new.faults
+  pub disk_outcome : DiskOutcome
+  pub meets : MayMeet op disk_outcome
+  pub answer : status ≡ status_by op bytes old.contents disk_outcome
+  pub sends : appended ≡ output ++ returned_pdus format (returned op old.contents disk_outcome)
+  pub contents : new.contents ≡ written (option_map (new_of disk_outcome) (write_of op bytes)) old.contents
+  pub faults : CountsBy disk_outcome old.faults new.faults
 
 -- where it is to last and is answered with success, what the disk holds has been synced
 abbrev pub Syncs : Operation → Stored → Status → Type 0
@@ -125,17 +125,17 @@ abbrev pub sizes : List Stored → List ℕ
 sizes disks = map size_of disks
 
 -- what the disks did is good exactly where no count of failures changed
-pub record Tells (m : Medium) (old new : List Stored) : Type 0 where
+pub record Tells (m : DiskOutcome) (old new : List Stored) : Type 0 where
   pub good : is_good m ≡ true → (d : ℕ) → faults_at new d ≡ faults_at old d
   pub failed : is_good m ≡ false → ¬ ((d : ℕ) → faults_at new d ≡ faults_at old d)
 
 pub record Performs (op : Operation) (bytes : List ℕ) (format : DataFormat) (old new : List Stored) (output appended : List ℕ) (status : Status) : Type 0 where
-  pub medium : Medium
-  pub meets : MayMeet op medium
-  pub tells : Tells medium old new
-  pub answer : status ≡ status_by op bytes (contents_at old (disk_of op)) medium
-  pub sends : appended ≡ output ++ returned_pdus format (returned op (contents_at old (disk_of op)) medium)
-  pub contents : (d : ℕ) → contents_at new d ≡ written (write_on d (act_of op bytes medium)) (contents_at old d)
+  pub disk_outcome : DiskOutcome
+  pub meets : MayMeet op disk_outcome
+  pub tells : Tells disk_outcome old new
+  pub answer : status ≡ status_by op bytes (contents_at old (disk_of op)) disk_outcome
+  pub sends : appended ≡ output ++ returned_pdus format (returned op (contents_at old (disk_of op)) disk_outcome)
+  pub contents : (d : ℕ) → contents_at new d ≡ written (write_on d (act_of op bytes disk_outcome)) (contents_at old d)
   pub sizes : sizes new ≡ sizes old
 
 abbrev pub SyncsIn : Operation → List Stored → Status → Type 0
@@ -144,18 +144,18 @@ SyncsIn op new status = Syncs op (disk_at new (disk_of op)) status
 -- ---- an operation, or none
 
 -- the disks may do this: with an operation what it may meet, and without one nothing is asked of them, so all is good
-abbrev pub MayMeetIn : Option Operation → Medium → Type 0
+abbrev pub MayMeetIn : Option Operation → DiskOutcome → Type 0
 MayMeetIn None m = m ≡ good
 MayMeetIn (Some op) m = MayMeet op m
 
 -- .. and where the operation is to last and is answered with success, what its disk holds has been synced
-abbrev pub LastsIn : Option Operation → List ℕ → Medium → List Stored → List Stored → Type 0
+abbrev pub LastsIn : Option Operation → List ℕ → DiskOutcome → List Stored → List Stored → Type 0
 LastsIn None bytes m old new = Unit {0}
 LastsIn (Some op) bytes m old new = SyncsIn op new (status_by op bytes (contents_at old (disk_of op)) m)
 
 -- The disks did this, with an operation that takes its data from these bytes, or without one: what they did is good
 -- exactly where no count of failures changed, it is what they may do then, and what is to last has been synced.
-pub record DisksDid (op : Option Operation) (bytes : List ℕ) (m : Medium) (old new : List Stored) : Type 0 where
+pub record DisksDid (op : Option Operation) (bytes : List ℕ) (m : DiskOutcome) (old new : List Stored) : Type 0 where
   pub tells : Tells m old new
   pub meets : MayMeetIn op m
   pub lasts : LastsIn op bytes m old new

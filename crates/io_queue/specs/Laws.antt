@@ -6,7 +6,7 @@ use Rattle.config_rules.specs.Configuration.{Configuration}
 use Rattle.io_queue.specs.declared.operation.Extent.{Extent}
 use Rattle.io_queue.specs.declared.operation.Operation.{Operation}
 use Rattle.io_queue.specs.declared.operation.Operation.TheVariants as operation
-use Rattle.io_queue.specs.Act.{Medium, good}
+use Rattle.io_queue.specs.Act.{DiskOutcome, good}
 use Rattle.io_queue.specs.Beginning.{begin}
 use Rattle.io_queue.specs.Finishing.{finish}
 use Rattle.io_queue.specs.Execution.{act_of, returned, write_on, written}
@@ -33,7 +33,7 @@ abbrev pub read_from : Extent → List (List ℕ) → Option (List ℕ)
 read_from e contents = returned (operation.Read e) contents good
 
 -- the units of this disk after an operation, by the data in its capsule and what its disk did
-abbrev pub left_by : Operation → List ℕ → Medium → ℕ → List (List ℕ) → List (List ℕ)
+abbrev pub left_by : Operation → List ℕ → DiskOutcome → ℕ → List (List ℕ) → List (List ℕ)
 left_by op bytes m disk contents = written (write_on disk (act_of op bytes m)) contents
 
 -- one ends before the other begins
@@ -55,8 +55,8 @@ pub record ReadsWhatWasWritten : Type 0 where
   pub zeros : (e : Extent) (fua : Bool) (bytes : List ℕ) (contents : List (List ℕ))
       → IsOnDisk (length contents) (length bytes) (operation.WriteZeroes e fua)
       → read_from e (left_by (operation.WriteZeroes e fua) bytes good e.disk contents) ≡ Some (replicate (512 * e.units) 0)
-  pub elsewhere : (e : Extent) (op : Operation) (bytes : List ℕ) (m : Medium) (contents : List (List ℕ))
+  pub elsewhere : (e : Extent) (op : Operation) (bytes : List ℕ) (m : DiskOutcome) (contents : List (List ℕ))
       → ¬ (e.disk ≡ disk_of op) → read_from e (left_by op bytes m e.disk contents) ≡ read_from e contents
-  pub beside : (e : Extent) (op : Operation) (bytes : List ℕ) (m : Medium) (contents : List (List ℕ))
+  pub beside : (e : Extent) (op : Operation) (bytes : List ℕ) (m : DiskOutcome) (contents : List (List ℕ))
       → IsOnDisk (length contents) (length bytes) op → IsBeside e op
       → read_from e (left_by op bytes m e.disk contents) ≡ read_from e contents

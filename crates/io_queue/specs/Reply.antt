@@ -8,7 +8,7 @@ use Rattle.nvt_fields.specs.declared.status.Status.{Status}
 use Rattle.pdu_codec.specs.C2hData.{c2h_data}
 use Rattle.io_queue.specs.declared.operation.Extent.{Extent}
 use Rattle.io_queue.specs.declared.reply.DataFormat.{DataFormat}
-use Rattle.io_queue.specs.Act.{CountsBy, IsOfRead, Medium, extent_bytes, is_good, read_status}
+use Rattle.io_queue.specs.Act.{CountsBy, IsOfRead, DiskOutcome, extent_bytes, is_good, read_status}
 
 -- a C2HData in the place of a piece, with this payload
 abbrev pub pdu_with : DataFormat → Piece → List ℕ → List ℕ
@@ -29,17 +29,17 @@ returned_pdus format None = []
 returned_pdus format (Some bytes) = data_pdus format bytes
 
 -- the data that a Read returns: none where the disk failed
-abbrev pub read_by : Medium → List ℕ → Option (List ℕ)
+abbrev pub read_by : DiskOutcome → List ℕ → Option (List ℕ)
 read_by m bytes = if is_good m then Some bytes else None
 
 -- the bytes of an extent stand behind the output, or, where the disk failed to read them, none
 pub record AppendsRead (format : DataFormat) (e : Extent) (old new : Stored) (output appended : List ℕ) (status : Status) : Type 0 where
-  pub medium : Medium
-  pub of_read : IsOfRead medium
-  pub answer : status ≡ read_status medium
-  pub sends : appended ≡ output ++ returned_pdus format (read_by medium (extent_bytes e old))
+  pub disk_outcome : DiskOutcome
+  pub of_read : IsOfRead disk_outcome
+  pub answer : status ≡ read_status disk_outcome
+  pub sends : appended ≡ output ++ returned_pdus format (read_by disk_outcome (extent_bytes e old))
   pub contents : new.contents ≡ old.contents
-  pub faults : CountsBy medium old.faults new.faults
+  pub faults : CountsBy disk_outcome old.faults new.faults
 
 -- ---- one piece
 

@@ -22,6 +22,9 @@ invalid_opcode = generic 0x01
 abbrev pub invalid_field : Status
 invalid_field = generic 0x02
 
+abbrev pub command_id_conflict : Status
+command_id_conflict = generic 0x03
+
 abbrev pub invalid_namespace_or_format : Status
 invalid_namespace_or_format = generic 0x0B
 

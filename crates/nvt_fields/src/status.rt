@@ -32,6 +32,13 @@ impl Status {
         dnr: true,
     };
 
+    /// A command with the same identifier is outstanding.
+    pub const COMMAND_ID_CONFLICT: Status = Status {
+        sct: 0,
+        sc: 0x03,
+        dnr: true,
+    };
+
     pub const INVALID_NAMESPACE_OR_FORMAT: Status = Status {
         sct: 0,
         sc: 0x0B,

@@ -8,8 +8,8 @@ use Rattle.std.proofs.KnownBytes.{Appends-nil, Appends-trans}
 use Rattle.hex.specs.Hex.{decode_of}
 use Rattle.number_table.specs.Table.{place}
 use Rattle.target_core.specs.declared.fault.OpenFault.{OpenFault}
-use Rattle.target_core.specs.Connection.{ConnectionState}
-use Rattle.target_core.specs.Moves.{Moves}
+use Rattle.target_core.specs.Connection.{KnownConnection}
+use Rattle.target_core.specs.Transition.{Transition}
 use Rattle.target_core.specs.Target.{TargetState, free_number, is_ended_at, open_fault, output_at}
 use Rattle.target_decision.specs.World.{connections_max}
 use Rattle.target_history.specs.Event.{given_up, opened, ticked}
@@ -29,19 +29,19 @@ use Rattle.nvt_replay.proofs.Prints.{lines_are, lines_below-more, not_yet}
 abbrev closing : ℕ → Bool → List ℕ
 closing k is_ended = if is_ended then event_line k (codes "closed") else []
 
-lines_with : (k : ℕ) (o : Option ConnectionState) (output : List ℕ) → output ≡ output_at o
+lines_with : (k : ℕ) (o : Option KnownConnection) (output : List ℕ) → output ≡ output_at o
     → connection_lines k o ≡ output_lines k output ++ closing k (is_ended_at o)
 lines_with k o output is = lines_are k o ∙ ap (λ (bytes : List ℕ). output_lines k bytes ++ closing k (is_ended_at o)) (sym is)
 
 -- of its output a beginning is printed
-pub lines_begun : (k : ℕ) (o : Option ConnectionState) (a b : Option (List ℕ)) (output : List ℕ) → output ≡ output_at o
+pub lines_begun : (k : ℕ) (o : Option KnownConnection) (a b : Option (List ℕ)) (output : List ℕ) → output ≡ output_at o
     → AppendsFront a b (output_lines k output) → AppendsFront a b (connection_lines k o)
 lines_begun k o a b output is part =
     subst (AppendsFront a b) (sym (lines_with k o output is))
     (front_left a b (output_lines k output) (closing k (is_ended_at o)) part)
 
 -- .. and of the line that it is closed
-pub closing_begun : (k : ℕ) (o : Option ConnectionState) (a b c : Option (List ℕ)) (output : List ℕ) → output ≡ output_at o → is_ended_at o ≡ true
+pub closing_begun : (k : ℕ) (o : Option KnownConnection) (a b c : Option (List ℕ)) (output : List ℕ) → output ≡ output_at o → is_ended_at o ≡ true
     → Appends a b (output_lines k output) → AppendsFront b c (event_line k (codes "closed")) → AppendsFront a c (connection_lines k o)
 closing_begun k o a b c output is ended printed part =
     subst (AppendsFront a c) (sym (lines_with k o output is ∙ ap (λ e. output_lines k output ++ closing k e) ended))
@@ -73,7 +73,7 @@ pub settling_cut : (k : ℕ) (old idle mid : TargetState) (a b c : Option (List 
     → AppendsFront b c (connection_lines k (place mid.connections k)) → Prints a c (λ text. SettlesInPart old text)
 settling_cut k old idle mid a b c known steps first before here =
     let own : AppendsFront b c (connection_lines k (place idle.connections k)) =
-    subst (λ (o : Option ConnectionState). AppendsFront b c (connection_lines k o)) (not_yet k idle mid first) here in
+    subst (λ (o : Option KnownConnection). AppendsFront b c (connection_lines k o)) (not_yet k idle mid first) here in
     let part : AppendsFront a c (lines_below (k + 1) idle) =
     subst (AppendsFront a c) (sym (lines_below-more k idle))
     (front_behind a b c (lines_below k idle) (connection_lines k (place idle.connections k)) before own) in
@@ -119,14 +119,14 @@ none_refused k (Some fault) P h = cc
 
 -- a connection that is opened
 pub opened_plays : (port k : ℕ) (old new : TargetState) (P : Type 0) → MatchOption (open_fault old port) P (λ fault. is_number k ≡ Err fault)
-    → free_number old ≡ Some k → Moves (opened port k) old new → PlaysOpen port old (event_line k (codes "open")) new
-opened_plays port k old new P refused free moves = rw (none_refused k (open_fault old port) P refused) (k, free, moves, refl)
+    → free_number old ≡ Some k → Transition (opened port k) old new → PlaysOpen port old (event_line k (codes "open")) new
+opened_plays port k old new P refused free transition = rw (none_refused k (open_fault old port) P refused) (k, free, transition, refl)
 
-if_unknown : (o : Option ConnectionState) (P : Type 0) (Q : ConnectionState → Type 0) → is_some o ≡ false → P → MatchOption o P Q
+if_unknown : (o : Option KnownConnection) (P : Type 0) (Q : KnownConnection → Type 0) → is_some o ≡ false → P → MatchOption o P Q
 if_unknown None P Q not h = h
 if_unknown (Some c) P Q not h = cc
 
-if_known : (o : Option ConnectionState) (P : Type 0) (Q : ConnectionState → Type 0) → is_some o ≡ true → ((c : ConnectionState) → o ≡ Some c → Q c)
+if_known : (o : Option KnownConnection) (P : Type 0) (Q : KnownConnection → Type 0) → is_some o ≡ true → ((c : KnownConnection) → o ≡ Some c → Q c)
     → MatchOption o P Q
 if_known None P Q is h = cc
 if_known (Some c) P Q is h = h c refl
@@ -161,20 +161,20 @@ handing_cut (Err fault) k hex bytes old new a b is decoded part =
 
 pub ending_cut : {E : Type 0} (r : Result (Unit {0}) E) (k : ℕ) (old mid new : TargetState) (a b : Option (List ℕ))
     → is_some (place old.connections k) ≡ true
-    → MatchOption (place old.connections k) (mid ≡ old) (λ c. Moves (given_up k) old mid)
+    → MatchOption (place old.connections k) (mid ≡ old) (λ c. Transition (given_up k) old mid)
     → OnErr r (Prints a b (λ text. SettlesInPart mid text)) → OnErr r (Prints a b (λ text. EndsInPart k old text new))
 ending_cut (Ok done) k old mid new a b is ends part = tt
 ending_cut (Err fault) k old mid new a b is ends part = (
   part.0,
   part.1,
   if_known (place old.connections k) _ _ is (λ c e.
-      (mid, subst (λ (o : Option ConnectionState). MatchOption o (mid ≡ old) (λ d. Moves (given_up k) old mid)) e ends, part.2)),
+      (mid, subst (λ (o : Option KnownConnection). MatchOption o (mid ≡ old) (λ d. Transition (given_up k) old mid)) e ends, part.2)),
 )
 
-pub ticking_cut : {E : Type 0} (r : Result (Unit {0}) E) (ms : ℕ) (old mid : TargetState) (a b : Option (List ℕ)) → Moves (ticked ms) old mid
+pub ticking_cut : {E : Type 0} (r : Result (Unit {0}) E) (ms : ℕ) (old mid : TargetState) (a b : Option (List ℕ)) → Transition (ticked ms) old mid
     → OnErr r (Prints a b (λ text. SettlesInPart mid text)) → OnErr r (Prints a b (λ text. TicksInPart ms old text))
-ticking_cut (Ok done) ms old mid a b moves part = tt
-ticking_cut (Err fault) ms old mid a b moves part = (part.0, part.1, (mid, moves, part.2))
+ticking_cut (Ok done) ms old mid a b transition part = tt
+ticking_cut (Err fault) ms old mid a b transition part = (part.0, part.1, (mid, transition, part.2))
 
 -- the reply to an edit that is made
 pub replying_cut : (line : List ℕ) (old new : TargetState) (a b : Option (List ℕ)) → MakesLine line old new → AppendsFront a b edit_made_line

@@ -5,15 +5,15 @@ use Rattle.std.specs.Option.{option_map}
 use Rattle.std.proofs.lemmas.Bool.{cases_eq, cases_lt, eqb-true}
 use Rattle.std.proofs.lemmas.Bool.Decides.{nat_tests}
 use Rattle.std.proofs.lemmas.List.{get_or_past, get_or-replicate, get_or-set_other, get_or-set_same, length-replicate, length-set}
-use Rattle.io_queue.specs.Act.{Medium}
+use Rattle.io_queue.specs.Act.{DiskOutcome}
 use Rattle.number_table.specs.Table.{place}
 use Rattle.number_table.proofs.Tables.{place-with_value_held}
 use Rattle.pdu_cut.specs.Front.{Front}
-use Rattle.target_core.specs.Connection.{ConnectionState, fresh_on}
-use Rattle.target_core.specs.Moves.{Moves, connection_moved}
+use Rattle.target_core.specs.Connection.{KnownConnection, fresh_on}
+use Rattle.target_core.specs.Transition.{Transition, known_moved}
 use Rattle.target_core.specs.Target.{TakenAt, TargetState, meets}
 use Rattle.target_history.specs.Event.{given_up, opened, stepped, ticked}
-use Rattle.target_history.specs.Happening.{Happening}
+use Rattle.target_history.specs.Occurrence.{Occurrence}
 use Rattle.nvt_replay.specs.Played.{HasNone}
 
 -- these are the marks of the connections that are known
@@ -42,29 +42,29 @@ marked marks k b j here =
           rw unequal (get_or-set_other marks k j b false differs)
     ]
 
-stays_known : (x : Happening) (k : ℕ) (o : Option ConnectionState) → is_some (option_map (connection_moved x k) o) ≡ is_some o
+stays_known : (x : Occurrence) (k : ℕ) (o : Option KnownConnection) → is_some (option_map (known_moved x k) o) ≡ is_some o
 stays_known x k None = refl
 stays_known x k (Some c) = refl
 
-opened_at : (x : Happening) (port j : ℕ) (o : Option ConnectionState) (mark same : Bool) → mark ≡ is_some o
-    → (if same then true else mark) ≡ is_some (if same then Some (fresh_on port) else option_map (connection_moved x j) o)
+opened_at : (x : Occurrence) (port j : ℕ) (o : Option KnownConnection) (mark same : Bool) → mark ≡ is_some o
+    → (if same then true else mark) ≡ is_some (if same then Some (fresh_on port) else option_map (known_moved x j) o)
 opened_at x port j o mark true is = refl
 opened_at x port j o mark false is = is ∙ sym (stays_known x j o)
 
 pub opened_marked : (old new : TargetState) (port k : ℕ) (marks : List Bool) → k < length marks → AreMarks marks old
-    → Moves (opened port k) old new → AreMarks (set marks k true) new
-opened_marked old new port k marks within are moves = λ j.
+    → Transition (opened port k) old new → AreMarks (set marks k true) new
+opened_marked old new port k marks within are transition = λ j.
     marked marks k true j (get_or-set_same marks k true false within)
     ∙ opened_at (meets old (opened port k)) port j (place old.connections j) (get_or marks j false) (j == k) (are j)
-    ∙ sym (ap is_some (moves.connection j))
+    ∙ sym (ap is_some (transition.connection j))
 
-pub stepped_marked : (old new : TargetState) (k : ℕ) (found : Front) (m : Medium) (marks : List Bool) → AreMarks marks old
-    → Moves (stepped k found m) old new → AreMarks marks new
-stepped_marked old new k found m marks are moves = λ j.
-    are j ∙ sym (stays_known (meets old (stepped k found m)) j (place old.connections j)) ∙ sym (ap is_some (moves.connection j))
+pub stepped_marked : (old new : TargetState) (k : ℕ) (found : Front) (m : DiskOutcome) (marks : List Bool) → AreMarks marks old
+    → Transition (stepped k found m) old new → AreMarks marks new
+stepped_marked old new k found m marks are transition = λ j.
+    are j ∙ sym (stays_known (meets old (stepped k found m)) j (place old.connections j)) ∙ sym (ap is_some (transition.connection j))
 
-left_at : (x : Happening) (j : ℕ) (o : Option ConnectionState) (mark same : Bool) → mark ≡ is_some o
-    → (if same then false else mark) ≡ is_some (if same then None else option_map (connection_moved x j) o)
+left_at : (x : Occurrence) (j : ℕ) (o : Option KnownConnection) (mark same : Bool) → mark ≡ is_some o
+    → (if same then false else mark) ≡ is_some (if same then None else option_map (known_moved x j) o)
 left_at x j o mark true is = refl
 left_at x j o mark false is = is ∙ sym (stays_known x j o)
 
@@ -74,8 +74,8 @@ unmarked_at marks k = by (cases_lt k (length marks)) where
   by (inl within) = get_or-set_same marks k false false within
   by (inr past) = get_or_past (set marks k false) k false (omega (arith, length-set marks k false))
 
-ended_at : (old new : TargetState) (k : ℕ) (o : Option ConnectionState) (marks : List Bool) → place old.connections k ≡ o
-    → MatchOption o (new ≡ old) (λ c. Moves (given_up k) old new) → AreMarks marks old → AreMarks (set marks k false) new
+ended_at : (old new : TargetState) (k : ℕ) (o : Option KnownConnection) (marks : List Bool) → place old.connections k ≡ o
+    → MatchOption o (new ≡ old) (λ c. Transition (given_up k) old new) → AreMarks marks old → AreMarks (set marks k false) new
 ended_at old new k None marks known same are = λ j.
     marked marks k false j (unmarked_at marks k) ∙ none_at j (cases_eq j k) ∙ are j ∙ sym (ap (λ (t : TargetState). is_some (place t.connections j)) same)
   where
@@ -86,29 +86,29 @@ ended_at old new k None marks known same are = λ j.
     none_at j (inr differs) =
         let unequal : (j == k) ≡ false = grind (arith, nat_tests) in
         rw unequal refl
-ended_at old new k (Some c) marks known moves are = λ j.
+ended_at old new k (Some c) marks known transition are = λ j.
     marked marks k false j (unmarked_at marks k)
     ∙ left_at (meets old (given_up k)) j (place old.connections j) (get_or marks j false) (j == k) (are j)
-    ∙ sym (ap is_some (moves.connection j))
+    ∙ sym (ap is_some (transition.connection j))
 
 pub ended_marked : (old new : TargetState) (k : ℕ) (marks : List Bool)
-    → MatchOption (place old.connections k) (new ≡ old) (λ c. Moves (given_up k) old new) → AreMarks marks old → AreMarks (set marks k false) new
+    → MatchOption (place old.connections k) (new ≡ old) (λ c. Transition (given_up k) old new) → AreMarks marks old → AreMarks (set marks k false) new
 ended_marked old new k marks ends are = ended_at old new k (place old.connections k) marks refl ends are
 
-pub ticked_marked : (old new : TargetState) (ms : ℕ) (marks : List Bool) → AreMarks marks old → Moves (ticked ms) old new → AreMarks marks new
-ticked_marked old new ms marks are moves = λ j.
-    are j ∙ sym (stays_known (meets old (ticked ms)) j (place old.connections j)) ∙ sym (ap is_some (moves.connection j))
+pub ticked_marked : (old new : TargetState) (ms : ℕ) (marks : List Bool) → AreMarks marks old → Transition (ticked ms) old new → AreMarks marks new
+ticked_marked old new ms marks are transition = λ j.
+    are j ∙ sym (stays_known (meets old (ticked ms)) j (place old.connections j)) ∙ sym (ap is_some (transition.connection j))
 
-written_at : (same : Bool) (c d : ConnectionState) (o : Option ConnectionState) → (same ≡ true → o ≡ Some c)
+written_at : (same : Bool) (c d : KnownConnection) (o : Option KnownConnection) → (same ≡ true → o ≡ Some c)
     → is_some o ≡ is_some (if same then Some d else o)
 written_at true c d o known = ap is_some (known refl)
 written_at false c d o known = refl
 
-taken_at : (old new : TargetState) (k len : ℕ) (o : Option ConnectionState) (marks : List Bool) → place old.connections k ≡ o
+taken_at : (old new : TargetState) (k len : ℕ) (o : Option KnownConnection) (marks : List Bool) → place old.connections k ≡ o
     → TakenAt k o old len new → AreMarks marks old → AreMarks marks new
 taken_at old new k len None marks known takes are = rw takes are
 taken_at old new k len (Some c) marks known takes are = rw takes (λ j.
-    let after : ConnectionState = record { conversation = c.conversation; output = drop len c.output } in
+    let after : KnownConnection = record { state = c.state; output = drop len c.output } in
     are j
     ∙ written_at (j == k) c after (place old.connections j) (λ is. ap (place old.connections) (eqb-true j k is) ∙ known)
     ∙ sym (ap is_some (place-with_value_held old.connections k after j c known)))

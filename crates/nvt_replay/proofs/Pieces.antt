@@ -2,11 +2,11 @@
 use Rattle.std.proofs.Common.{◌≡◌, ℕ, suc, ◌<◌, List, [], ◌++◌, take, drop, Option, Some, None, refl, sym, ap, ◌∙◌, subst, append-nil}
 use Rattle.number_table.specs.Table.{place}
 use Rattle.number_table.proofs.Tables.{with_value_same}
-use Rattle.target_core.specs.Connection.{ConnectionState}
+use Rattle.target_core.specs.Connection.{KnownConnection}
 use Rattle.target_core.specs.Target.{TargetState, with_stream}
 use Rattle.nvt_replay.specs.Played.{HandsOut, Receives, Settles, given, number_taken}
 
-given_nothing : (k : ℕ) (s : Option (List ℕ)) (o : Option ConnectionState) (t : TargetState) → place t.streams k ≡ s → given k s o [] t ≡ t
+given_nothing : (k : ℕ) (s : Option (List ℕ)) (o : Option KnownConnection) (t : TargetState) → place t.streams k ≡ s → given k s o [] t ≡ t
 given_nothing k None o t known = refl
 given_nothing k (Some held) None t known = refl
 given_nothing k (Some held) (Some c) t known =

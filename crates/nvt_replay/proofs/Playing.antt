@@ -8,13 +8,13 @@ use Rattle.block_store.specs.Unit.{zero_unit}
 use Rattle.target_history.specs.History.{Opening}
 use Rattle.config_rules.specs.Configuration.{disks_alone}
 use Rattle.line_words.specs.Lines.{lines_of}
-use Rattle.target_core.specs.Connection.{ConnectionState}
-use Rattle.target_core.specs.Moves.{Moves, connection_after}
+use Rattle.target_core.specs.Connection.{KnownConnection}
+use Rattle.target_core.specs.Transition.{Transition, known_after}
 use Rattle.target_core.specs.Target.{IsNewTarget, TargetState, meets}
 use Rattle.target_history.specs.Event.{edited}
 use Rattle.replay_lines.specs.declared.stream_line.StreamLine.{StreamLine}
 use Rattle.nvt_replay.specs.Played.{HasNone, Plays, PlaysAll, Prints}
-use Rattle.nvt_replay.specs.Replay.{zeroed, IsConfigured, MovesByLine, MovesByLines}
+use Rattle.nvt_replay.specs.Replay.{zeroed, IsConfigured, TransitionByLine, TransitionsByLines}
 use Rattle.replay_lines.specs.StreamLine.{Says}
 use Rattle.nvt_replay.proofs.ReplayLemmas.{next_line}
 
@@ -24,8 +24,8 @@ use Rattle.nvt_replay.proofs.ReplayLemmas.{next_line}
 
 -- ---- no connection
 
-edit_has_none : (old new : TargetState) (edit : Edit) → Moves (edited edit) old new → HasNone old → HasNone new
-edit_has_none old new edit moves none = λ k. moves.connection k ∙ ap (connection_after (meets old (edited edit)) k) (none k)
+edit_has_none : (old new : TargetState) (edit : Edit) → Transition (edited edit) old new → HasNone old → HasNone new
+edit_has_none old new edit transition none = λ k. transition.connection k ∙ ap (known_after (meets old (edited edit)) k) (none k)
 
 -- ---- lines of edits
 
@@ -38,29 +38,29 @@ pub new_config : (units : List ℕ) (t : TargetState) → IsNewTarget (zeroed un
 new_config units t new = new.over.config ∙ ap disks_alone (lengths units)
 
 pub new_has_none : (disks : Opening) (t : TargetState) → IsNewTarget disks t → HasNone t
-new_has_none disks t new = λ k. rw new.over.connections (place-replicate {T = ConnectionState} 64 k)
+new_has_none disks t new = λ k. rw new.over.connections (place-replicate {T = KnownConnection} 64 k)
 
-edits_have_none : (lines : List (List ℕ)) (old new : TargetState) → MovesByLines lines old new → HasNone old → HasNone new
-edits_have_none [] old new moves none = rw moves none
-edits_have_none (line ∷ lines) old new moves none =
-    edits_have_none lines moves.0 new moves.2 (edit_has_none old moves.0 moves.1.0 moves.1.2 none)
+edits_have_none : (lines : List (List ℕ)) (old new : TargetState) → TransitionsByLines lines old new → HasNone old → HasNone new
+edits_have_none [] old new transition none = rw transition none
+edits_have_none (line ∷ lines) old new transition none =
+    edits_have_none lines transition.0 new transition.2 (edit_has_none old transition.0 transition.1.0 transition.1.2 none)
 
 -- no connection is open yet when the edits are made
 pub configured_has_none : (edits units : List ℕ) (t : TargetState) → IsConfigured edits units t → HasNone t
 configured_has_none edits units t is =
-    edits_have_none (lines_of edits) is.first t is.moves (new_has_none (zeroed units) is.first is.is_new)
+    edits_have_none (lines_of edits) is.first t is.transition (new_has_none (zeroed units) is.first is.is_new)
 
-MovesByLines-push : (lines : List (List ℕ)) (old mid new : TargetState) (line : List ℕ) → MovesByLines lines old mid → MovesByLine line mid new
-    → MovesByLines (lines ++ line ∷ []) old new
-MovesByLines-push [] old mid new line before here = (new, subst (λ (t : TargetState). MovesByLine line t new) before here, refl)
-MovesByLines-push (first ∷ lines) old mid new line before here = (before.0, before.1, MovesByLines-push lines before.0 mid new line before.2 here)
+TransitionsByLines-push : (lines : List (List ℕ)) (old mid new : TargetState) (line : List ℕ) → TransitionsByLines lines old mid → TransitionByLine line mid new
+    → TransitionsByLines (lines ++ line ∷ []) old new
+TransitionsByLines-push [] old mid new line before here = (new, subst (λ (t : TargetState). TransitionByLine line t new) before here, refl)
+TransitionsByLines-push (first ∷ lines) old mid new line before here = (before.0, before.1, TransitionsByLines-push lines before.0 mid new line before.2 here)
 
 -- one more line is made
 pub moved_more : (all : List (List ℕ)) (n : ℕ) (line : List ℕ) (left : List (List ℕ)) (old mid new : TargetState) → drop n all ≡ line ∷ left
-    → MovesByLines (take n all) old mid → MovesByLine line mid new → MovesByLines (take (n + 1) all) old new
+    → TransitionsByLines (take n all) old mid → TransitionByLine line mid new → TransitionsByLines (take (n + 1) all) old new
 moved_more all n line left old mid new e before here =
-    subst (λ (lines : List (List ℕ)). MovesByLines lines old new) (sym (next_line all n line left e).more)
-    (MovesByLines-push (take n all) old mid new line before here)
+    subst (λ (lines : List (List ℕ)). TransitionsByLines lines old new) (sym (next_line all n line left e).more)
+    (TransitionsByLines-push (take n all) old mid new line before here)
 
 -- ---- lines
 

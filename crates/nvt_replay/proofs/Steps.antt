@@ -3,31 +3,31 @@ use Rattle.std.proofs.Common.{◌≡◌, ℕ, suc, ◌+◌, ◌<◌, Bool, true,
 use Rattle.std.specs.Prelude.{◌==◌, ◌||◌, if◌then◌else◌}
 use Rattle.std.specs.Option.{option_map}
 use Rattle.std.proofs.lemmas.Bool.Decides.{nat_tests}
-use Rattle.io_queue.specs.Act.{Medium}
+use Rattle.io_queue.specs.Act.{DiskOutcome}
 use Rattle.number_table.specs.Table.{place}
 use Rattle.pdu_cut.specs.declared.side.Side.TheVariants.{Target}
 use Rattle.pdu_cut.specs.Front.{Front, incomplete, whole, faulty, front}
 use Rattle.pdu_cut.proofs.Fronts.{front_whole}
 use Rattle.pdu_cut.proofs.Headers.{eight_within}
 use Rattle.target_core.specs.declared.fault.Stepped.TheVariants.{One, Ended}
-use Rattle.target_core.specs.Connection.{ConnectionState}
-use Rattle.target_core.specs.Moves.{StepsAt, StepsOn, connection_moved, stream_moved}
+use Rattle.target_core.specs.Connection.{KnownConnection}
+use Rattle.target_core.specs.Transition.{StepsAt, StepsOn, known_moved, stream_moved}
 use Rattle.target_core.specs.Target.{TargetState, is_idle, is_incomplete, meets}
 use Rattle.target_decision.specs.declared.decision.Decision.{Decision}
 use Rattle.target_decision.specs.declared.session.Session.{Session}
 use Rattle.target_decision.specs.declared.session.Session.TheVariants as session
 use Rattle.target_decision.specs.Decision.{consumed_of, terminate}
 use Rattle.target_decision.specs.Session.{is_ended, session_after}
-use Rattle.target_history.specs.Ending.{ends_by}
+use Rattle.target_history.specs.EndCause.{ends_by}
 use Rattle.target_history.specs.Event.{stepped}
-use Rattle.target_history.specs.Happening.{decided, ending_of, ends_live, session_decided}
+use Rattle.target_history.specs.Occurrence.{decided, cause_of, ends_live, session_decided}
 use Rattle.nvt_replay.specs.Played.{StepBelow, Steps, StepsUntilIdle, is_idle_at}
 
 -- what a connection may still consume: nothing once it is ended
-abbrev left_in : Option (List ℕ) → Option ConnectionState → ℕ
+abbrev left_in : Option (List ℕ) → Option KnownConnection → ℕ
 left_in None o = 0
 left_in (Some held) None = 0
-left_in (Some held) (Some c) = if is_ended c.conversation.session then 0 else suc (length held)
+left_in (Some held) (Some c) = if is_ended c.state.session then 0 else suc (length held)
 
 abbrev pub left_at : TargetState → ℕ → ℕ
 left_at t k = left_in (place t.streams k) (place t.connections k)
@@ -66,8 +66,8 @@ neither true b h = cc
 neither false b h = (refl, h)
 
 -- a step that finds a fault ends the connection
-decided_end : (t : TargetState) (k : ℕ) (c : ConnectionState) (found : Front) (m : Medium) → (k == k) ≡ true → place t.connections k ≡ Some c
-    → is_ended c.conversation.session ≡ false → is_whole found ≡ false → is_incomplete found ≡ false
+decided_end : (t : TargetState) (k : ℕ) (c : KnownConnection) (found : Front) (m : DiskOutcome) → (k == k) ≡ true → place t.connections k ≡ Some c
+    → is_ended c.state.session ≡ false → is_whole found ≡ false → is_incomplete found ≡ false
     → (d : Decision) × (decided (meets t (stepped k found m)) k ≡ Some d) × ((s : Session) → is_ended (session_after s d) ≡ true)
 decided_end t k c incomplete m same known lasts not here = absurd (true≢false here)
 decided_end t k c (whole pdu) m same known lasts not here = absurd (true≢false not)
@@ -79,13 +79,13 @@ ends_there : (by_others : Bool) (s : Session) (o : Option Decision) (d : Decisio
 ends_there true s o d decides ends = refl
 ends_there false s o d decides ends = rw decides (ends s)
 
-faulty_ends : (t : TargetState) (k : ℕ) (c : ConnectionState) (found : Front) (m : Medium) → (k == k) ≡ true → place t.connections k ≡ Some c
-    → is_ended c.conversation.session ≡ false → is_whole found ≡ false → is_incomplete found ≡ false
-    → is_ended (connection_moved (meets t (stepped k found m)) k c).conversation.session ≡ true
+faulty_ends : (t : TargetState) (k : ℕ) (c : KnownConnection) (found : Front) (m : DiskOutcome) → (k == k) ≡ true → place t.connections k ≡ Some c
+    → is_ended c.state.session ≡ false → is_whole found ≡ false → is_incomplete found ≡ false
+    → is_ended (known_moved (meets t (stepped k found m)) k c).state.session ≡ true
 faulty_ends t k c found m same known lasts not here =
     let x = meets t (stepped k found m) in
     let d = decided_end t k c found m same known lasts not here in
-    ends_there (ends_by (ending_of x) (ends_live x) c.conversation) c.conversation.session (decided x k) d.0 d.1 d.2
+    ends_there (ends_by (cause_of x) (ends_live x) c.state) c.state.session (decided x k) d.0 d.1 d.2
 
 shorter : (ended : Bool) (len held : ℕ) → len < held → (if ended then 0 else suc len) < suc held
 shorter true len held h = omega arith
@@ -96,18 +96,18 @@ none_left true len held h = omega arith
 none_left false len held h = cc
 
 -- a step consumes a PDU, or ends the connection
-consumes_or_ends : (t : TargetState) (k : ℕ) (held : List ℕ) (c : ConnectionState) (found : Front) (m : Medium) → (k == k) ≡ true
-    → place t.connections k ≡ Some c → is_ended c.conversation.session ≡ false → is_incomplete found ≡ false → front Target held ≡ found
-    → (if is_ended (connection_moved (meets t (stepped k found m)) k c).conversation.session then 0 else suc (length (drop (consumed_of found) held)))
+consumes_or_ends : (t : TargetState) (k : ℕ) (held : List ℕ) (c : KnownConnection) (found : Front) (m : DiskOutcome) → (k == k) ≡ true
+    → place t.connections k ≡ Some c → is_ended c.state.session ≡ false → is_incomplete found ≡ false → front Target held ≡ found
+    → (if is_ended (known_moved (meets t (stepped k found m)) k c).state.session then 0 else suc (length (drop (consumed_of found) held)))
     < suc (length held)
 consumes_or_ends t k held c incomplete m same known lasts here stands = absurd (true≢false here)
 consumes_or_ends t k held c (whole pdu) m same known lasts here stands =
     let begins = front_whole Target held pdu stands in
     let eight = eight_within Target pdu begins.is_pdu in
-    shorter (is_ended (connection_moved (meets t (stepped k (whole pdu) m)) k c).conversation.session) (length (drop (length pdu.bytes) held)) (length held)
+    shorter (is_ended (known_moved (meets t (stepped k (whole pdu) m)) k c).state.session) (length (drop (length pdu.bytes) held)) (length held)
     (omega (arith, length-drop (length pdu.bytes) held, eight, begins.within))
 consumes_or_ends t k held c (faulty fault head) m same known lasts here stands =
-    none_left (is_ended (connection_moved (meets t (stepped k (faulty fault head) m)) k c).conversation.session) (length held) (length held)
+    none_left (is_ended (known_moved (meets t (stepped k (faulty fault head) m)) k c).state.session) (length held) (length held)
     (faulty_ends t k c (faulty fault head) m same known lasts refl refl)
 
 -- a step that is not idle: what it moves, and that less is left
@@ -115,31 +115,31 @@ pub record StepsOnce (k : ℕ) (old new : TargetState) : Type 0 where
   pub step : Steps k old new
   pub less : left_at new k < left_at old k
 
-left_is : (t : TargetState) (k : ℕ) (held : List ℕ) (c : ConnectionState) → place t.streams k ≡ Some held → place t.connections k ≡ Some c
-    → left_at t k ≡ (if is_ended c.conversation.session then 0 else suc (length held))
+left_is : (t : TargetState) (k : ℕ) (held : List ℕ) (c : KnownConnection) → place t.streams k ≡ Some held → place t.connections k ≡ Some c
+    → left_at t k ≡ (if is_ended c.state.session then 0 else suc (length held))
 left_is t k held c stream known = rw (stream, known) refl
 
-step_by : (k : ℕ) (held : List ℕ) (c : ConnectionState) (ended : Bool) (old new : TargetState) → place old.streams k ≡ Some held
+step_by : (k : ℕ) (held : List ℕ) (c : KnownConnection) (ended : Bool) (old new : TargetState) → place old.streams k ≡ Some held
     → place old.connections k ≡ Some c → is_idle held c ≡ false → StepsOn k held ended old new → StepsOnce k old new
 step_by k held c ended old new stream known busy steps =
     let found = front Target held in
-    let m = steps.medium in
-    let moves = steps.moves in
+    let m = steps.disk_outcome in
+    let transition = steps.transition in
     let same : (k == k) ≡ true = grind (arith, nat_tests) in
-    let lasts = neither (is_ended c.conversation.session) (is_incomplete found) busy in
-    let after = connection_moved (meets old (stepped k found m)) k c in
-    let connection : place new.connections k ≡ Some after = moves.connection k ∙ ap (option_map (connection_moved (meets old (stepped k found m)) k)) known in
+    let lasts = neither (is_ended c.state.session) (is_incomplete found) busy in
+    let after = known_moved (meets old (stepped k found m)) k c in
+    let connection : place new.connections k ≡ Some after = transition.connection k ∙ ap (option_map (known_moved (meets old (stepped k found m)) k)) known in
     let held_after : place new.streams k ≡ Some (drop (consumed_of found) held) =
-    moves.stream k ∙ ap (option_map (stream_moved (stepped k found m) k)) stream ∙ ap (λ b. Some (if b then drop (consumed_of found) held else held)) same in
+    transition.stream k ∙ ap (option_map (stream_moved (stepped k found m) k)) stream ∙ ap (λ b. Some (if b then drop (consumed_of found) held else held)) same in
     let before : left_at old k ≡ suc (length held) = left_is old k held c stream known ∙ ap (λ b. if b then 0 else suc (length held)) lasts.0 in
     record {
-      step = record { busy = rw (stream, known) busy; medium = m; did = rw stream steps.did; moves = rw stream moves };
+      step = record { busy = rw (stream, known) busy; disk_outcome = m; did = rw stream steps.did; transition = rw stream transition };
       less = subst (λ n. n < left_at old k) (sym (left_is new k (drop (consumed_of found) held) after held_after connection))
-          (subst (λ n. (if is_ended after.conversation.session then 0 else suc (length (drop (consumed_of found) held))) < n) (sym before)
+          (subst (λ n. (if is_ended after.state.session then 0 else suc (length (drop (consumed_of found) held))) < n) (sym before)
           (consumes_or_ends old k held c found m same known lasts.0 lasts.1 refl));
     }
 
-steps_by : (k : ℕ) (s : Option (List ℕ)) (o : Option ConnectionState) (old new : TargetState) → place old.streams k ≡ s → place old.connections k ≡ o
+steps_by : (k : ℕ) (s : Option (List ℕ)) (o : Option KnownConnection) (old new : TargetState) → place old.streams k ≡ s → place old.connections k ≡ o
     → (StepsAt k s o old (Ok One) new → StepsOnce k old new) × (StepsAt k s o old (Ok Ended) new → StepsOnce k old new)
 steps_by k None o old new stream known = (λ h. cc, λ h. cc)
 steps_by k (Some held) None old new stream known = (λ h. cc, λ h. cc)

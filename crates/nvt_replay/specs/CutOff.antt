@@ -4,7 +4,7 @@ use Rattle.std.specs.Prelude.{◌≡◌, ◌⊎◌, ℕ, zero, suc, ◌<◌, Lis
 use Rattle.std.specs.Io.{StartsWith}
 use Rattle.hex.specs.Hex.{decode_of}
 use Rattle.number_table.specs.Table.{place}
-use Rattle.target_core.specs.Moves.{Moves}
+use Rattle.target_core.specs.Transition.{Transition}
 use Rattle.target_core.specs.Target.{TargetState}
 use Rattle.target_decision.specs.World.{connections_max}
 use Rattle.target_history.specs.Event.{given_up, ticked}
@@ -57,11 +57,11 @@ ReceivesInPart k hex old printed new = MatchOption (place old.connections k) (Pr
 -- `end K`: the connection is given up, and the target settles in part
 abbrev pub EndsInPart : ℕ → TargetState → List ℕ → TargetState → Type 0
 EndsInPart k old printed new = MatchOption (place old.connections k) (PrintsNoneInPart k old printed new)
-    (λ c. (mid : TargetState) × Moves (given_up k) old mid × SettlesInPart mid printed)
+    (λ c. (mid : TargetState) × Transition (given_up k) old mid × SettlesInPart mid printed)
 
 -- `tick MS`: the clock is set, and the target settles in part
 abbrev pub TicksInPart : ℕ → TargetState → List ℕ → Type 0
-TicksInPart ms old printed = (mid : TargetState) × Moves (ticked ms) old mid × SettlesInPart mid printed
+TicksInPart ms old printed = (mid : TargetState) × Transition (ticked ms) old mid × SettlesInPart mid printed
 
 -- an edit that is made: a beginning of its reply, or the reply and what the target prints that settles in part
 abbrev pub MadeInPart : TargetState → List ℕ → TargetState → Type 0

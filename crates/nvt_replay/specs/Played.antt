@@ -2,19 +2,20 @@
 use Rattle.std.specs.Prelude.{◌≡◌, ◌⊎◌, ℕ, zero, suc, ◌<◌, ◌&&◌, Bool, true, false, nat_lt, List, [], ◌∷◌, ◌++◌, length, take, drop, min, codes, Option, Some, None, MatchOption, Ok, if◌then◌else◌}
 use Rattle.std.specs.Io.KnownBytes.{Appends}
 use Rattle.hex.specs.Hex.{decode_of}
-use Rattle.io_queue.specs.Act.{Medium}
+use Rattle.io_queue.specs.Act.{DiskOutcome}
 use Rattle.io_queue.specs.Execution.{contents_at}
+use Rattle.data_transfer.specs.Parts.{part_at}
 use Rattle.number_table.specs.Table.{place}
 use Rattle.target_core.specs.Agreement.{front_of}
 use Rattle.target_core.specs.declared.fault.OpenFault.{OpenFault}
-use Rattle.target_core.specs.Connection.{ConnectionState}
+use Rattle.target_core.specs.Connection.{KnownConnection}
 use Rattle.target_core.specs.Fault.{word_of_open_fault}
-use Rattle.target_core.specs.Moves.{Moves}
+use Rattle.target_core.specs.Transition.{Transition}
 use Rattle.target_core.specs.Target.{TargetState, free_number, is_ended_at, is_idle, meets, open_fault, room_at, with_connection, with_stream}
 use Rattle.target_decision.specs.Session.{is_ended}
 use Rattle.target_decision.specs.World.{connections_max}
 use Rattle.target_history.specs.Event.{given_up, opened, stepped, ticked}
-use Rattle.target_history.specs.Happening.{DisksAct}
+use Rattle.target_history.specs.Occurrence.{DisksAct}
 use Rattle.replay_lines.specs.declared.reply.Reply.{Reply}
 use Rattle.replay_lines.specs.declared.stream_line.StreamLine.{StreamLine}
 use Rattle.replay_lines.specs.declared.stream_line.StreamLine.TheVariants as line
@@ -36,7 +37,7 @@ HasNone t = (k : ℕ) → place t.connections k ≡ None
 abbrev pub number_taken : ℕ → List ℕ → TargetState → ℕ
 number_taken k bytes t = min (room_at (place t.streams k) (place t.connections k)) (length bytes)
 
-abbrev pub given : ℕ → Option (List ℕ) → Option ConnectionState → List ℕ → TargetState → TargetState
+abbrev pub given : ℕ → Option (List ℕ) → Option KnownConnection → List ℕ → TargetState → TargetState
 given k None o bytes t = t
 given k (Some held) None bytes t = t
 given k (Some held) (Some c) bytes t = with_stream t k (held ++ bytes)
@@ -48,7 +49,7 @@ Receives k bytes old new = new ≡ given k (place old.streams k) (place old.conn
 -- ---- the steps in between
 
 -- whether a step of a connection has nothing to do
-abbrev pub is_idle_at : Option (List ℕ) → Option ConnectionState → Bool
+abbrev pub is_idle_at : Option (List ℕ) → Option KnownConnection → Bool
 is_idle_at None o = true
 is_idle_at (Some held) None = true
 is_idle_at (Some held) (Some c) = is_idle held c
@@ -56,9 +57,9 @@ is_idle_at (Some held) (Some c) = is_idle held c
 -- a step of connection k, which is not idle, with what the disks may do at its event
 pub record Steps (k : ℕ) (old new : TargetState) : Type 0 where
   pub busy : is_idle_at (place old.streams k) (place old.connections k) ≡ false
-  pub medium : Medium
-  pub did : DisksAct (meets old (stepped k (front_of (place old.streams k)) medium)) old.disks new.disks
-  pub moves : Moves (stepped k (front_of (place old.streams k)) medium) old new
+  pub disk_outcome : DiskOutcome
+  pub did : DisksAct (meets old (stepped k (front_of (place old.streams k)) disk_outcome)) old.disks new.disks
+  pub transition : Transition (stepped k (front_of (place old.streams k)) disk_outcome) old new
 
 -- n of them, one after the other
 abbrev pub StepsTimes : ℕ → ℕ → TargetState → TargetState → Type 0
@@ -79,22 +80,22 @@ StepBelow (suc k) old new = (mid : TargetState) × StepBelow k old mid × StepsU
 -- ---- what the target owes, and the connections that it ended
 
 -- the lines of a connection: those of its output, and that it is closed where the target ended it
-abbrev pub connection_lines : ℕ → Option ConnectionState → List ℕ
+abbrev pub connection_lines : ℕ → Option KnownConnection → List ℕ
 connection_lines k None = []
 connection_lines k (Some c) =
-    output_lines k c.output ++ (if is_ended c.conversation.session then event_line k (codes "closed") else [])
+    output_lines k c.output ++ (if is_ended c.state.session then event_line k (codes "closed") else [])
 
 -- what is left of it when they are printed: nothing where it is closed, and else it has nothing to send
-abbrev pub printed_out : Option ConnectionState → Option ConnectionState
+abbrev pub printed_out : Option KnownConnection → Option KnownConnection
 printed_out None = None
 printed_out (Some c) =
-    if is_ended c.conversation.session then None
-    else Some (record { conversation = c.conversation; output = [] })
+    if is_ended c.state.session then None
+    else Some (record { state = c.state; output = [] })
 
 -- all that a connection has to send is taken
-abbrev pub TakesOutput : ℕ → Option ConnectionState → TargetState → TargetState → Type 0
+abbrev pub TakesOutput : ℕ → Option KnownConnection → TargetState → TargetState → Type 0
 TakesOutput k None old new = new ≡ old
-TakesOutput k (Some c) old new = new ≡ with_connection old k (record { conversation = c.conversation; output = [] })
+TakesOutput k (Some c) old new = new ≡ with_connection old k (record { state = c.state; output = [] })
 
 -- the lines of the connections below n, in rising number
 unfoldable pub lines_below : ℕ → TargetState → List ℕ
@@ -111,6 +112,8 @@ pub record ArePrinted (these : ℕ → Bool) (old new : TargetState) : Type 0 wh
       ≡ (if these k then printed_out (place old.connections k) else place old.connections k)
   pub stream : (k : ℕ) → place new.streams k
       ≡ (if these k && is_ended_at (place old.connections k) then None else place old.streams k)
+  pub part : (k t : ℕ) → part_at new.transfers k t
+      ≡ (if these k && is_ended_at (place old.connections k) then None else part_at old.transfers k t)
   pub row : (c : ℕ) → place new.rows c ≡ place old.rows c
   pub controller : (c : ℕ) → place new.controllers c ≡ place old.controllers c
   pub blocks : (d : ℕ) → contents_at new.disks d ≡ contents_at old.disks d
@@ -145,7 +148,7 @@ refused_line fault = codes "open refused " ++ (word_of_open_fault fault ++ codes
 -- `open PORT`: it is opened under the least number that is free, or refused
 abbrev pub PlaysOpen : ℕ → TargetState → List ℕ → TargetState → Type 0
 PlaysOpen port old printed new = MatchOption (open_fault old port)
-    ((k : ℕ) × (free_number old ≡ Some k) × Moves (opened port k) old new × (printed ≡ event_line k (codes "open")))
+    ((k : ℕ) × (free_number old ≡ Some k) × Transition (opened port k) old new × (printed ≡ event_line k (codes "open")))
     (λ fault. (printed ≡ refused_line fault) × (new ≡ old))
 
 -- `rx K HEX`
@@ -156,11 +159,11 @@ PlaysReceive k hex old printed new = MatchOption (place old.connections k) (Prin
 -- `end K`: the connection is given up, and the target settles; K is not open then, so nothing is printed of it
 abbrev pub PlaysEnd : ℕ → TargetState → List ℕ → TargetState → Type 0
 PlaysEnd k old printed new = MatchOption (place old.connections k) (PrintsNone k old printed new)
-    (λ c. (mid : TargetState) × Moves (given_up k) old mid × Settles mid printed new)
+    (λ c. (mid : TargetState) × Transition (given_up k) old mid × Settles mid printed new)
 
 -- `tick MS`: the clock is set, and the target settles
 abbrev pub PlaysTick : ℕ → TargetState → List ℕ → TargetState → Type 0
-PlaysTick ms old printed new = (mid : TargetState) × Moves (ticked ms) old mid × Settles mid printed new
+PlaysTick ms old printed new = (mid : TargetState) × Transition (ticked ms) old mid × Settles mid printed new
 
 -- `edit LINE`: the edit is made and the target settles, or it is refused
 abbrev pub PlaysEdit : List ℕ → TargetState → List ℕ → TargetState → Type 0

@@ -6,7 +6,7 @@ use Rattle.config_rules.specs.Accept.{accept}
 use Rattle.config_rules.specs.Configuration.{Configuration, are_disks, disks_alone}
 use Rattle.config_text.specs.EditLine.{IsLineOf}
 use Rattle.line_words.specs.Lines.{lines_of}
-use Rattle.target_core.specs.Moves.{Moves}
+use Rattle.target_core.specs.Transition.{Transition}
 use Rattle.target_core.specs.Target.{IsNewTarget, TargetState}
 use Rattle.target_history.specs.Event.{edited}
 use Rattle.target_history.specs.History.{Opening}
@@ -46,13 +46,13 @@ AcceptsAll edits units =
     (are_disks units ≡ true) × (c : Configuration) × Configures (lines_of edits) (disks_alone units) c
 
 -- the edit that a line says is made
-abbrev pub MovesByLine : List ℕ → TargetState → TargetState → Type 0
-MovesByLine line old new = (edit : Edit) × IsLineOf line edit × Moves (edited edit) old new
+abbrev pub TransitionByLine : List ℕ → TargetState → TargetState → Type 0
+TransitionByLine line old new = (edit : Edit) × IsLineOf line edit × Transition (edited edit) old new
 
 -- .. and those of lines, one after the other
-abbrev pub MovesByLines : List (List ℕ) → TargetState → TargetState → Type 0
-MovesByLines [] old new = new ≡ old
-MovesByLines (line ∷ lines) old new = (next : TargetState) × MovesByLine line old next × MovesByLines lines next new
+abbrev pub TransitionsByLines : List (List ℕ) → TargetState → TargetState → Type 0
+TransitionsByLines [] old new = new ≡ old
+TransitionsByLines (line ∷ lines) old new = (next : TargetState) × TransitionByLine line old next × TransitionsByLines lines next new
 
 -- the units of disks of these sizes: zeros
 abbrev pub zeroed : List ℕ → Opening
@@ -62,7 +62,7 @@ zeroed units = map (λ n. replicate n zero_unit) units
 pub record IsConfigured (edits units : List ℕ) (t : TargetState) : Type 0 where
   pub first : TargetState
   pub is_new : IsNewTarget (zeroed units) first
-  pub moves : MovesByLines (lines_of edits) first t
+  pub transition : TransitionsByLines (lines_of edits) first t
 
 -- the lines of the script, over the target that the edits made, print this text
 abbrev pub Replays : List ℕ → List ℕ → List ℕ → List ℕ → Type 0

@@ -8,7 +8,7 @@ use Rattle.line_words.specs.declared.fault.LineFaultKind.{LineFaultKind}
 use Rattle.line_words.specs.declared.fault.LineFaultKind.TheVariants as kind
 use Rattle.config_text.specs.EditLine.{IsLineOf}
 use Rattle.line_words.specs.Words.{line_fault}
-use Rattle.target_core.specs.Moves.{Moves}
+use Rattle.target_core.specs.Transition.{Transition}
 use Rattle.target_core.specs.Target.{TargetState}
 use Rattle.target_history.specs.Event.{edited}
 use Rattle.nvt_replay.specs.declared.reply.NotMade.{NotMade}
@@ -45,4 +45,4 @@ pub record MakesLine (line : List ℕ) (old new : TargetState) : Type 0 where
   pub edit : Edit
   pub is_line : IsLineOf line edit
   pub accepted : accept old.config edit ≡ Ok new.config
-  pub moves : Moves (edited edit) old new
+  pub transition : Transition (edited edit) old new

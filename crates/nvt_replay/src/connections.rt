@@ -3,7 +3,7 @@
 ghost use Rattle.std.specs.Prelude.{◌≡◌, IfErr, IfOk, IsOkUnless, MatchOption, OnErr};
 ghost use Rattle.std.specs.Prelude.{OnOk, is_some, slice_set, take};
 ghost use Rattle.number_table.specs.Table.{place};
-ghost use Rattle.target_core.specs.Moves.{Moves};
+ghost use Rattle.target_core.specs.Transition.{Transition};
 ghost use Rattle.target_core.specs.Target.{free_number, is_ended_at, open_fault, output_at};
 ghost use Rattle.target_history.specs.Event.{given_up, opened, ticked};
 ghost use Rattle.target_decision.specs.World.{connections_max};
@@ -56,7 +56,7 @@ impl Connections {
         ensures refused { MatchOption (open_fault self.old port)
             (IsOkUnless result OpenFault.Memory) (λ fault. result ≡ Err fault) }
         ensures opened { IfOk result (λ k.
-            (free_number self.old ≡ Some k) × Moves (opened port k) self.old self.new) }
+            (free_number self.old ≡ Some k) × Transition (opened port k) self.old self.new) }
         ensures err { OnErr result (self.new ≡ self.old) }
     {
         let k = self.target.open(port)?;
@@ -138,7 +138,7 @@ impl Connections {
     /// nothing.
     pub fn end(&mut self, k: usize)
         ensures { MatchOption (place self.old.connections k) (self.new ≡ self.old)
-            (λ c. Moves (given_up k) self.old self.new) }
+            (λ c. Transition (given_up k) self.old self.new) }
     {
         self.target.end(k);
         mark(&mut self.marks, k, false);
@@ -146,7 +146,7 @@ impl Connections {
 
     /// Sets the clock, in ms, and ends the connections of each controller whose time has run out.
     pub fn tick(&mut self, ms: u64)
-        ensures { Moves (ticked ms) self.old self.new }
+        ensures { Transition (ticked ms) self.old self.new }
     {
         self.target.tick(ms);
     }

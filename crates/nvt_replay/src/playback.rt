@@ -14,7 +14,7 @@ ghost use Rattle.nvt_replay.specs.CutOff.{EditsInPart, EndsInPart, HandsOutInPar
 ghost use Rattle.nvt_replay.specs.CutOff.{PlaysInPart, ReceivesInPart, SettlesInPart, TicksInPart};
 ghost use Rattle.nvt_replay.specs.Replay.{AcceptsAll, Configures, EndsScript, Explains};
 ghost use Rattle.nvt_replay.specs.Replay.{EndsAtLine, IsBeforeScript, IsConfigured, LeavesLine};
-ghost use Rattle.nvt_replay.specs.Replay.{MovesByLine, MovesByLines, PlaysBefore};
+ghost use Rattle.nvt_replay.specs.Replay.{TransitionByLine, TransitionsByLines, PlaysBefore};
 ghost use Rattle.nvt_replay.specs.Replay.{Replays, ReplaysBefore};
 ghost use Rattle.nvt_replay.specs.Replay.{RefusesDisks, RefusesEdits, RefusesLines, TakesLine, zeroed};
 ghost use Rattle.nvt_replay.specs.Played.{ArePrinted, HandsOut, Plays, PlaysAll, PlaysLine};
@@ -102,7 +102,7 @@ fn over_zeros(alloc: Global, units: &[u64]) -> Result<Playback, ReplayFault>
 // Applies the edits, up to the first line that is refused.
 fn take_edits(alloc: Global, connections: &mut Connections, edits: &[u8]) -> Result<(), ReplayFault>
     ensures ok { OnOk result (Configures (lines_of edits.now) connections.old.config connections.new.config) }
-    ensures moves { OnOk result (MovesByLines (lines_of edits.now) connections.old connections.new) }
+    ensures transition { OnOk result (TransitionsByLines (lines_of edits.now) connections.old connections.new) }
     ensures fault { IfErr result (λ fault.
         RefusesLines fault (lines_of edits.now) connections.old.config) }
 {
@@ -122,7 +122,7 @@ fn take_edit(
     line: &[u8],
 ) -> Result<(), ReplayFault>
     ensures takes { TakesLine connections.old.config line.now number result connections.new.config }
-    ensures moves { OnOk result (MovesByLine line.now connections.old connections.new) }
+    ensures transition { OnOk result (TransitionByLine line.now connections.old connections.new) }
 {
     match connections.edit(alloc, line) {
         Ok(()) => Ok(()),

@@ -2,7 +2,7 @@
 
 ghost use Rattle.std.specs.Prelude.{◌≡◌, IfErr, Ok, OnErr, OnOk};
 ghost use Rattle.config_rules.specs.Accept.{accept};
-ghost use Rattle.target_core.specs.Moves.{Moves};
+ghost use Rattle.target_core.specs.Transition.{Transition};
 ghost use Rattle.target_history.specs.Event.{edited};
 ghost use Rattle.nvt_replay.specs.Replies.{IsEditRefused, IsRefused, MakesLine, not_read};
 
@@ -35,7 +35,7 @@ pub fn make_line(alloc: Global, target: &mut Target<MemoryDisk>, line: &[u8]) ->
 
 fn make_edit(target: &mut Target<MemoryDisk>, edit: &Edit) -> Result<(), NotMade>
     ensures made { OnOk result (accept target.old.config edit.now ≡ Ok target.new.config) }
-    ensures moves { OnOk result (Moves (edited edit.now) target.old target.new) }
+    ensures transition { OnOk result (Transition (edited edit.now) target.old target.new) }
     ensures refused { IfErr result (IsEditRefused target.old.config edit.now) }
     ensures err { OnErr result (target.new ≡ target.old) }
 {

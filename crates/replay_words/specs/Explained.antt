@@ -4,7 +4,7 @@ use Rattle.std.specs.Io.KnownBytes.{Appends}
 use Rattle.std.specs.List.{AllPass}
 use Rattle.pdu_words.specs.declared.explanation.Explanation.{Explanation}
 use Rattle.pdu_words.specs.Words.{words_of}
-use Rattle.host_commands.specs.Conversations.{Known}
+use Rattle.host_commands.specs.HostStreams.{Known}
 use Rattle.replay_words.specs.declared.lines.ScriptLine.{ScriptLine}
 use Rattle.replay_words.specs.Lines.{SaysScript}
 use Rattle.replay_words.specs.Notes.{HearsSaid, NotesLine}

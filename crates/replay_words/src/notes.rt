@@ -4,7 +4,7 @@ ghost use Rattle.replay_words.specs.Notes.{HearsLine, NotesLine, bytes_of, head_
 
 use crate::lines::{PrintedLine, ScriptLine, read_printed, read_script};
 use hex::FromHexError;
-use host_commands::Conversations;
+use host_commands::HostStreams;
 use pdu_words::Explanation;
 use std::alloc::{AllocError, Global};
 use std::marker::Model;
@@ -15,17 +15,17 @@ const HEAD_DIGITS: usize = 256;
 /// What was heard of the connections of a replay.
 #[derive(Drop)]
 pub struct Notes {
-    conversations: Conversations,
+    host_streams: HostStreams,
     alloc: Global,
 }
 
 impl Model for Notes {
     ghost use Rattle.std.specs.Prelude.{List, Option};
-    ghost use Rattle.host_commands.specs.Conversation.{Heard};
+    ghost use Rattle.host_commands.specs.HostStream.{Heard};
 
     ghost Value = { List (Option Heard) };
 
-    ghost view = { λ n. n.conversations };
+    ghost view = { λ n. n.host_streams };
 }
 
 impl Notes {
@@ -34,7 +34,7 @@ impl Notes {
         ensures { IfOk result (λ notes. notes ≡ replicate 64 None) }
     {
         Ok(Notes {
-            conversations: Conversations::new(alloc)?,
+            host_streams: HostStreams::new(alloc)?,
             alloc,
         })
     }
@@ -47,10 +47,10 @@ impl Notes {
         match read_script(line) {
             ScriptLine::Receive { number, hex } => {
                 if let Some(bytes) = decode(self.alloc, hex)? {
-                    self.conversations.heard(number as usize, &bytes);
+                    self.host_streams.heard(number as usize, &bytes);
                 }
             }
-            ScriptLine::End { number } => self.conversations.closed(number as usize),
+            ScriptLine::End { number } => self.host_streams.closed(number as usize),
             ScriptLine::Other => {}
         }
         Ok(())
@@ -63,18 +63,18 @@ impl Notes {
     {
         match read_printed(line) {
             PrintedLine::Open { number } => {
-                self.conversations.opened(self.alloc, number as usize)?;
+                self.host_streams.opened(self.alloc, number as usize)?;
                 Ok(None)
             }
             PrintedLine::Closed { number } => {
-                self.conversations.closed(number as usize);
+                self.host_streams.closed(number as usize);
                 Ok(None)
             }
             PrintedLine::Pdu { number, hex } => {
                 let Some(head) = decode(self.alloc, head_of(hex))? else {
                     return Ok(None);
                 };
-                Ok(Some(self.conversations.said(number as usize, &head)))
+                Ok(Some(self.host_streams.said(number as usize, &head)))
             }
             PrintedLine::Other => Ok(None),
         }

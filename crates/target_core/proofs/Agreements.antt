@@ -11,27 +11,29 @@ use Rattle.number_table.proofs.Tables.{place-replicate}
 use Rattle.controller_tables.specs.Controllers.{controller_places}
 use Rattle.std.proofs.Math.ListN.{get_or-map}
 use Rattle.block_store.specs.Stored.{Stored}
+use Rattle.data_transfer.specs.Parts.{part_at}
 use Rattle.io_queue.specs.Execution.{contents_at, no_disk, write_on, written}
 use Rattle.pdu_cut.specs.declared.side.Side.TheVariants.{Target}
 use Rattle.pdu_cut.specs.Front.{Front, incomplete, whole, faulty}
 use Rattle.pdu_cut.specs.Pdu.{Pdu}
 use Rattle.pdu_cut.proofs.Streams.{begins_with_none, begins_with_taken}
 use Rattle.target_core.specs.Agreement.{Agrees, AgreesAfter, AgreesStill, AgreesWith, OutputAgrees, StreamAgrees, nothing}
-use Rattle.target_core.specs.Connection.{ConnectionState, fresh_on}
+use Rattle.target_core.specs.Connection.{KnownConnection, fresh_on}
 use Rattle.target_decision.specs.Session.{opened_on}
-use Rattle.target_core.specs.Moves.{Moves, Stands, StandsIn, connection_after, connection_moved}
-use Rattle.target_core.specs.Target.{TargetState, conversation_at, meets, IsNewTarget, world_at}
+use Rattle.target_core.specs.Transition.{Transition, Stands, StandsIn, known_after, known_moved}
+use Rattle.target_core.specs.Target.{TargetState, connection_at, meets, IsNewTarget, world_at}
 use Rattle.target_decision.specs.declared.controller.Controller.{Controller}
-use Rattle.target_decision.specs.declared.session.Conversation.{Conversation}
+use Rattle.target_decision.specs.declared.session.ConnectionState.{ConnectionState}
 use Rattle.target_decision.specs.Decision.{consumed_of}
 use Rattle.admin_queue.specs.Pages.{Pages}
+use Rattle.target_decision.specs.Transfer.{Tags}
 use Rattle.target_decision.specs.World.{World, connections_max}
 use Rattle.target_history.specs.Event.{Event, edited, port_in, front_in, gives_up, opened, opens, steps, stepped, given_up, ticked}
-use Rattle.target_history.specs.Happening.{Happening, acts, clock_after, config_after, controller_after, conversation_after, conversation_moved, row_after, sends}
-use Rattle.target_history.specs.History.{Opening, blocks_of, clock_of, config_of, conversation_of, happened, last_front, meets_after, pdus_of, sent, with_pdu, world_of}
+use Rattle.target_history.specs.Occurrence.{Occurrence, acts, clock_after, config_after, controller_after, connection_after, connection_moved, parts_after, row_after, sends}
+use Rattle.target_history.specs.History.{Opening, blocks_of, clock_of, config_of, connection_of, happened, last_front, meets_after, part_of, pdus_of, sent, with_pdu, world_of}
 use Rattle.target_history.proofs.Blocks.{blocks_step}
 use Rattle.target_history.proofs.Lives.{controller_step, row_step}
-use Rattle.target_history.proofs.Steps.{conversation_step}
+use Rattle.target_history.proofs.Steps.{connection_step}
 use Rattle.target_views.proofs.Shows.{new_show, pages_agree, views_step}
 
 -- ---- what an event meets
@@ -44,47 +46,47 @@ worlds_same v w pages config rows controllers =
     ∙ ap (λ (a : ℕ → Option Controller). let u : World = record { pages = w.pages; config = w.config; row = w.row; controller = a } in u) (fun_ext controllers)
 
 -- what a decision may look at is what the history says
-world_agrees : (t : TargetState) (disks : Opening) (before : List Happening) (received taken : ℕ → List ℕ)
+world_agrees : (t : TargetState) (disks : Opening) (before : List Occurrence) (received taken : ℕ → List ℕ)
     → AgreesWith t disks before received taken → world_at t ≡ world_of disks before
 world_agrees t disks before received taken agrees =
     worlds_same (world_at t) (world_of disks before) (pages_agree t.shown disks before agrees.shown) agrees.config agrees.row agrees.controller
 
-happenings_same : (event : Event) (v w : World) (f g : ℕ → Option Conversation) (m n : ℕ) (b c : ℕ → List (List ℕ)) → v ≡ w → f ≡ g → m ≡ n → b ≡ c
-    → (let x : Happening = record { event = event; world = v; conversation = f; clock = m; blocks = b } in x)
-    ≡ (let x : Happening = record { event = event; world = w; conversation = g; clock = n; blocks = c } in x)
-happenings_same event v w f g m n b c worlds conversations clocks blocks = rw (worlds, conversations, clocks, blocks) refl
+occurrences_same : (event : Event) (v w : World) (f g : ℕ → Option ConnectionState) (p q : ℕ → Tags) (m n : ℕ) (b c : ℕ → List (List ℕ)) → v ≡ w → f ≡ g → p ≡ q → m ≡ n → b ≡ c
+    → (let x : Occurrence = record { event = event; world = v; connection = f; parts = p; clock = m; blocks = b } in x)
+    ≡ (let x : Occurrence = record { event = event; world = w; connection = g; parts = q; clock = n; blocks = c } in x)
+occurrences_same event v w f g p q m n b c worlds connections parts clocks blocks = rw (worlds, connections, parts, clocks, blocks) refl
 
 -- .. and so is all that an event meets
-pub meets_agree : (t : TargetState) (event : Event) (disks : Opening) (before : List Happening) (received taken : ℕ → List ℕ)
+pub meets_agree : (t : TargetState) (event : Event) (disks : Opening) (before : List Occurrence) (received taken : ℕ → List ℕ)
     → AgreesWith t disks before received taken → meets t event ≡ meets_after disks before event
 meets_agree t event disks before received taken agrees =
-    happenings_same event (world_at t) (world_of disks before) (conversation_at t) (conversation_of before) t.clock (clock_of before)
-    (contents_at t.disks) (blocks_of disks before) (world_agrees t disks before received taken agrees) (fun_ext agrees.conversation) agrees.clock
+    occurrences_same event (world_at t) (world_of disks before) (connection_at t) (connection_of before) (part_at t.transfers) (part_of before) t.clock (clock_of before)
+    (contents_at t.disks) (blocks_of disks before) (world_agrees t disks before received taken agrees) (fun_ext agrees.connection) (fun_ext (λ k. fun_ext (agrees.part k))) agrees.clock
     (fun_ext agrees.blocks)
 
 -- ---- connections
 
-moved_here : (x : Happening) (k : ℕ) (o : Option ConnectionState)
-    → option_map (λ (c : ConnectionState). c.conversation) (connection_after x k o)
-    ≡ conversation_after x k (option_map (λ (c : ConnectionState). c.conversation) o)
+moved_here : (x : Occurrence) (k : ℕ) (o : Option KnownConnection)
+    → option_map (λ (c : KnownConnection). c.state) (known_after x k o)
+    ≡ connection_after x k (option_map (λ (c : KnownConnection). c.state) o)
 moved_here x k o = by (opens x.event k) (gives_up x.event k) o where
-  by : (opening giving : Bool) (o : Option ConnectionState)
-      → option_map (λ (c : ConnectionState). c.conversation)
-      (if opening then Some (fresh_on (port_in x.event)) else if giving then None else option_map (connection_moved x k) o)
+  by : (opening giving : Bool) (o : Option KnownConnection)
+      → option_map (λ (c : KnownConnection). c.state)
+      (if opening then Some (fresh_on (port_in x.event)) else if giving then None else option_map (known_moved x k) o)
       ≡ (if opening then Some (opened_on (port_in x.event)) else
-      if giving then None else option_map (conversation_moved x k) (option_map (λ (c : ConnectionState). c.conversation) o))
+      if giving then None else option_map (connection_moved x k) (option_map (λ (c : KnownConnection). c.state) o))
   by true giving o = refl
   by false true o = refl
   by false false None = refl
   by false false (Some c) = refl
 
-output_step : (x : Happening) (before : List Happening) (k : ℕ) (o : Option ConnectionState) (t : List ℕ)
-    → x.conversation k ≡ option_map (λ (c : ConnectionState). c.conversation) o → OutputAgrees o (sent before k) t
-    → OutputAgrees (connection_after x k o) (sent (x ∷ before) k) (if opens x.event k || gives_up x.event k then [] else t)
+output_step : (x : Occurrence) (before : List Occurrence) (k : ℕ) (o : Option KnownConnection) (t : List ℕ)
+    → x.connection k ≡ option_map (λ (c : KnownConnection). c.state) o → OutputAgrees o (sent before k) t
+    → OutputAgrees (known_after x k o) (sent (x ∷ before) k) (if opens x.event k || gives_up x.event k then [] else t)
 output_step x before k o t met agrees = by (opens x.event k) (gives_up x.event k) o met agrees where
-  by : (opening giving : Bool) (o : Option ConnectionState)
-      → x.conversation k ≡ option_map (λ (c : ConnectionState). c.conversation) o → OutputAgrees o (sent before k) t
-      → OutputAgrees (if opening then Some (fresh_on (port_in x.event)) else if giving then None else option_map (connection_moved x k) o)
+  by : (opening giving : Bool) (o : Option KnownConnection)
+      → x.connection k ≡ option_map (λ (c : KnownConnection). c.state) o → OutputAgrees o (sent before k) t
+      → OutputAgrees (if opening then Some (fresh_on (port_in x.event)) else if giving then None else option_map (known_moved x k) o)
       (if opening || giving then [] else sent before k ++ sends x k) (if opening || giving then [] else t)
   by true giving o met agrees = refl
   by false true o met agrees = (refl, refl)
@@ -133,30 +135,32 @@ stands_here (stepped n found m) t k stands = by (k == n) refl where
 
 -- ---- one more event
 
-pub moves_agree : (event : Event) (old new : TargetState) → Moves event old new → AgreesAfter event old new
-moves_agree event old new moves = record {
+pub transition_agrees : (event : Event) (old new : TargetState) → Transition event old new → AgreesAfter event old new
+transition_agrees event old new transition = record {
   keeps = λ disks events received taken agrees.
       let before = happened disks events in
-      let x : Happening = meets_after disks before event in
+      let x : Occurrence = meets_after disks before event in
       let met : meets old event ≡ x = meets_agree old event disks before received taken agrees in
-      let config : new.config ≡ config_after event (config_of disks before) = moves.config ∙ ap (config_after event) agrees.config in
+      let config : new.config ≡ config_after event (config_of disks before) = transition.config ∙ ap (config_after event) agrees.config in
       record {
         config = config;
-        clock = moves.clock ∙ ap (clock_after event) agrees.clock;
-        shown = views_step x old.shown new.shown disks before (rw config at moves.shown) agrees.shown;
-        conversation = λ k. ap (option_map (λ (c : ConnectionState). c.conversation))
-            (moves.connection k ∙ ap (λ (y : Happening). connection_after y k (place old.connections k)) met)
-            ∙ moved_here x k (place old.connections k) ∙ ap (conversation_after x k) (agrees.conversation k)
-            ∙ sym (conversation_step x before k refl);
-        row = λ c. moves.row c ∙ ap (λ (y : Happening). row_after y c (place old.rows c)) met ∙ ap (row_after x c) (agrees.row c)
+        clock = transition.clock ∙ ap (clock_after event) agrees.clock;
+        shown = views_step x old.shown new.shown disks before (rw config at transition.shown) agrees.shown;
+        connection = λ k. ap (option_map (λ (c : KnownConnection). c.state))
+            (transition.connection k ∙ ap (λ (y : Occurrence). known_after y k (place old.connections k)) met)
+            ∙ moved_here x k (place old.connections k) ∙ ap (connection_after x k) (agrees.connection k)
+            ∙ sym (connection_step x before k refl);
+        part = λ k ttag. transition.part k ttag ∙ ap (λ (y : Occurrence). parts_after y k (part_at old.transfers k) ttag) met
+            ∙ ap (λ (tags : Tags). parts_after x k tags ttag) (fun_ext (agrees.part k));
+        row = λ c. transition.row c ∙ ap (λ (y : Occurrence). row_after y c (place old.rows c)) met ∙ ap (row_after x c) (agrees.row c)
             ∙ sym (row_step x before c refl);
-        controller = λ c. moves.controller c ∙ ap (λ (y : Happening). controller_after y c (place old.controllers c)) met
+        controller = λ c. transition.controller c ∙ ap (λ (y : Occurrence). controller_after y c (place old.controllers c)) met
             ∙ ap (controller_after x c) (agrees.controller c) ∙ sym (controller_step x before c);
-        stream = λ k. rw (moves.stream k)
+        stream = λ k. rw (transition.stream k)
             (stream_by event k (place old.streams k) (pdus_of before k) (last_front before k) (received k) (opens event k) (gives_up event k)
-            (steps event k) (stands_here event old k moves.stands) (agrees.stream k));
-        output = λ k. rw (moves.connection k, met) (output_step x before k (place old.connections k) (taken k) (sym (agrees.conversation k)) (agrees.output k));
-        blocks = λ d. moves.blocks d ∙ ap (λ (y : Happening). written (write_on d (acts y)) (contents_at old.disks d)) met
+            (steps event k) (stands_here event old k transition.stands) (agrees.stream k));
+        output = λ k. rw (transition.connection k, met) (output_step x before k (place old.connections k) (taken k) (sym (agrees.connection k)) (agrees.output k));
+        blocks = λ d. transition.blocks d ∙ ap (λ (y : Occurrence). written (write_on d (acts y)) (contents_at old.disks d)) met
             ∙ ap (written (write_on d (acts x))) (agrees.blocks d) ∙ sym (blocks_step disks x before d);
       };
 }
@@ -171,7 +175,8 @@ new_agrees target disks fresh = record {
   config = fresh.over.config;
   clock = fresh.over.clock;
   shown = new_show target.shown disks fresh.over.shown;
-  conversation = λ k. rw (fresh.over.connections, place-replicate connections_max k) refl;
+  connection = λ k. rw (fresh.over.connections, place-replicate connections_max k) refl;
+  part = fresh.over.transfers.at;
   row = λ c. rw (fresh.over.rows, place-replicate controller_places c) refl;
   controller = λ c. rw (fresh.over.controllers, place-replicate controller_places c) refl;
   stream = λ k. rw (fresh.over.streams, place-replicate connections_max k) refl;

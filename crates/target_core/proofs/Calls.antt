@@ -18,47 +18,47 @@ use Rattle.target_core.specs.declared.fault.StepFault.{StepFault}
 use Rattle.target_core.specs.declared.fault.Stepped.{Stepped}
 use Rattle.target_core.specs.declared.fault.Stepped.TheVariants.{Idle, One, Ended}
 use Rattle.target_core.specs.Agreement.{AgreesAfter, AgreesAfterStep, AgreesByStep, AgreesStill, AgreesWithReceived, AgreesWithTaken, EditAgrees, EndAgrees, EndedAgrees, OpenAgrees, OutputAgrees, ReceiveAgrees, StandsAt, StepAgrees, StreamAgrees, TakenAgrees}
-use Rattle.target_core.specs.Connection.{ConnectionState}
-use Rattle.target_core.specs.Moves.{Moves, StepsAt, StepsBy, StepsOn}
+use Rattle.target_core.specs.Connection.{KnownConnection}
+use Rattle.target_core.specs.Transition.{Transition, StepsAt, StepsBy, StepsOn}
 use Rattle.target_core.specs.Target.{ReceivesAt, TakenAt, TargetState, free_number, is_ended_at, room_of, with_connection, with_stream}
-use Rattle.target_decision.specs.declared.session.Conversation.{Conversation}
+use Rattle.target_decision.specs.declared.session.ConnectionState.{ConnectionState}
 use Rattle.target_decision.specs.declared.session.Session.TheVariants as session
 use Rattle.target_decision.specs.Session.{is_ended}
 use Rattle.target_history.specs.Event.{edited, given_up, opened, stepped}
-use Rattle.target_history.specs.Happening.{DisksAct, Happening}
-use Rattle.target_history.specs.History.{alignment_of, Admission, admission_of, conversation_of, happened, has_ended, is_initialized, is_known, last_front, pdus_of, port_of, responses_since, sent, session_of, session_with}
-use Rattle.target_core.proofs.Agreements.{meets_agree, moves_agree, same_agrees}
+use Rattle.target_history.specs.Occurrence.{DisksAct, Occurrence}
+use Rattle.target_history.specs.History.{alignment_of, Admission, admission_of, connection_of, happened, has_ended, is_initialized, is_known, last_front, pdus_of, port_of, responses_since, sent, session_of, session_with}
+use Rattle.target_core.proofs.Agreements.{meets_agree, transition_agrees, same_agrees}
 
 -- ---- events
 
 pub edit_keeps : (old new : TargetState) (edit : Edit) (result : Result (Unit {0}) EditFault)
-    → OnOk result (Moves (edited edit) old new) → OnErr result (new ≡ old) → EditAgrees edit old result new
-edit_keeps old new edit (Ok done) moves err = moves_agree (edited edit) old new moves
-edit_keeps old new edit (Err fault) moves err = same_agrees old new err
+    → OnOk result (Transition (edited edit) old new) → OnErr result (new ≡ old) → EditAgrees edit old result new
+edit_keeps old new edit (Ok done) transition err = transition_agrees (edited edit) old new transition
+edit_keeps old new edit (Err fault) transition err = same_agrees old new err
 
 pub open_keeps : (old new : TargetState) (port : ℕ) (result : Result ℕ OpenFault)
-    → IfOk result (λ k. (free_number old ≡ Some k) × Moves (opened port k) old new)
+    → IfOk result (λ k. (free_number old ≡ Some k) × Transition (opened port k) old new)
     → OnErr result (new ≡ old) → OpenAgrees port old result new
-open_keeps old new port (Ok k) opens err = moves_agree (opened port k) old new opens.1
+open_keeps old new port (Ok k) opens err = transition_agrees (opened port k) old new opens.1
 open_keeps old new port (Err fault) opens err = same_agrees old new err
 
 stepped_agrees : (old new : TargetState) (k : ℕ) (held : List ℕ) (ended : Bool) → StepsOn k held ended old new
     → AgreesAfterStep k (front Target held) old new
 stepped_agrees old new k held ended h = record {
-  medium = h.medium;
+  disk_outcome = h.disk_outcome;
   tells = h.did.tells;
-  did = λ disks events received taken agrees. subst (λ (x : Happening). DisksAct x old.disks new.disks)
-      (meets_agree old (stepped k (front Target held) h.medium) disks (happened disks events) received taken agrees) h.did;
-  agrees = moves_agree (stepped k (front Target held) h.medium) old new h.moves;
+  did = λ disks events received taken agrees. subst (λ (x : Occurrence). DisksAct x old.disks new.disks)
+      (meets_agree old (stepped k (front Target held) h.disk_outcome) disks (happened disks events) received taken agrees) h.did;
+  agrees = transition_agrees (stepped k (front Target held) h.disk_outcome) old new h.transition;
 }
 
-step_keeps_by : (old new : TargetState) (k : ℕ) (held : List ℕ) (c : ConnectionState) (s : Stepped) → place old.streams k ≡ Some held
+step_keeps_by : (old new : TargetState) (k : ℕ) (held : List ℕ) (c : KnownConnection) (s : Stepped) → place old.streams k ≡ Some held
     → StepsBy k held c s old new → AgreesByStep k s old new
 step_keeps_by old new k held c Idle known h = same_agrees old new h.1
 step_keeps_by old new k held c One known h = rw known (stepped_agrees old new k held false h.1)
 step_keeps_by old new k held c Ended known h = rw known (stepped_agrees old new k held true h.1)
 
-step_keeps_at : (old new : TargetState) (k : ℕ) (s : Option (List ℕ)) (o : Option ConnectionState) (result : Result Stepped StepFault)
+step_keeps_at : (old new : TargetState) (k : ℕ) (s : Option (List ℕ)) (o : Option KnownConnection) (result : Result Stepped StepFault)
     → place old.streams k ≡ s → StepsAt k s o old result new → StepAgrees k old result new
 step_keeps_at old new k None o result known h = rw h.0 (same_agrees old new h.1)
 step_keeps_at old new k (Some held) None result known h = rw h.0 (same_agrees old new h.1)
@@ -69,12 +69,12 @@ pub step_keeps : (old new : TargetState) (k : ℕ) (result : Result Stepped Step
     → StepsAt k (place old.streams k) (place old.connections k) old result new → StepAgrees k old result new
 step_keeps old new k result h = step_keeps_at old new k (place old.streams k) (place old.connections k) result refl h
 
-end_keeps_at : (old new : TargetState) (k : ℕ) (o : Option ConnectionState) → MatchOption o (new ≡ old) (λ c. Moves (given_up k) old new)
+end_keeps_at : (old new : TargetState) (k : ℕ) (o : Option KnownConnection) → MatchOption o (new ≡ old) (λ c. Transition (given_up k) old new)
     → MatchOption o (AgreesStill old new) (λ c. AgreesAfter (given_up k) old new)
 end_keeps_at old new k None h = same_agrees old new h
-end_keeps_at old new k (Some c) h = moves_agree (given_up k) old new h
+end_keeps_at old new k (Some c) h = transition_agrees (given_up k) old new h
 
-pub end_keeps : (old new : TargetState) (k : ℕ) → MatchOption (place old.connections k) (new ≡ old) (λ c. Moves (given_up k) old new)
+pub end_keeps : (old new : TargetState) (k : ℕ) → MatchOption (place old.connections k) (new ≡ old) (λ c. Transition (given_up k) old new)
     → EndAgrees k old new
 end_keeps old new k h = end_keeps_at old new k (place old.connections k) h
 
@@ -105,9 +105,10 @@ receive_agrees old new k held bytes known receives =
         config = agrees.config;
         clock = agrees.clock;
         shown = agrees.shown;
+        part = agrees.part;
         row = agrees.row;
         controller = agrees.controller;
-        conversation = agrees.conversation;
+        connection = agrees.connection;
         stream = λ j. rw (place-with_value old.streams k (held ++ bytes) j within)
             (received_at (j == k) held bytes (place old.streams j) (pdus_of (happened disks events) j) (last_front (happened disks events) j) (received j)
             (λ is. ap (place old.streams) (eqb-true j k is) ∙ known) (agrees.stream j));
@@ -116,7 +117,7 @@ receive_agrees old new k held bytes known receives =
       });
     }
 
-receive_keeps_at : (old new : TargetState) (k : ℕ) (s : Option (List ℕ)) (o : Option ConnectionState) (piece : List ℕ) (result : Result ℕ NoConn)
+receive_keeps_at : (old new : TargetState) (k : ℕ) (s : Option (List ℕ)) (o : Option KnownConnection) (piece : List ℕ) (result : Result ℕ NoConn)
     → place old.streams k ≡ s → ReceivesAt k s o old piece result new → ReceiveAgrees k piece old result new
 receive_keeps_at old new k None o piece (Ok n) known h = cc
 receive_keeps_at old new k None o piece (Err fault) known h = same_agrees old new h.1
@@ -132,41 +133,42 @@ receive_keeps old new k piece result h =
 
 -- ---- output that is taken
 
-taken_at : (same : Bool) (c : ConnectionState) (n : ℕ) (o : Option ConnectionState) (sent taken : List ℕ) → (same ≡ true → o ≡ Some c)
+taken_at : (same : Bool) (c : KnownConnection) (n : ℕ) (o : Option KnownConnection) (sent taken : List ℕ) → (same ≡ true → o ≡ Some c)
     → OutputAgrees o sent taken
-    → OutputAgrees (if same then Some (record { conversation = c.conversation; output = drop n c.output }) else o) sent
+    → OutputAgrees (if same then Some (record { state = c.state; output = drop n c.output }) else o) sent
     (if same then taken ++ take n c.output else taken)
 taken_at true c n None sent taken known agrees = let found = known refl in cc
 taken_at true c n (Some d) sent taken known agrees =
     let found = known refl in
     let same : d ≡ c = cc in
-    let here : sent ≡ taken ++ c.output = agrees ∙ ap (λ (x : ConnectionState). taken ++ x.output) same in
+    let here : sent ≡ taken ++ c.output = agrees ∙ ap (λ (x : KnownConnection). taken ++ x.output) same in
     here ∙ ap (λ (x : List ℕ). taken ++ x) (sym (take-append-drop n c.output)) ∙ sym (append_assoc taken (take n c.output) (drop n c.output))
 taken_at false c n o sent taken known agrees = agrees
 
-conversation_stays : (same : Bool) (c : ConnectionState) (n : ℕ) (o : Option ConnectionState) → (same ≡ true → o ≡ Some c)
-    → option_map (λ (a : ConnectionState). a.conversation)
-    (if same then Some (record { conversation = c.conversation; output = drop n c.output }) else o)
-    ≡ option_map (λ (a : ConnectionState). a.conversation) o
-conversation_stays true c n o known = rw (known refl) refl
-conversation_stays false c n o known = refl
+state_stays : (same : Bool) (c : KnownConnection) (n : ℕ) (o : Option KnownConnection) → (same ≡ true → o ≡ Some c)
+    → option_map (λ (a : KnownConnection). a.state)
+    (if same then Some (record { state = c.state; output = drop n c.output }) else o)
+    ≡ option_map (λ (a : KnownConnection). a.state) o
+state_stays true c n o known = rw (known refl) refl
+state_stays false c n o known = refl
 
-taken_agrees : (old new : TargetState) (k : ℕ) (c : ConnectionState) (n : ℕ) → place old.connections k ≡ Some c
-    → new ≡ with_connection old k (record { conversation = c.conversation; output = drop n c.output })
+taken_agrees : (old new : TargetState) (k : ℕ) (c : KnownConnection) (n : ℕ) → place old.connections k ≡ Some c
+    → new ≡ with_connection old k (record { state = c.state; output = drop n c.output })
     → AgreesWithTaken k (take n c.output) old new
 taken_agrees old new k c n known takes =
     let within = place_within old.connections k c known in
-    let after : ConnectionState = record { conversation = c.conversation; output = drop n c.output } in
+    let after : KnownConnection = record { state = c.state; output = drop n c.output } in
     record {
       keeps = λ disks events received taken agrees. rw takes (record {
         config = agrees.config;
         clock = agrees.clock;
         shown = agrees.shown;
+        part = agrees.part;
         row = agrees.row;
         controller = agrees.controller;
-        conversation = λ j. rw (place-with_value old.connections k after j within)
-            (conversation_stays (j == k) c n (place old.connections j) (λ is. ap (place old.connections) (eqb-true j k is) ∙ known)
-            ∙ agrees.conversation j);
+        connection = λ j. rw (place-with_value old.connections k after j within)
+            (state_stays (j == k) c n (place old.connections j) (λ is. ap (place old.connections) (eqb-true j k is) ∙ known)
+            ∙ agrees.connection j);
         stream = agrees.stream;
         output = λ j. rw (place-with_value old.connections k after j within)
             (taken_at (j == k) c n (place old.connections j) (sent (happened disks events) j) (taken j)
@@ -175,7 +177,7 @@ taken_agrees old new k c n known takes =
       });
     }
 
-taken_keeps_at : (old new : TargetState) (k len : ℕ) (o : Option ConnectionState) → place old.connections k ≡ o → TakenAt k o old len new
+taken_keeps_at : (old new : TargetState) (k len : ℕ) (o : Option KnownConnection) → place old.connections k ≡ o → TakenAt k o old len new
     → MatchOption o (AgreesStill old new) (λ c. AgreesWithTaken k (take len c.output) old new)
 taken_keeps_at old new k len None known h = same_agrees old new h
 taken_keeps_at old new k len (Some c) known h = taken_agrees old new k c len known h
@@ -190,28 +192,28 @@ lasts_with None false n = refl
 lasts_with None true n = refl
 lasts_with (Some a) i n = refl
 
-ended_of : (h : List Happening) (k : ℕ) → is_ended (session_of h k) ≡ has_ended h k
+ended_of : (h : List Occurrence) (k : ℕ) → is_ended (session_of h k) ≡ has_ended h k
 ended_of h k = by (has_ended h k) where
   by : (ended : Bool) → is_ended (if ended then session.Ended else
       session_with (admission_of h k) (is_initialized h k) (responses_since h k)) ≡ ended
   by true = refl
   by false = lasts_with (admission_of h k) (is_initialized h k) (responses_since h k)
 
-ended_at : (h : List Happening) (k : ℕ) (o : Option ConnectionState)
-    → option_map (λ (c : ConnectionState). c.conversation) o ≡ conversation_of h k → is_ended_at o ≡ (is_known h k && has_ended h k)
+ended_at : (h : List Occurrence) (k : ℕ) (o : Option KnownConnection)
+    → option_map (λ (c : KnownConnection). c.state) o ≡ connection_of h k → is_ended_at o ≡ (is_known h k && has_ended h k)
 ended_at h k o agrees = by o (is_known h k) agrees where
-  by : (o : Option ConnectionState) (known : Bool)
-      → option_map (λ (c : ConnectionState). c.conversation) o
+  by : (o : Option KnownConnection) (known : Bool)
+      → option_map (λ (c : KnownConnection). c.state) o
       ≡ (if known then Some (record { port = port_of h k; session = session_of h k; alignment = alignment_of h k }) else None)
       → is_ended_at o ≡ (known && has_ended h k)
   by None true agrees = cc
   by None false agrees = refl
   by (Some c) false agrees = cc
   by (Some c) true agrees =
-      let same : c.conversation ≡ record { port = port_of h k; session = session_of h k; alignment = alignment_of h k } = cc in
-      ap (λ (v : Conversation). is_ended v.session) same ∙ ended_of h k
+      let same : c.state ≡ record { port = port_of h k; session = session_of h k; alignment = alignment_of h k } = cc in
+      ap (λ (v : ConnectionState). is_ended v.session) same ∙ ended_of h k
 
 pub ended_tells : (t : TargetState) (k : ℕ) (ended : Bool) → ended ≡ is_ended_at (place t.connections k) → EndedAgrees k t ended
 ended_tells t k ended h = record {
-  tells = λ disks events received taken agrees. h ∙ ended_at (happened disks events) k (place t.connections k) (agrees.conversation k);
+  tells = λ disks events received taken agrees. h ∙ ended_at (happened disks events) k (place t.connections k) (agrees.connection k);
 }

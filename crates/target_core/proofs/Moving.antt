@@ -10,91 +10,103 @@ use Rattle.config_rules.specs.Configuration.{Configuration}
 use Rattle.controller_tables.specs.Controllers.{TablesState, gone_by}
 use Rattle.controller_tables.proofs.Staying.{nothing_gone, nothing_goes, nothing_leaves}
 use Rattle.block_store.specs.Stored.{Stored}
-use Rattle.io_queue.specs.Act.{Medium}
+use Rattle.data_transfer.specs.Part.{Part}
+use Rattle.data_transfer.specs.Parts.{Stand, part_at, without_queue}
+use Rattle.io_queue.specs.Act.{DiskOutcome}
 use Rattle.io_queue.specs.Execution.{contents_at}
 use Rattle.pdu_cut.specs.Front.{Front}
-use Rattle.target_core.specs.Connection.{ConnectionState, fresh_on, settled}
-use Rattle.target_core.specs.Moves.{Moves, connection_moved}
+use Rattle.target_core.specs.Connection.{KnownConnection, ends_known, fresh_on, settled}
+use Rattle.target_core.specs.Transition.{Transition, known_moved}
 use Rattle.target_core.specs.Target.{TargetState, meets}
 use Rattle.target_views.specs.Views.{ShowNext}
 use Rattle.target_decision.specs.declared.decision.Decision.{Decision}
-use Rattle.target_decision.specs.declared.session.Conversation.{Conversation}
+use Rattle.target_decision.specs.declared.session.ConnectionState.{ConnectionState}
 use Rattle.target_decision.specs.declared.session.Session.TheVariants.{Ended}
+use Rattle.target_decision.specs.declared.transfer.WaitingCommand.{WaitingCommand}
+use Rattle.target_decision.specs.Transfer.{Tags}
 use Rattle.target_decision.specs.World.{World}
-use Rattle.target_history.specs.declared.ending.Ending.{Ending}
-use Rattle.target_history.specs.declared.ending.Ending.TheVariants as ending
-use Rattle.target_history.specs.Ending.{ending_edited, ending_lost, ends_by}
-use Rattle.target_history.specs.Event.{Event, edited, front_in, medium_in, opened, given_up, ticked}
-use Rattle.target_history.specs.Happening.{Happening, alignment_decided, config_after, decided, ending_of, ends_live, row_kept, sends_on, session_decided}
-use Rattle.target_core.proofs.Settling.{same_at}
+use Rattle.target_history.specs.declared.end_cause.EndCause.{EndCause}
+use Rattle.target_history.specs.declared.end_cause.EndCause.TheVariants as cause
+use Rattle.target_history.specs.EndCause.{cause_edited, cause_lost, ends_by}
+use Rattle.target_history.specs.Event.{Event, edited, front_in, disk_outcome_in, opened, opens, given_up, gives_up, ticked}
+use Rattle.target_history.specs.Occurrence.{Occurrence, alignment_decided, config_after, decided, cause_of, ends_live, parts_after, row_kept, sends_on, session_decided}
+use Rattle.target_core.proofs.Settling.{nothing_drops, same_at}
 
 abbrev pub tables_of : TargetState → TablesState
 tables_of t = record { rows = t.rows; own = t.controllers }
 
 -- what an event makes of a connection, by what is decided on it and what ends elsewhere
-abbrev pub turned : World → (ℕ → List (List ℕ)) → Medium → Option Decision → Front → Ending → (ℕ → Bool) → ConnectionState → ConnectionState
-turned w blocks m d found e gone c = record {
-  conversation = record {
-    port = c.conversation.port;
-    session = if ends_by e gone c.conversation then Ended else session_decided c.conversation.session d;
-    alignment = alignment_decided c.conversation.alignment d;
+abbrev pub turned : World → (ℕ → List (List ℕ)) → DiskOutcome → Tags → Option Decision → Front → EndCause → (ℕ → Bool) → KnownConnection → KnownConnection
+turned w blocks m tags d found e gone c = record {
+  state = record {
+    port = c.state.port;
+    session = if ends_by e gone c.state then Ended else session_decided c.state.session d;
+    alignment = alignment_decided c.state.alignment d;
   };
-  output = c.output ++ sends_on w blocks m (Some c.conversation) d found;
+  output = c.output ++ sends_on w blocks m tags (Some c.state) d found;
 }
 
-pub moved_is : (x : Happening) (k : ℕ) (c : ConnectionState) → x.conversation k ≡ Some c.conversation
-    → connection_moved x k c ≡ turned x.world x.blocks (medium_in x.event) (decided x k) (front_in x.event) (ending_of x) (ends_live x) c
+pub moved_is : (x : Occurrence) (k : ℕ) (c : KnownConnection) → x.connection k ≡ Some c.state
+    → known_moved x k c ≡ turned x.world x.blocks (disk_outcome_in x.event) (x.parts k) (decided x k) (front_in x.event) (cause_of x) (ends_live x) c
 moved_is x k c met =
-    ap (λ (o : Option Conversation). let d : ConnectionState = record {
-      conversation = record {
-        port = c.conversation.port;
-        session = if ends_by (ending_of x) (ends_live x) c.conversation then Ended else session_decided c.conversation.session (decided x k);
-        alignment = alignment_decided c.conversation.alignment (decided x k);
+    ap (λ (o : Option ConnectionState). let d : KnownConnection = record {
+      state = record {
+        port = c.state.port;
+        session = if ends_by (cause_of x) (ends_live x) c.state then Ended else session_decided c.state.session (decided x k);
+        alignment = alignment_decided c.state.alignment (decided x k);
       };
-      output = c.output ++ sends_on x.world x.blocks (medium_in x.event) o (decided x k) (front_in x.event);
+      output = c.output ++ sends_on x.world x.blocks (disk_outcome_in x.event) (x.parts k) o (decided x k) (front_in x.event);
     } in d) met
 
-settled_turned : (w : World) (blocks : ℕ → List (List ℕ)) (m : Medium) (found : Front) (e : Ending) (gone : ℕ → Bool) (c : ConnectionState) → settled e gone c ≡ turned w blocks m None found e gone c
-settled_turned w blocks m found e gone c = by (ends_by e gone c.conversation) where
+settled_turned : (w : World) (blocks : ℕ → List (List ℕ)) (m : DiskOutcome) (tags : Tags) (found : Front) (e : EndCause) (gone : ℕ → Bool) (c : KnownConnection) → settled e gone c ≡ turned w blocks m tags None found e gone c
+settled_turned w blocks m tags found e gone c = by (ends_by e gone c.state) where
   by : (ended : Bool)
-      → (if ended then record c { conversation = record c.conversation { session = Ended } } else c)
-      ≡ (let d : ConnectionState = record {
-        conversation = record c.conversation { session = if ended then Ended else c.conversation.session };
+      → (if ended then record c { state = record c.state { session = Ended } } else c)
+      ≡ (let d : KnownConnection = record {
+        state = record c.state { session = if ended then Ended else c.state.session };
         output = c.output ++ [];
       } in d)
   by true = simp append-nil
   by false = simp append-nil
 
 -- where nothing is decided on it, what ends elsewhere is all that becomes of it
-pub silent_at : (x : Happening) (k : ℕ) (o : Option ConnectionState)
-    → x.conversation k ≡ option_map (λ (c : ConnectionState). c.conversation) o → decided x k ≡ None
-    → option_map (settled (ending_of x) (ends_live x)) o ≡ option_map (connection_moved x k) o
+pub silent_at : (x : Occurrence) (k : ℕ) (o : Option KnownConnection)
+    → x.connection k ≡ option_map (λ (c : KnownConnection). c.state) o → decided x k ≡ None
+    → option_map (settled (cause_of x) (ends_live x)) o ≡ option_map (known_moved x k) o
 silent_at x k None met none = refl
 silent_at x k (Some c) met none =
-    ap Some (settled_turned x.world x.blocks (medium_in x.event) (front_in x.event) (ending_of x) (ends_live x) c
-    ∙ ap (λ (d : Option Decision). turned x.world x.blocks (medium_in x.event) d (front_in x.event) (ending_of x) (ends_live x) c) (sym none)
+    ap Some (settled_turned x.world x.blocks (disk_outcome_in x.event) (x.parts k) (front_in x.event) (cause_of x) (ends_live x) c
+    ∙ ap (λ (d : Option Decision). turned x.world x.blocks (disk_outcome_in x.event) (x.parts k) d (front_in x.event) (cause_of x) (ends_live x) c) (sym none)
     ∙ sym (moved_is x k c met))
 
 pub stream_stays : (o : Option (List ℕ)) → o ≡ option_map (λ held. held) o
 stream_stays None = refl
 stream_stays (Some held) = refl
 
+-- .. and of its transfers
+pub part_at-silent : (x : Occurrence) (k : ℕ) (o : Option KnownConnection) (tags : Tags) (t : ℕ)
+    → x.connection k ≡ option_map (λ (c : KnownConnection). c.state) o → decided x k ≡ None → opens x.event k ≡ false → gives_up x.event k ≡ false
+    → (if ends_known (cause_of x) (ends_live x) o then None else tags t) ≡ parts_after x k tags t
+part_at-silent x k None tags t met none opening giving = rw (none, met, opening, giving) refl
+part_at-silent x k (Some c) tags t met none opening giving = rw (none, met, opening, giving) refl
+
 -- ---- an edit
 
 -- the controllers that are gone, by the configuration that an event leaves
 gone_after : (old : TargetState) (event : Event) (config : Configuration) → config_after event old.config ≡ config
-    → gone_by (ending_of (meets old event)) config (tables_of old) ≡ ends_live (meets old event)
+    → gone_by (cause_of (meets old event)) config (tables_of old) ≡ ends_live (meets old event)
 gone_after old event config after =
-    ap (λ (c : Configuration). gone_by (ending_of (meets old event)) c (tables_of old)) (sym after)
+    ap (λ (c : Configuration). gone_by (cause_of (meets old event)) c (tables_of old)) (sym after)
 
 pub edit_moves : (old new : TargetState) (edit : Edit) → accept old.config edit ≡ Ok new.config → new.clock ≡ old.clock
     → ShowNext new.config old.shown new.shown → new.streams ≡ old.streams
-    → new.connections ≡ map (option_map (settled (ending_edited edit) (gone_by (ending_edited edit) new.config (tables_of old)))) old.connections
-    → ((c : ℕ) → place new.rows c ≡ (if gone_by (ending_edited edit) new.config (tables_of old) c then None else
-    option_map (row_kept (ending_edited edit) c) (place old.rows c)))
-    → ((c : ℕ) → place new.controllers c ≡ (if gone_by (ending_edited edit) new.config (tables_of old) c then None else place old.controllers c))
-    → new.disks ≡ old.disks → Moves (edited edit) old new
-edit_moves old new edit accepted clock shown streams connections rows controllers disks =
+    → new.connections ≡ map (option_map (settled (cause_edited edit) (gone_by (cause_edited edit) new.config (tables_of old)))) old.connections
+    → ((c : ℕ) → place new.rows c ≡ (if gone_by (cause_edited edit) new.config (tables_of old) c then None else
+    option_map (row_kept (cause_edited edit) c) (place old.rows c)))
+    → ((c : ℕ) → place new.controllers c ≡ (if gone_by (cause_edited edit) new.config (tables_of old) c then None else place old.controllers c))
+    → ((k t : ℕ) → part_at new.transfers k t ≡ (if ends_known (cause_edited edit) (gone_by (cause_edited edit) new.config (tables_of old)) (place old.connections k) then None else part_at old.transfers k t))
+    → new.disks ≡ old.disks → Transition (edited edit) old new
+edit_moves old new edit accepted clock shown streams connections rows controllers parts disks =
     let x = meets old (edited edit) in
     let after : config_after (edited edit) old.config ≡ new.config = rw accepted refl in
     let gone = gone_after old (edited edit) new.config after in
@@ -103,12 +115,15 @@ edit_moves old new edit accepted clock shown streams connections rows controller
       config = sym after;
       clock = clock;
       shown = shown;
-      connection = λ k. ap (λ (l : List (Option ConnectionState)). place l k)
-          (connections ∙ ap (λ (g : ℕ → Bool). map (option_map (settled (ending_edited edit) g)) old.connections) gone)
-          ∙ place-map (settled (ending_edited edit) (ends_live x)) old.connections k ∙ silent_at x k (place old.connections k) refl refl;
+      connection = λ k. ap (λ (l : List (Option KnownConnection)). place l k)
+          (connections ∙ ap (λ (g : ℕ → Bool). map (option_map (settled (cause_edited edit) g)) old.connections) gone)
+          ∙ place-map (settled (cause_edited edit) (ends_live x)) old.connections k ∙ silent_at x k (place old.connections k) refl refl;
+      part = λ k t. parts k t
+          ∙ ap (λ (g : ℕ → Bool). if ends_known (cause_edited edit) g (place old.connections k) then None else part_at old.transfers k t) gone
+          ∙ part_at-silent x k (place old.connections k) (part_at old.transfers k) t refl refl refl refl;
       stream = λ k. rw streams (stream_stays (place old.streams k));
       row = λ c. rows c
-          ∙ ap (λ (g : ℕ → Bool). if g c then None else option_map (row_kept (ending_edited edit) c) (place old.rows c)) gone;
+          ∙ ap (λ (g : ℕ → Bool). if g c then None else option_map (row_kept (cause_edited edit) c) (place old.rows c)) gone;
       controller = λ c. controllers c ∙ ap (λ (g : ℕ → Bool). if g c then None else place old.controllers c) gone;
       blocks = λ d. ap (λ (l : List Stored). contents_at l d) disks;
     }
@@ -117,20 +132,22 @@ edit_moves old new edit accepted clock shown streams connections rows controller
 
 pub tick_moves : (old new : TargetState) (now : ℕ) → new.config ≡ old.config → new.clock ≡ max old.clock now → new.shown ≡ old.shown
     → new.streams ≡ old.streams
-    → new.connections ≡ map (option_map (settled (ending.Clock (max old.clock now)) (gone_by (ending.Clock (max old.clock now)) old.config (tables_of old)))) old.connections
-    → ((c : ℕ) → place new.rows c ≡ (if gone_by (ending.Clock (max old.clock now)) old.config (tables_of old) c then None else
-    option_map (row_kept (ending.Clock (max old.clock now)) c) (place old.rows c)))
-    → ((c : ℕ) → place new.controllers c ≡ (if gone_by (ending.Clock (max old.clock now)) old.config (tables_of old) c then None else place old.controllers c))
-    → new.disks ≡ old.disks → Moves (ticked now) old new
-tick_moves old new now config clock shown streams connections rows controllers disks =
+    → new.connections ≡ map (option_map (settled (cause.Clock (max old.clock now)) (gone_by (cause.Clock (max old.clock now)) old.config (tables_of old)))) old.connections
+    → ((c : ℕ) → place new.rows c ≡ (if gone_by (cause.Clock (max old.clock now)) old.config (tables_of old) c then None else
+    option_map (row_kept (cause.Clock (max old.clock now)) c) (place old.rows c)))
+    → ((c : ℕ) → place new.controllers c ≡ (if gone_by (cause.Clock (max old.clock now)) old.config (tables_of old) c then None else place old.controllers c))
+    → ((k t : ℕ) → part_at new.transfers k t ≡ (if ends_known (cause.Clock (max old.clock now)) (gone_by (cause.Clock (max old.clock now)) old.config (tables_of old)) (place old.connections k) then None else part_at old.transfers k t))
+    → new.disks ≡ old.disks → Transition (ticked now) old new
+tick_moves old new now config clock shown streams connections rows controllers parts disks =
     let x = meets old (ticked now) in
     record {
       stands = tt;
       config = config;
       clock = clock;
       shown = shown;
-      connection = λ k. ap (λ (l : List (Option ConnectionState)). place l k) connections
-          ∙ place-map (settled (ending.Clock (max old.clock now)) (ends_live x)) old.connections k ∙ silent_at x k (place old.connections k) refl refl;
+      connection = λ k. ap (λ (l : List (Option KnownConnection)). place l k) connections
+          ∙ place-map (settled (cause.Clock (max old.clock now)) (ends_live x)) old.connections k ∙ silent_at x k (place old.connections k) refl refl;
+      part = λ k t. parts k t ∙ part_at-silent x k (place old.connections k) (part_at old.transfers k) t refl refl refl refl;
       stream = λ k. rw streams (stream_stays (place old.streams k));
       row = rows;
       controller = controllers;
@@ -142,8 +159,9 @@ tick_moves old new now config clock shown streams connections rows controllers d
 pub open_moves : (old new : TargetState) (port k : ℕ) → position is_none old.connections ≡ Some k → k < length old.streams
     → new.config ≡ old.config → new.shown ≡ old.shown → new.clock ≡ old.clock
     → new.streams ≡ with_value old.streams k [] → new.connections ≡ with_value old.connections k (fresh_on port)
-    → new.rows ≡ old.rows → new.controllers ≡ old.controllers → new.disks ≡ old.disks → Moves (opened port k) old new
-open_moves old new port k free within config shown clock streams connections rows controllers disks =
+    → new.rows ≡ old.rows → new.controllers ≡ old.controllers → Stand new.transfers (without_queue (part_at old.transfers) k) → new.disks ≡ old.disks
+    → Transition (opened port k) old new
+open_moves old new port k free within config shown clock streams connections rows controllers parts disks =
     let empty = least_free-Some old.connections k free in
     record {
       stands = tt;
@@ -151,23 +169,31 @@ open_moves old new port k free within config shown clock streams connections row
       clock = clock;
       shown = shown;
       connection = λ j. rw (connections, place-with_value old.connections k (fresh_on port) j empty.1) (here j (j == k));
+      part = λ j t. parts.at j t ∙ part_here j t (j == k) refl;
       stream = λ j. rw (streams, place-with_value old.streams k [] j within) (stream_here j (j == k));
       row = λ c. rw rows (nothing_leaves (ends_live x c) c (place old.rows c) (none c));
       controller = λ c. rw controllers (nothing_goes (ends_live x c) (place old.controllers c) (none c));
       blocks = λ d. ap (λ (l : List Stored). contents_at l d) disks;
     }
   where
-    x : Happening
+    x : Occurrence
     x = meets old (opened port k)
 
     none : (c : ℕ) → ends_live (meets old (opened port k)) c ≡ false
     none c = nothing_gone old.config c (place old.rows c) (place old.controllers c)
 
     here : (j : ℕ) (same : Bool) → (if same then Some (fresh_on port) else place old.connections j)
-        ≡ (if same then Some (fresh_on port) else option_map (connection_moved (meets old (opened port k)) j) (place old.connections j))
+        ≡ (if same then Some (fresh_on port) else option_map (known_moved (meets old (opened port k)) j) (place old.connections j))
     here j true = refl
     here j false = sym (same_at (ends_live (meets old (opened port k))) none (place old.connections j))
         ∙ silent_at (meets old (opened port k)) j (place old.connections j) refl refl
+
+    part_here : (j t : ℕ) (same : Bool) → (j == k) ≡ same
+        → (if same then None else part_at old.transfers j t) ≡ parts_after (meets old (opened port k)) j (part_at old.transfers j) t
+    part_here j t true same = rw same refl
+    part_here j t false same =
+        nothing_drops (ends_live (meets old (opened port k))) none (place old.connections j) (part_at old.transfers j t)
+        ∙ part_at-silent (meets old (opened port k)) j (place old.connections j) (part_at old.transfers j) t refl refl same refl
 
     stream_here : (j : ℕ) (same : Bool) → (if same then Some [] else place old.streams j)
         ≡ (if same then Some [] else option_map (λ held. held) (place old.streams j))
@@ -176,15 +202,18 @@ open_moves old new port k free within config shown clock streams connections row
 
 -- ---- the end of a connection
 
-pub end_moves : (old new : TargetState) (k : ℕ) (c : ConnectionState) (e : Ending) → place old.connections k ≡ Some c
-    → e ≡ ending_lost c.conversation.session → new.config ≡ old.config → new.shown ≡ old.shown → new.clock ≡ old.clock
+pub end_moves : (old new : TargetState) (k : ℕ) (c : KnownConnection) (e : EndCause) → place old.connections k ≡ Some c
+    → e ≡ cause_lost c.state.session → new.config ≡ old.config → new.shown ≡ old.shown → new.clock ≡ old.clock
     → new.streams ≡ without old.streams k
     → new.connections ≡ without (map (option_map (settled e (gone_by e old.config (tables_of old)))) old.connections) k
     → ((n : ℕ) → place new.rows n ≡ (if gone_by e old.config (tables_of old) n then None else option_map (row_kept e n) (place old.rows n)))
     → ((n : ℕ) → place new.controllers n ≡ (if gone_by e old.config (tables_of old) n then None else place old.controllers n))
-    → new.disks ≡ old.disks → Moves (given_up k) old new
-end_moves old new k c e known is config shown clock streams connections rows controllers disks =
-    let lost : ending_of x ≡ e = rw known (sym is) in
+    → (mid : List (List (Option (Part WaitingCommand))))
+    → ((j t : ℕ) → part_at mid j t ≡ (if ends_known e (gone_by e old.config (tables_of old)) (place old.connections j) then None else part_at old.transfers j t))
+    → Stand new.transfers (without_queue (part_at mid) k)
+    → new.disks ≡ old.disks → Transition (given_up k) old new
+end_moves old new k c e known is config shown clock streams connections rows controllers mid settles parts disks =
+    let lost : cause_of x ≡ e = rw known (sym is) in
     record {
       stands = tt;
       config = config;
@@ -193,23 +222,34 @@ end_moves old new k c e known is config shown clock streams connections rows con
       connection = λ j. rw connections (
           place-without (map (option_map (settled e (gone_by e old.config (tables_of old)))) old.connections) k j
           ∙ here lost j (j == k));
+      part = λ j t. parts.at j t ∙ part_here lost j t (settles j t) (j == k) refl;
       stream = λ j. rw (streams, place-without old.streams k j) (stream_here j (j == k));
       row = λ n. rw lost (rows n);
       controller = λ n. rw lost (controllers n);
       blocks = λ d. ap (λ (l : List Stored). contents_at l d) disks;
     }
   where
-    x : Happening
+    x : Occurrence
     x = meets old (given_up k)
 
-    here : ending_of (meets old (given_up k)) ≡ e → (j : ℕ) (same : Bool)
+    here : cause_of (meets old (given_up k)) ≡ e → (j : ℕ) (same : Bool)
         → (if same then None else place (map (option_map (settled e (gone_by e old.config (tables_of old)))) old.connections) j)
-        ≡ (if same then None else option_map (connection_moved (meets old (given_up k)) j) (place old.connections j))
+        ≡ (if same then None else option_map (known_moved (meets old (given_up k)) j) (place old.connections j))
     here lost j true = refl
     here lost j false =
         place-map (settled e (gone_by e old.config (tables_of old))) old.connections j
-        ∙ ap (λ (f : Ending). option_map (settled f (gone_by f old.config (tables_of old))) (place old.connections j)) (sym lost)
+        ∙ ap (λ (f : EndCause). option_map (settled f (gone_by f old.config (tables_of old))) (place old.connections j)) (sym lost)
         ∙ silent_at (meets old (given_up k)) j (place old.connections j) refl refl
+
+    part_here : cause_of (meets old (given_up k)) ≡ e → (j t : ℕ)
+        → part_at mid j t ≡ (if ends_known e (gone_by e old.config (tables_of old)) (place old.connections j) then None else part_at old.transfers j t)
+        → (same : Bool) → (j == k) ≡ same
+        → (if same then None else part_at mid j t) ≡ parts_after (meets old (given_up k)) j (part_at old.transfers j) t
+    part_here lost j t settled true same = rw same refl
+    part_here lost j t settled false same =
+        settled
+        ∙ ap (λ (f : EndCause). if ends_known f (gone_by f old.config (tables_of old)) (place old.connections j) then None else part_at old.transfers j t) (sym lost)
+        ∙ part_at-silent (meets old (given_up k)) j (place old.connections j) (part_at old.transfers j) t refl refl refl same
 
     stream_here : (j : ℕ) (same : Bool) → (if same then None else place old.streams j)
         ≡ (if same then None else option_map (λ held. held) (place old.streams j))

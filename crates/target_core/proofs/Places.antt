@@ -6,7 +6,7 @@ use Rattle.std.proofs.lemmas.Bool.{eqb-true}
 use Rattle.number_table.specs.Table.{place, with_value, without}
 use Rattle.number_table.proofs.Tables.{least_free-Some, length-with_value, length-without, place_within, place-map, place-replicate, place-with_value, place-without}
 use Rattle.std.proofs.lemmas.List.{length-map}
-use Rattle.target_core.specs.Connection.{ConnectionState}
+use Rattle.target_core.specs.Connection.{KnownConnection}
 use Rattle.target_decision.specs.World.{connections_max}
 use Rattle.target_core.specs.Target.{IsTarget}
 
@@ -14,7 +14,7 @@ abbrev Streams : Type 0
 Streams = List (Option (List ℕ))
 
 abbrev Connections : Type 0
-Connections = List (Option ConnectionState)
+Connections = List (Option KnownConnection)
 
 -- the fact of the tables alone
 abbrev pub Alike : {A B : Type 0} → List (Option A) → List (Option B) → Type 0
@@ -51,7 +51,7 @@ put_alike streams connections k a b within_streams within alike j =
     here true = refl
     here false = alike j
 
-pub open_is_target : (streams : Streams) (connections : Connections) (k : ℕ) (held : List ℕ) (c : ConnectionState) → IsTarget streams connections
+pub open_is_target : (streams : Streams) (connections : Connections) (k : ℕ) (held : List ℕ) (c : KnownConnection) → IsTarget streams connections
     → position is_none connections ≡ Some k → IsTarget (with_value streams k held) (with_value connections k c)
 open_is_target streams connections k held c is free =
     let empty = least_free-Some connections k free in
@@ -91,7 +91,7 @@ stream_is_target streams connections k held after is known = record {
 }
 
 -- a connection that is known changes
-pub connection_is_target : (streams : Streams) (connections : Connections) (k : ℕ) (c after : ConnectionState) → IsTarget streams connections
+pub connection_is_target : (streams : Streams) (connections : Connections) (k : ℕ) (c after : KnownConnection) → IsTarget streams connections
     → place connections k ≡ Some c → IsTarget streams (with_value connections k after)
 connection_is_target streams connections k c after is known = record {
   places = length-with_value connections k after ∙ is.places;
@@ -104,7 +104,7 @@ mapped_none f None = refl
 mapped_none f (Some a) = refl
 
 -- all connections change
-pub map_is_target : (streams : Streams) (connections : Connections) (f : ConnectionState → ConnectionState) → IsTarget streams connections
+pub map_is_target : (streams : Streams) (connections : Connections) (f : KnownConnection → KnownConnection) → IsTarget streams connections
     → IsTarget streams (map (option_map f) connections)
 map_is_target streams connections f is = record {
   places = length-map connections (option_map f) ∙ is.places;

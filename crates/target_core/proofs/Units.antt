@@ -30,6 +30,7 @@ is_new t c disks opening alone is over = record {
     clock = over.clock;
     streams = over.streams;
     connections = over.connections;
+    transfers = over.transfers;
     rows = over.rows;
     controllers = over.controllers;
     disks = refl;

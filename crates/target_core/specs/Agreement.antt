@@ -2,9 +2,10 @@
 -- and that were taken from it.
 use Rattle.std.specs.Prelude.{◌≡◌, ℕ, Bool, ◌==◌, ◌||◌, ◌&&◌, List, [], ◌∷◌, ◌++◌, Option, Some, None, Result, MatchOption, MatchResult, if◌then◌else◌, take}
 use Rattle.number_table.specs.Table.{place}
+use Rattle.data_transfer.specs.Parts.{part_at}
 use Rattle.config_edits.specs.declared.edit.Edit.{Edit}
 use Rattle.config_edits.specs.declared.fault.EditFault.{EditFault}
-use Rattle.io_queue.specs.Act.{Medium}
+use Rattle.io_queue.specs.Act.{DiskOutcome}
 use Rattle.io_queue.specs.Execution.{Tells, contents_at}
 use Rattle.pdu_cut.specs.declared.side.Side.TheVariants.{Target}
 use Rattle.pdu_cut.specs.Front.{Front, incomplete, whole, faulty, front}
@@ -15,12 +16,12 @@ use Rattle.target_core.specs.declared.fault.OpenFault.{OpenFault}
 use Rattle.target_core.specs.declared.fault.StepFault.{StepFault}
 use Rattle.target_core.specs.declared.fault.Stepped.{Stepped}
 use Rattle.target_core.specs.declared.fault.Stepped.TheVariants.{Idle, One, Ended}
-use Rattle.target_core.specs.Connection.{ConnectionState}
-use Rattle.target_core.specs.Target.{TargetState, conversation_at}
+use Rattle.target_core.specs.Connection.{KnownConnection}
+use Rattle.target_core.specs.Target.{TargetState, connection_at}
 use Rattle.target_views.specs.Views.{ShowHistory}
 use Rattle.target_history.specs.Event.{Event, edited, gives_up, opened, opens, stepped, given_up}
-use Rattle.target_history.specs.Happening.{DisksAct, Happening}
-use Rattle.target_history.specs.History.{Opening, blocks_of, clock_of, config_of, controller_of, conversation_of, happened, has_ended, is_known, last_front, meets_after, pdus_of, row_of, sent}
+use Rattle.target_history.specs.Occurrence.{DisksAct, Occurrence}
+use Rattle.target_history.specs.History.{Opening, blocks_of, clock_of, config_of, controller_of, connection_of, happened, has_ended, is_known, last_front, meets_after, part_of, pdus_of, row_of, sent}
 
 -- what was found last, where it is a fault, stands at the front of the bytes that are held
 abbrev pub StandsAt : Front → List ℕ → Type 0
@@ -35,20 +36,21 @@ StreamAgrees None pdus last received = received ≡ []
 StreamAgrees (Some held) pdus last received = BeginsWith Target received pdus held × StandsAt last held
 
 -- what it was sent is what was taken and then its output
-abbrev pub OutputAgrees : Option ConnectionState → List ℕ → List ℕ → Type 0
+abbrev pub OutputAgrees : Option KnownConnection → List ℕ → List ℕ → Type 0
 OutputAgrees None was_sent taken = (was_sent ≡ []) × (taken ≡ [])
 OutputAgrees (Some c) was_sent taken = was_sent ≡ taken ++ c.output
 
 -- A target agrees with what happened to it, with what each connection received since it was opened, and
 -- with what was taken from it since. Its discovery view shows each host the records of the configuration,
 -- and counts the edits that changed them; each connection is known where the history says so, and has come
--- as far as it says; each controller lives where the history says so, and is as it says; each disk holds the units
+-- as far as it says, and has the transfers that it says; each controller lives where the history says so, and is as it says; each disk holds the units
 -- that it opened with, written over in the order of the events.
-pub record AgreesWith (t : TargetState) (disks : Opening) (happened : List Happening) (received taken : ℕ → List ℕ) : Type 0 where
+pub record AgreesWith (t : TargetState) (disks : Opening) (happened : List Occurrence) (received taken : ℕ → List ℕ) : Type 0 where
   pub config : t.config ≡ config_of disks happened
   pub clock : t.clock ≡ clock_of happened
   pub shown : ShowHistory t.shown disks happened
-  pub conversation : (k : ℕ) → conversation_at t k ≡ conversation_of happened k
+  pub connection : (k : ℕ) → connection_at t k ≡ connection_of happened k
+  pub part : (k ttag : ℕ) → part_at t.transfers k ttag ≡ part_of happened k ttag
   pub row : (c : ℕ) → place t.rows c ≡ row_of happened c
   pub controller : (c : ℕ) → place t.controllers c ≡ controller_of happened c
   pub stream : (k : ℕ) → StreamAgrees (place t.streams k) (pdus_of happened k) (last_front happened k) (received k)
@@ -99,11 +101,11 @@ front_of (Some held) = front Target held
 -- with, that is what they may do at this event of it, and what a Flush, or a write with FUA, that is answered with success
 -- was to make last has been synced.
 pub record AgreesAfterStep (k : ℕ) (found : Front) (old new : TargetState) : Type 0 where
-  pub medium : Medium
-  pub tells : Tells medium old.disks new.disks
+  pub disk_outcome : DiskOutcome
+  pub tells : Tells disk_outcome old.disks new.disks
   pub did : (disks : Opening) (events : List Event) (received taken : ℕ → List ℕ) → Agrees old disks events received taken
-      → DisksAct (meets_after disks (happened disks events) (stepped k found medium)) old.disks new.disks
-  pub agrees : AgreesAfter (stepped k found medium) old new
+      → DisksAct (meets_after disks (happened disks events) (stepped k found disk_outcome)) old.disks new.disks
+  pub agrees : AgreesAfter (stepped k found disk_outcome) old new
 
 abbrev pub AgreesByStep : ℕ → Stepped → TargetState → TargetState → Type 0
 AgreesByStep k Idle old new = AgreesStill old new

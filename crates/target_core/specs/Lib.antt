@@ -1,5 +1,5 @@
 pub mod Agreement
 pub mod Connection
 pub mod Fault
-pub mod Moves
 pub mod Target
+pub mod Transition

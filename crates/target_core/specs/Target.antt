@@ -6,6 +6,8 @@ use Rattle.config_rules.specs.Configuration.{Configuration, disks_alone}
 use Rattle.config_lists.specs.declared.port.Port.{Port}
 use Rattle.controller_tables.specs.Controllers.{controller_places}
 use Rattle.block_store.specs.Stored.{Stored}
+use Rattle.data_transfer.specs.Part.{Part}
+use Rattle.data_transfer.specs.Parts.{Stand, no_parts, part_at}
 use Rattle.io_queue.specs.Execution.{contents_at, sizes}
 use Rattle.pdu_cut.specs.declared.side.Side.TheVariants.{Target}
 use Rattle.pdu_cut.specs.Side.{capacity_of}
@@ -15,26 +17,28 @@ use Rattle.fabrics_connect.specs.Controllers.{no_controllers}
 use Rattle.target_core.specs.declared.fault.NoConn.{NoConn}
 use Rattle.target_core.specs.declared.fault.OpenFault.{OpenFault}
 use Rattle.target_core.specs.declared.fault.OpenFault.TheVariants.{NoSuchPort, Full}
-use Rattle.target_core.specs.Connection.{ConnectionState}
+use Rattle.target_core.specs.Connection.{KnownConnection}
 use Rattle.target_views.specs.Views.{ShowFirst, ViewsShown, pages_shown}
 use Rattle.target_decision.specs.declared.controller.Controller.{Controller}
-use Rattle.target_decision.specs.declared.session.Conversation.{Conversation}
+use Rattle.target_decision.specs.declared.session.ConnectionState.{ConnectionState}
+use Rattle.target_decision.specs.declared.transfer.WaitingCommand.{WaitingCommand}
 use Rattle.target_decision.specs.Session.{is_ended}
 use Rattle.admin_queue.specs.Pages.{Pages}
 use Rattle.target_decision.specs.World.{World, connections_max}
 use Rattle.target_history.specs.Event.{Event}
-use Rattle.target_history.specs.Happening.{Happening}
+use Rattle.target_history.specs.Occurrence.{Occurrence}
 use Rattle.target_history.specs.History.{Opening}
 
 -- the configuration, what the views of it show, and the clock, in ms; of each connection that is known the
--- bytes received and not consumed, and what else is known of it; of each controller that lives what all
+-- bytes received and not consumed, what else is known of it, and its transfers; of each controller that lives what all
 -- connections may see of it, and what its own admin queue alone uses; and the disks
 pub record TargetState : Type 0 where
   pub config : Configuration
   pub shown : ViewsShown
   pub clock : ℕ
   pub streams : List (Option (List ℕ))
-  pub connections : List (Option ConnectionState)
+  pub connections : List (Option KnownConnection)
+  pub transfers : List (List (Option (Part WaitingCommand)))
   pub rows : List (Option Row)
   pub controllers : List (Option Controller)
   pub disks : List Stored
@@ -46,6 +50,7 @@ pub record IsOver (c : Configuration) (stored : List Stored) (t : TargetState) :
   pub clock : t.clock ≡ 0
   pub streams : t.streams ≡ replicate connections_max None
   pub connections : t.connections ≡ replicate connections_max None
+  pub transfers : Stand t.transfers no_parts
   pub rows : t.rows ≡ no_controllers
   pub controllers : t.controllers ≡ replicate controller_places None
   pub disks : t.disks ≡ stored
@@ -56,20 +61,20 @@ pub record IsNewTarget (opening : Opening) (t : TargetState) : Type 0 where
   pub units : map (λ (s : Stored). s.contents) t.disks ≡ opening
 
 -- what holds of each target: it has a stream for each connection that is known, of those that there may be
-pub record IsTarget (streams : List (Option (List ℕ))) (connections : List (Option ConnectionState)) : Type 0 where
+pub record IsTarget (streams : List (Option (List ℕ))) (connections : List (Option KnownConnection)) : Type 0 where
   pub places : length connections ≡ connections_max
   pub alike : (k : ℕ) → is_none (place streams k) ≡ is_none (place connections k)
   pub within : length streams ≡ connections_max
 
 -- .. and the disks of its configuration
-pub record IsSound (config : Configuration) (disks : List Stored) (streams : List (Option (List ℕ))) (connections : List (Option ConnectionState)) : Type 0 where
+pub record IsSound (config : Configuration) (disks : List Stored) (streams : List (Option (List ℕ))) (connections : List (Option KnownConnection)) : Type 0 where
   pub tables : IsTarget streams connections
   pub units : config.units ≡ sizes disks
 
 -- ---- what a decision may look at
 
-abbrev pub conversation_at : TargetState → ℕ → Option Conversation
-conversation_at t k = option_map (λ (c : ConnectionState). c.conversation) (place t.connections k)
+abbrev pub connection_at : TargetState → ℕ → Option ConnectionState
+connection_at t k = option_map (λ (c : KnownConnection). c.state) (place t.connections k)
 
 abbrev pub pages_at : TargetState → Pages
 pages_at t = pages_shown t.shown
@@ -82,11 +87,12 @@ world_at t = record {
   controller = λ c. place t.controllers c;
 }
 
-abbrev pub meets : TargetState → Event → Happening
+abbrev pub meets : TargetState → Event → Occurrence
 meets t event = record {
   event = event;
   world = world_at t;
-  conversation = conversation_at t;
+  connection = connection_at t;
+  parts = part_at t.transfers;
   clock = t.clock;
   blocks = contents_at t.disks;
 }
@@ -96,7 +102,7 @@ meets t event = record {
 abbrev pub with_stream : TargetState → ℕ → List ℕ → TargetState
 with_stream t k held = record t { streams = with_value t.streams k held }
 
-abbrev pub with_connection : TargetState → ℕ → ConnectionState → TargetState
+abbrev pub with_connection : TargetState → ℕ → KnownConnection → TargetState
 with_connection t k c = record t { connections = with_value t.connections k c }
 
 -- the configuration's port of this number
@@ -113,25 +119,25 @@ open_fault t port =
     if is_none (port_of t.config port) then Some NoSuchPort else
     if is_none (free_number t) then Some Full else None
 
-abbrev pub is_ended_at : Option ConnectionState → Bool
+abbrev pub is_ended_at : Option KnownConnection → Bool
 is_ended_at None = false
-is_ended_at (Some c) = is_ended c.conversation.session
+is_ended_at (Some c) = is_ended c.state.session
 
 -- how many bytes a connection may receive: none once it is ended
-abbrev pub room_of : List ℕ → ConnectionState → ℕ
-room_of held c = if is_ended c.conversation.session then 0 else capacity_of Target - length held
+abbrev pub room_of : List ℕ → KnownConnection → ℕ
+room_of held c = if is_ended c.state.session then 0 else capacity_of Target - length held
 
-abbrev pub room_at : Option (List ℕ) → Option ConnectionState → ℕ
+abbrev pub room_at : Option (List ℕ) → Option KnownConnection → ℕ
 room_at None o = 0
 room_at (Some held) None = 0
 room_at (Some held) (Some c) = room_of held c
 
-abbrev pub output_at : Option ConnectionState → List ℕ
+abbrev pub output_at : Option KnownConnection → List ℕ
 output_at None = []
 output_at (Some c) = c.output
 
 -- a connection receives as much of a piece as it has room for
-abbrev pub ReceivesAt : ℕ → Option (List ℕ) → Option ConnectionState → TargetState → List ℕ → Result ℕ NoConn → TargetState → Type 0
+abbrev pub ReceivesAt : ℕ → Option (List ℕ) → Option KnownConnection → TargetState → List ℕ → Result ℕ NoConn → TargetState → Type 0
 ReceivesAt k None o old piece result new = IsErr result × (new ≡ old)
 ReceivesAt k (Some held) None old piece result new = IsErr result × (new ≡ old)
 ReceivesAt k (Some held) (Some c) old piece result new =
@@ -139,10 +145,10 @@ ReceivesAt k (Some held) (Some c) old piece result new =
     (result ≡ Ok taken) × (new ≡ with_stream old k (held ++ take taken piece))
 
 -- the first bytes of a connection's output are taken away
-abbrev pub TakenAt : ℕ → Option ConnectionState → TargetState → ℕ → TargetState → Type 0
+abbrev pub TakenAt : ℕ → Option KnownConnection → TargetState → ℕ → TargetState → Type 0
 TakenAt k None old len new = new ≡ old
 TakenAt k (Some c) old len new =
-    new ≡ with_connection old k (record { conversation = c.conversation; output = drop len c.output })
+    new ≡ with_connection old k (record { state = c.state; output = drop len c.output })
 
 abbrev pub is_incomplete : Front → Bool
 is_incomplete incomplete = true
@@ -150,5 +156,5 @@ is_incomplete (whole pdu) = false
 is_incomplete (faulty fault head) = false
 
 -- whether a step has nothing to do: no whole PDU and no fault is there, or the connection is ended
-abbrev pub is_idle : List ℕ → ConnectionState → Bool
-is_idle held c = is_ended c.conversation.session || is_incomplete (front Target held)
+abbrev pub is_idle : List ℕ → KnownConnection → Bool
+is_idle held c = is_ended c.state.session || is_incomplete (front Target held)

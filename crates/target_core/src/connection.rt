@@ -1,34 +1,39 @@
 //! One connection: how far it has come, and what it has to send.
-ghost use Rattle.std.specs.Prelude.{◌≡◌, ◌≤◌, OnErr, OnOk, drop, length};
+ghost use Rattle.std.specs.Prelude.{◌≡◌, ◌<◌, ◌≤◌, OnErr, OnOk, drop, length};
 ghost use Rattle.controller_tables.specs.Controllers.{is_gone};
+ghost use Rattle.data_transfer.specs.Parts.{Stand, part_at};
 ghost use Rattle.io_queue.specs.Execution.{sizes};
 ghost use Rattle.pdu_cut.specs.Cut.{front_shown};
 ghost use Rattle.target_core.specs.Connection.{Acts, fresh_on, settled};
+ghost use Rattle.target_decision.specs.Carry.{CarriesWell, brought_by, tags_after, with_own};
 ghost use Rattle.target_decision.specs.Decision.{PerformsWithin, head_of};
 ghost use Rattle.target_decision.specs.Session.{is_ended};
 ghost use Rattle.target_decision.specs.World.{world_in};
 
 use block_store::{Disk, Store};
 use bytes::BytesMut;
+use data_transfer::Transfers;
 use pdu_cut::Cut;
 use std::alloc::{AllocError, Global};
 use std::marker::Model;
-use target_decision::{Conversation, Decision, Session, World, perform};
-use target_history::Ending;
+use target_decision::{
+    ConnectionState, Decision, Session, WaitingCommand, World, perform, prepare,
+};
+use target_history::EndCause;
 
 /// A connection that is known.
 #[derive(Drop)]
 pub(crate) struct Connection {
-    conversation: Conversation,
+    state: ConnectionState,
     output: BytesMut,
 }
 
 impl Model for Connection {
-    ghost use Rattle.target_core.specs.Connection.{ConnectionState};
+    ghost use Rattle.target_core.specs.Connection.{KnownConnection};
 
-    ghost Value = { ConnectionState };
+    ghost Value = { KnownConnection };
 
-    ghost view = { λ c. record { conversation = c.conversation; output = c.output.items } };
+    ghost view = { λ c. record { state = c.state; output = c.output.items } };
 }
 
 impl Connection {
@@ -37,21 +42,21 @@ impl Connection {
         ensures { result ≡ fresh_on port }
     {
         Connection {
-            conversation: Conversation::opened_on(port),
+            state: ConnectionState::opened_on(port),
             output: BytesMut::new(alloc),
         }
     }
 
-    pub(crate) fn conversation(&self) -> &Conversation
-        ensures { result.now ≡ self.now.conversation }
+    pub(crate) fn state(&self) -> &ConnectionState
+        ensures { result.now ≡ self.now.state }
     {
-        &self.conversation
+        &self.state
     }
 
     pub(crate) fn is_ended(&self) -> bool
-        ensures { result ≡ is_ended self.now.conversation.session }
+        ensures { result ≡ is_ended self.now.state.session }
     {
-        self.conversation.session.is_ended()
+        self.state.session.is_ended()
     }
 
     /// What is to be sent and was not taken.
@@ -65,44 +70,63 @@ impl Connection {
     pub(crate) fn taken(&mut self, len: usize)
         requires { len ≤ length self.old.output }
         ensures { self.new ≡ record {
-          conversation = self.old.conversation;
+          state = self.old.state;
           output = drop len self.old.output;
         } }
     {
         self.output.advance(len);
     }
 
-    /// Does what was decided on this front, with these disks. All growth comes first: want of memory
-    /// changes nothing.
+    /// Does what was decided on this front, with these disks and its own transfers, of those of all. All
+    /// growth comes first: want of memory changes nothing.
     pub(crate) fn act<D: Disk>(
         &mut self,
         world: &World<'_>,
         stores: &mut [Store<D>],
+        transfers: &mut Transfers<WaitingCommand>,
+        number: usize,
         decision: &Decision,
         front: &Cut<'_>,
     ) -> Result<(), AllocError>
+        requires known { number < 64 }
         requires head { length (head_of (front_shown front.now)) ≤ 128 }
-        requires within { PerformsWithin (sizes stores.old) decision.now (front_shown front.now) }
-        ensures acts { OnOk result (Acts (world_in world.now) decision.now (front_shown front.now)
+        requires well { CarriesWell (part_at transfers.old number) decision.now (front_shown front.now) }
+        requires within { PerformsWithin (sizes stores.old) decision.now
+            (brought_by (part_at transfers.old number) decision.now (front_shown front.now)) }
+        ensures acts { let brought = brought_by (part_at transfers.old number) decision.now (front_shown front.now) in
+            OnOk result (Acts (world_in world.now) decision.now (front_shown front.now) brought
             self.old self.new stores.old stores.new) }
-        ensures err { OnErr result ((self.new ≡ self.old) × (stores.new ≡ stores.old)) }
+        ensures parts { let tags = tags_after decision.now (front_shown front.now) (part_at transfers.old number) in
+            OnOk result (Stand transfers.new (with_own (part_at transfers.old) number tags)) }
+        ensures err { OnErr result ((self.new ≡ self.old) × (stores.new ≡ stores.old) × (transfers.new ≡ transfers.old)) }
     {
-        perform(
+        let carried = prepare(
             world,
-            stores,
-            &mut self.conversation,
+            transfers,
+            number,
+            &self.state.session,
             &mut self.output,
             decision,
             front,
-        )
+        )?;
+        perform(
+            world,
+            stores,
+            &mut self.state,
+            &mut self.output,
+            decision,
+            front,
+            &carried,
+        );
+        Ok(())
     }
 
     /// Ends it where this ends it, with these controllers, by their identifiers.
-    pub(crate) fn settle(&mut self, ending: &Ending, gone: &[bool])
-        ensures { self.new ≡ settled ending.now (is_gone gone.now) self.old }
+    pub(crate) fn settle(&mut self, cause: &EndCause, gone: &[bool])
+        ensures { self.new ≡ settled cause.now (is_gone gone.now) self.old }
     {
-        if ending.ends(gone, &self.conversation) {
-            self.conversation.session = Session::Ended;
+        if cause.ends(gone, &self.state) {
+            self.state.session = Session::Ended;
         }
     }
 }

@@ -8,10 +8,11 @@ ghost use Rattle.config_rules.specs.Configuration.{are_disks};
 ghost use Rattle.controller_tables.specs.Controllers.{controller_places};
 ghost use Rattle.fabrics_connect.specs.Controllers.{no_controllers};
 ghost use Rattle.target_core.specs.Agreement.{Agrees, AgreesAfter, EditAgrees, EndAgrees, EndedAgrees, OpenAgrees, ReceiveAgrees, StepAgrees, TakenAgrees, nothing};
+ghost use Rattle.data_transfer.specs.Parts.{Stand, no_parts, part_at};
 ghost use Rattle.io_queue.specs.Execution.{sizes};
 ghost use Rattle.pdu_cut.specs.Cut.{front_shown};
-ghost use Rattle.target_core.specs.Moves.{ActedAt, ActsAt, CanConsume, Moves, StepsAt, stepped_by};
-ghost use Rattle.target_decision.specs.Begin.{NamesWell, row_decided};
+ghost use Rattle.target_core.specs.Transition.{ActedAt, ActsAt, CanConsume, Transition, StepsAt, stepped_by};
+ghost use Rattle.target_decision.specs.Carry.{CarriesWell, brought_by, tags_after, with_own};
 ghost use Rattle.target_decision.specs.Decision.{PerformsWithin, head_of, is_end};
 ghost use Rattle.target_decision.specs.World.{connections_max, world_in};
 ghost use Rattle.target_core.specs.Target.{free_number, is_ended_at, is_incomplete, open_fault, output_at, room_at, IsNewTarget, IsOver, ReceivesAt, TakenAt};
@@ -25,14 +26,16 @@ use crate::settle::settle;
 use crate::stream::Stream;
 use block_store::{Disk, Store};
 use controller_tables::{ControllerTables, consequence_of};
-use fabrics_connect::Row;
+use data_transfer::Transfers;
 use number_table::NumberTable;
 use nvt_config::{Config, Edit, EditFault, NewFault};
 use pdu_cut::Cut;
 use std::alloc::{AllocError, Global};
 use std::marker::Model;
-use target_decision::{CONNECTIONS_MAX, Decision, World, consumed_of, decide, new_row};
-use target_history::Ending;
+use target_decision::{
+    CONNECTIONS_MAX, Decision, OwnTransfers, WaitingCommand, World, consumed_of, decide, new_row,
+};
+use target_history::EndCause;
 use target_views::Views;
 
 /// A target. It serves up to 64 connections, each by the least number that was free when it was
@@ -45,6 +48,7 @@ pub struct Target<D: Disk> {
     clock: u64,
     streams: NumberTable<Stream>,
     connections: NumberTable<Connection>,
+    transfers: Transfers<WaitingCommand>,
     controllers: ControllerTables,
     stores: Vec<Store<D>>,
 }
@@ -60,6 +64,7 @@ impl<D: Disk> Model for Target<D> {
       clock = t.clock;
       streams = t.streams;
       connections = t.connections;
+      transfers = t.transfers;
       rows = t.controllers.rows;
       controllers = t.controllers.own;
       disks = t.stores.items;
@@ -100,7 +105,7 @@ impl<D: Disk + Drop> Target<D> {
     /// Makes the edit, or says why not. After a refusal, `Memory` included, the target is as it was.
     pub fn edit(&mut self, edit: &Edit) -> Result<(), EditFault>
         ensures ok { OnOk result (accept self.old.config edit.now ≡ Ok self.new.config) }
-        ensures moves { OnOk result (Moves (edited edit.now) self.old self.new) }
+        ensures transition { OnOk result (Transition (edited edit.now) self.old self.new) }
         ensures accepted { OnOk (accept self.old.config edit.now)
             (IsOkUnless result EditFault.Memory) }
         ensures refused { IfErr (accept self.old.config edit.now) (λ fault. result ≡ Err fault) }
@@ -116,7 +121,7 @@ impl<D: Disk + Drop> Target<D> {
         ensures refused { MatchOption (open_fault self.old port)
             (IsOkUnless result OpenFault.Memory) (λ fault. result ≡ Err fault) }
         ensures opened { IfOk result (λ k.
-            (free_number self.old ≡ Some k) × Moves (opened port k) self.old self.new) }
+            (free_number self.old ≡ Some k) × Transition (opened port k) self.old self.new) }
         ensures number { IfOk result (λ k. k < connections_max) }
         ensures err { OnErr result (self.new ≡ self.old) }
         ensures agrees { OpenAgrees port self.old result self.new }
@@ -185,8 +190,8 @@ impl<D: Disk + Drop> Target<D> {
     /// I/O connections end. Its number is free again. A number that is not known changes nothing.
     #[tactic(auto, using(crate::proofs::Calls::end_keeps))]
     pub fn end(&mut self, k: usize)
-        ensures moves { MatchOption (place self.old.connections k) (self.new ≡ self.old)
-            (λ c. Moves (given_up k) self.old self.new) }
+        ensures transition { MatchOption (place self.old.connections k) (self.new ≡ self.old)
+            (λ c. Transition (given_up k) self.old self.new) }
         ensures agrees { EndAgrees k self.old self.new }
     {
         self.give_up(k);
@@ -194,9 +199,9 @@ impl<D: Disk + Drop> Target<D> {
 
     /// Sets the clock, in ms, which never goes back, and ends each controller whose Keep Alive Timer
     /// has run out.
-    #[tactic(auto, using(crate::proofs::Agreements::moves_agree))]
+    #[tactic(auto, using(crate::proofs::Agreements::transition_agrees))]
     pub fn tick(&mut self, now_ms: u64)
-        ensures moves { Moves (ticked now_ms) self.old self.new }
+        ensures transition { Transition (ticked now_ms) self.old self.new }
         ensures agrees { AgreesAfter (ticked now_ms) self.old self.new }
     {
         self.set_clock(now_ms);
@@ -224,6 +229,7 @@ impl<D: Disk + Drop> Target<D> {
                 Parts {
                     streams,
                     connections,
+                    transfers,
                     controllers,
                     views,
                 },
@@ -234,6 +240,7 @@ impl<D: Disk + Drop> Target<D> {
                 clock: 0,
                 streams,
                 connections,
+                transfers,
                 controllers,
                 stores,
             }),
@@ -243,7 +250,7 @@ impl<D: Disk + Drop> Target<D> {
 
     fn make_edit(&mut self, edit: &Edit) -> Result<(), EditFault>
         ensures ok { OnOk result (accept self.old.config edit.now ≡ Ok self.new.config) }
-        ensures moves { OnOk result (Moves (edited edit.now) self.old self.new) }
+        ensures transition { OnOk result (Transition (edited edit.now) self.old self.new) }
         ensures accepted { OnOk (accept self.old.config edit.now)
             (IsOkUnless result EditFault.Memory) }
         ensures refused { IfErr (accept self.old.config edit.now) (λ fault. result ≡ Err fault) }
@@ -252,9 +259,10 @@ impl<D: Disk + Drop> Target<D> {
         self.views.edit(&mut self.config, edit)?;
         settle(
             &mut self.connections,
+            &mut self.transfers,
             &mut self.controllers,
             &self.config,
-            &Ending::of_edit(edit),
+            &EndCause::of_edit(edit),
         );
         Ok(())
     }
@@ -273,7 +281,7 @@ impl<D: Disk + Drop> Target<D> {
         ensures refused { MatchOption (open_fault self.old port)
             (IsOkUnless result OpenFault.Memory) (λ fault. result ≡ Err fault) }
         ensures opened { IfOk result (λ k.
-            (free_number self.old ≡ Some k) × Moves (opened port k) self.old self.new) }
+            (free_number self.old ≡ Some k) × Transition (opened port k) self.old self.new) }
         ensures number { IfOk result (λ k. k < connections_max) }
         ensures err { OnErr result (self.new ≡ self.old) }
     {
@@ -287,6 +295,7 @@ impl<D: Disk + Drop> Target<D> {
             Ok(stream) => {
                 self.streams.put(k, stream);
                 self.connections.put(k, Connection::new(self.alloc, port));
+                self.transfers.drop_queue(k);
                 Ok(k)
             }
             Err(AllocError) => Err(OpenFault::Memory),
@@ -327,27 +336,35 @@ impl<D: Disk + Drop> Target<D> {
         if is_incomplete(&front) {
             return Ok(Stepped::Idle);
         }
-        let before = *connection.conversation();
+        let before = *connection.state();
         let pages = self.views.pages();
         let world = self.controllers.world(&pages, &self.config);
-        let decision = decide(&world, &before, &front);
+        let own = OwnTransfers {
+            transfers: &self.transfers,
+            connection: k,
+        };
+        let decision = decide(&world, &before, &own, &front);
         let len = consumed_of(&front);
+        let Ok(row) = new_row(self.alloc, before.port, &decision, &front) else {
+            return Err(StepFault::Memory);
+        };
         match act(
             &mut self.connections,
             &mut self.stores,
+            &mut self.transfers,
             k,
-            self.alloc,
             &world,
             &decision,
             &front,
         ) {
-            Ok(row) => {
+            Ok(()) => {
                 consume(&mut self.streams, k, len);
                 settle(
                     &mut self.connections,
+                    &mut self.transfers,
                     &mut self.controllers,
                     &self.config,
-                    &Ending::of_decision(&before.session, &decision),
+                    &EndCause::of_decision(&before.session, &decision),
                 );
                 self.controllers
                     .change(self.clock, &consequence_of(&decision), row);
@@ -369,31 +386,34 @@ impl<D: Disk + Drop> Target<D> {
 
     fn give_up(&mut self, k: usize)
         ensures { MatchOption (place self.old.connections k) (self.new ≡ self.old)
-            (λ c. Moves (given_up k) self.old self.new) }
+            (λ c. Transition (given_up k) self.old self.new) }
     {
         let Some(connection) = self.connections.get(k) else {
             return;
         };
-        let ending = Ending::of_loss(&connection.conversation().session);
+        let cause = EndCause::of_loss(&connection.state().session);
         settle(
             &mut self.connections,
+            &mut self.transfers,
             &mut self.controllers,
             &self.config,
-            &ending,
+            &cause,
         );
         drop(self.streams.remove(k));
         drop(self.connections.remove(k));
+        self.transfers.drop_queue(k);
     }
 
     fn set_clock(&mut self, now_ms: u64)
-        ensures { Moves (ticked now_ms) self.old self.new }
+        ensures { Transition (ticked now_ms) self.old self.new }
     {
         self.clock = self.clock.max(now_ms);
         settle(
             &mut self.connections,
+            &mut self.transfers,
             &mut self.controllers,
             &self.config,
-            &Ending::Clock(self.clock),
+            &EndCause::Clock(self.clock),
         );
     }
 }
@@ -402,6 +422,7 @@ impl<D: Disk + Drop> Target<D> {
 struct Parts {
     streams: NumberTable<Stream>,
     connections: NumberTable<Connection>,
+    transfers: Transfers<WaitingCommand>,
     controllers: ControllerTables,
     views: Views,
 }
@@ -412,6 +433,7 @@ impl Parts {
         ensures streams { IfOk result (λ parts. parts.streams ≡ replicate connections_max None) }
         ensures connections { IfOk result (λ parts.
             parts.connections ≡ replicate connections_max None) }
+        ensures transfers { IfOk result (λ parts. Stand parts.transfers no_parts) }
         ensures rows { IfOk result (λ parts. parts.controllers.rows ≡ no_controllers) }
         ensures own { IfOk result (λ parts.
             parts.controllers.own ≡ replicate controller_places None) }
@@ -420,6 +442,7 @@ impl Parts {
         Ok(Parts {
             streams: NumberTable::new(alloc, CONNECTIONS_MAX)?,
             connections: NumberTable::new(alloc, CONNECTIONS_MAX)?,
+            transfers: Transfers::new(alloc)?,
             controllers: ControllerTables::new(alloc)?,
             views: Views::new(alloc, config)?,
         })
@@ -441,32 +464,34 @@ fn is_incomplete(front: &Cut<'_>) -> bool
     matches!(front, Cut::More)
 }
 
-// Does what was decided to its own connection, where that is known, with these disks, and makes the row
-// of the controller that it begins.
+// Does what was decided to its own connection, where that is known, with these disks and its transfers.
 fn act<D: Disk>(
     connections: &mut NumberTable<Connection>,
     stores: &mut Vec<Store<D>>,
+    transfers: &mut Transfers<WaitingCommand>,
     k: usize,
-    alloc: Global,
     world: &World<'_>,
     decision: &Decision,
     front: &Cut<'_>,
-) -> Result<Option<Row>, AllocError>
+) -> Result<(), AllocError>
+    requires number { k < 64 }
     requires head { length (head_of (front_shown front.now)) ≤ 128 }
-    requires named { NamesWell decision.now (front_shown front.now) }
-    requires within { PerformsWithin (sizes stores.old.items) decision.now (front_shown front.now) }
-    ensures acts { OnOk result (ActsAt k (world_in world.now) decision.now (front_shown front.now)
+    requires well { CarriesWell (part_at transfers.old k) decision.now (front_shown front.now) }
+    requires within { PerformsWithin (sizes stores.old.items) decision.now
+        (brought_by (part_at transfers.old k) decision.now (front_shown front.now)) }
+    ensures acts { let brought = brought_by (part_at transfers.old k) decision.now (front_shown front.now) in
+        OnOk result (ActsAt k (world_in world.now) decision.now (front_shown front.now) brought
         (place connections.old k) connections.old connections.new stores.old.items stores.new.items) }
-    ensures row { IfOk result (λ row. MatchOption (place connections.old k) (row ≡ None)
-        (λ c. row ≡ row_decided decision.now c.conversation.port (front_shown front.now))) }
-    ensures err { OnErr result ((connections.new ≡ connections.old) × (stores.new.items ≡ stores.old.items)) }
+    ensures parts { let tags = tags_after decision.now (front_shown front.now) (part_at transfers.old k) in
+        OnOk result (MatchOption (place connections.old k) (transfers.new ≡ transfers.old)
+        (λ c. Stand transfers.new (with_own (part_at transfers.old) k tags))) }
+    ensures err { OnErr result ((connections.new ≡ connections.old)
+        × (stores.new.items ≡ stores.old.items) × (transfers.new ≡ transfers.old)) }
 {
     let Some(connection) = connections.get_mut(k) else {
-        return Ok(None);
+        return Ok(());
     };
-    let row = new_row(alloc, connection.conversation().port, decision, front)?;
-    connection.act(world, stores, decision, front)?;
-    Ok(row)
+    connection.act(world, stores, transfers, k, decision, front)
 }
 
 // Takes the first `len` bytes of its own stream, where that is known.

@@ -1,4 +1,5 @@
 pub mod Begins
+pub mod Carrying
 pub mod Deciding
 pub mod Performing
 pub mod Within

@@ -11,13 +11,13 @@ use Rattle.target_decision.specs.declared.decision.Answer.TheVariants as answer
 use Rattle.target_decision.specs.declared.decision.Decision.TheVariants as decision
 use Rattle.target_decision.specs.declared.decision.Reply.{Reply}
 use Rattle.target_decision.specs.Act.{Does}
-use Rattle.target_decision.specs.Decision.{bytes_at, format_of, response_of}
+use Rattle.target_decision.specs.Decision.{Brought, format_of, response_of}
 
-pub operation_done : (alignment : ℕ) (r : Reply) (op : Operation) (front : Front) (payload : Option (List ℕ)) (old new : List Stored) (output mid appended : List ℕ)
-    (status : Status) → r.answer ≡ answer.Performed op → Performs op (bytes_at front) (format_of r alignment) old new output mid status
-    → SyncsIn op new status → appended ≡ mid ++ response_of r status 0 → Does alignment (decision.Reply r) front payload old new output appended
-operation_done alignment r op front payload old new output mid appended status is h lasts sends = record {
-  medium = h.medium;
+pub operation_done : (alignment : ℕ) (r : Reply) (op : Operation) (front : Front) (b : Brought) (payload : Option (List ℕ)) (old new : List Stored) (output mid appended : List ℕ)
+    (status : Status) → r.answer ≡ answer.Performed op → Performs op b.bytes (format_of r alignment) old new output mid status
+    → SyncsIn op new status → appended ≡ mid ++ response_of r status 0 → Does alignment (decision.Reply r) front b payload old new output appended
+operation_done alignment r op front b payload old new output mid appended status is h lasts sends = record {
+  disk_outcome = h.disk_outcome;
   did = rw is (record { tells = h.tells; meets = h.meets; lasts = subst lasting h.answer lasts });
   sends = rw is (sends ∙ ap (λ s. s ++ response_of r status 0) h.sends ∙ append_assoc output shown (response_of r status 0)
       ∙ ap (λ s. output ++ (shown ++ response_of r s 0)) h.answer);
@@ -28,4 +28,4 @@ operation_done alignment r op front payload old new output mid appended status i
   lasting s = SyncsIn op new s
 
   shown : List ℕ
-  shown = returned_pdus (format_of r alignment) (returned op (contents_at old (disk_of op)) h.medium)
+  shown = returned_pdus (format_of r alignment) (returned op (contents_at old (disk_of op)) h.disk_outcome)

@@ -1,34 +1,43 @@
 -- A command capsule, by its submission queue entry and the data that it brings (Base 2.0, sections 5
 -- and 6).
-use Rattle.std.specs.Prelude.{ℕ, Bool, false, not, ◌==◌, ◌&&◌, List, length, Option, Some, None, Result, Ok, Err, if◌then◌else◌}
+use Rattle.std.specs.Prelude.{ℕ, nat_le, min, Bool, false, not, ◌==◌, ◌&&◌, List, length, Option, Some, None, Result, Ok, Err, if◌then◌else◌}
 use Rattle.admin_queue.specs.Commands.{admin}
 use Rattle.admin_queue.specs.Controller.{AdminController}
 use Rattle.admin_queue.specs.Outcome.{Outcome as AdminOutcome}
+use Rattle.data_transfer.specs.Parts.{count_of, has_command}
 use Rattle.fabrics_connect.specs.declared.row.Row.{Row}
 use Rattle.io_queue.specs.declared.beginning.Begun.{Begun}
 use Rattle.io_queue.specs.declared.beginning.Begun.TheVariants.{Perform, Receive}
+use Rattle.io_queue.specs.declared.operation.Operation.{Operation}
 use Rattle.io_queue.specs.Beginning.{begin as io_begin}
+use Rattle.io_queue.specs.Finishing.{finish as io_finish}
 use Rattle.nvt_fields.specs.declared.status.Status.{Status}
-use Rattle.nvt_fields.specs.Status.{invalid_field, command_sequence_error, sgl_type_invalid}
+use Rattle.nvt_fields.specs.Status.{command_id_conflict, command_sequence_error, invalid_field}
 use Rattle.pdu_codec.specs.declared.command.Property.{Property}
-use Rattle.pdu_codec.specs.Sqe.{opcode_of, fuse_of, fctype_of, property_of}
+use Rattle.pdu_codec.specs.Sqe.{cid_of, opcode_of, fuse_of, fctype_of, property_of}
 use Rattle.property_regs.specs.declared.regs.InvalidField.{InvalidField}
 use Rattle.property_regs.specs.declared.regs.Regs.{Regs}
 use Rattle.property_regs.specs.Regs.{change_by, configuration_set, property_get}
+use Rattle.target_decision.specs.declared.capsule.Served.TheVariants.{Answered, Asked}
+use Rattle.target_decision.specs.declared.capsule.Refusal.{Refusal}
+use Rattle.target_decision.specs.declared.capsule.Success.{Success}
 use Rattle.target_decision.specs.declared.decision.Answer.TheVariants as answer
 use Rattle.target_decision.specs.declared.consequence.Consequence.{Consequence}
 use Rattle.target_decision.specs.declared.consequence.Consequence.TheVariants as consequence
 use Rattle.target_decision.specs.declared.consequence.Update.TheVariants as update
+use Rattle.target_decision.specs.declared.decision.Decision.{Decision}
+use Rattle.target_decision.specs.declared.decision.Decision.TheVariants as decision
 use Rattle.target_decision.specs.declared.decision.Reply.{Reply}
-use Rattle.target_decision.specs.declared.session.Conversation.{Conversation}
+use Rattle.target_decision.specs.declared.session.ConnectionState.{ConnectionState}
 use Rattle.target_decision.specs.declared.session.Role.{Role}
 use Rattle.target_decision.specs.declared.session.Role.TheVariants.{Admin, Io}
 use Rattle.target_decision.specs.declared.session.Session.{Session}
 use Rattle.target_decision.specs.declared.session.Session.TheVariants.{Opened, Initialized, Connected, Ended}
 use Rattle.target_decision.specs.Connect.{connect_on}
 use Rattle.target_decision.specs.Controller.{registers_at}
-use Rattle.target_decision.specs.Outcome.{Outcome, done, given, refuse, refused}
+use Rattle.target_decision.specs.Outcome.{Outcome, asked, done, given, performed, refuse, refused}
 use Rattle.target_decision.specs.Queue.{next_head, next_head_of}
+use Rattle.target_decision.specs.Transfer.{Tags}
 use Rattle.target_decision.specs.World.{World, admin_controller}
 
 -- the opcode of all Fabrics commands, and their types
@@ -98,10 +107,10 @@ on_admin_queue w cntlid entry =
 
 -- ---- on an I/O queue
 
--- an operation that is to be performed, or a status; until transfers are built, no host is asked for data
+-- an operation that is to be performed, so many bytes of data that are to come, or a status
 abbrev pub io_begun : Result Begun Status → Outcome
-io_begun (Ok (Perform op)) = Ok (record { answer = answer.Performed op; consequence = consequence.Nothing })
-io_begun (Ok (Receive len)) = refused sgl_type_invalid
+io_begun (Ok (Perform op)) = performed op
+io_begun (Ok (Receive len)) = asked len
 io_begun (Err status) = refused status
 
 -- a command of a controller of this subsystem that was made through this port; a discovery controller has no I/O queue
@@ -125,6 +134,26 @@ on_io_queue w cntlid entry bytes =
     then (if fctype_of entry == connect_type then refused command_sequence_error else refused invalid_field)
     else io_at w cntlid entry (length bytes)
 
+-- ---- once its data have come
+
+-- an operation that is to be performed, or a status
+abbrev pub io_finished : Result Operation Status → Outcome
+io_finished (Ok op) = performed op
+io_finished (Err status) = refused status
+
+abbrev pub finished_of : Option (List ℕ) → ℕ → World → List ℕ → ℕ → Outcome
+finished_of None port w entry came = refused command_sequence_error
+finished_of (Some subsystem) port w entry came = io_finished (io_finish w.config port subsystem entry came)
+
+abbrev pub finished_by : Option Row → World → List ℕ → ℕ → Outcome
+finished_by None w entry came = refused command_sequence_error
+finished_by (Some row) w entry came = finished_of row.subsystem row.port w entry came
+
+-- the command of this entry, for which so many bytes came, on a queue: whether its controller is ready is not asked again
+abbrev pub finished : World → Session → List ℕ → ℕ → Outcome
+finished w (Connected (Io cntlid qid) queue) entry came = finished_by (w.row cntlid) w entry came
+finished w _ entry came = refused command_sequence_error
+
 -- ---- on any connection
 
 -- a command on a connection that has no queue yet
@@ -143,9 +172,20 @@ command_in w port Opened entry bytes = first_command w port entry bytes
 command_in w port Initialized entry bytes = first_command w port entry bytes
 command_in w port Ended entry bytes = first_command w port entry bytes
 
--- what a command comes to, by its entry and the data in its capsule
-abbrev pub command : World → Conversation → List ℕ → List ℕ → Outcome
-command w v entry bytes = refuse (not (fuse_of entry == 0)) invalid_field (command_in w v.port v.session entry bytes)
+-- .. that is not fused with another
+abbrev pub command_on : World → ConnectionState → List ℕ → List ℕ → Outcome
+command_on w v entry bytes = refuse (not (fuse_of entry == 0)) invalid_field (command_in w v.port v.session entry bytes)
+
+-- what a command comes to, by its entry and the data in its capsule: its identifier may be that of none that is
+-- outstanding
+abbrev pub command : World → ConnectionState → Tags → List ℕ → List ℕ → Outcome
+command w v tags entry bytes = refuse (has_command tags (cid_of entry)) command_id_conflict (command_on w v entry bytes)
+
+-- whether as many commands are outstanding on a queue as it has entries beside one (SQSIZE, 0's based), of which there are
+-- at most 63
+abbrev pub is_full : Session → Tags → Bool
+is_full (Connected role queue) tags = nat_le (min queue.sqsize 63) (count_of tags)
+is_full _ tags = false
 
 abbrev pub head_counted : Session → ℕ
 head_counted Opened = 0
@@ -159,16 +199,28 @@ head_after session (consequence.Begin b) = next_head b.sqsize 0
 head_after session (consequence.Join j) = next_head j.sqsize 0
 head_after session _ = head_counted session
 
-abbrev pub reply_of : Session → ℕ → Outcome → Reply
-reply_of session cid (Ok s) = record {
+-- a reply that is no refusal, and ends this transfer
+abbrev pub answered_with : Session → ℕ → Option ℕ → Success → Reply
+answered_with session cid transfer s = record {
   cid = cid;
   sqhd = head_after session s.consequence;
+  transfer = transfer;
   answer = s.answer;
   consequence = s.consequence;
 }
-reply_of session cid (Err r) = record {
+
+-- .. and a refusal
+abbrev pub refused_with : Session → ℕ → Option ℕ → Refusal → Reply
+refused_with session cid transfer r = record {
   cid = cid;
   sqhd = head_after session consequence.Nothing;
+  transfer = transfer;
   answer = answer.Given (record { status = r.status; result = r.result; «data» = None });
   consequence = consequence.Nothing;
 }
+
+-- what is owed to a command of this identifier that comes to this, and ends this transfer
+abbrev pub owed : Session → ℕ → Option ℕ → Outcome → Decision
+owed session cid transfer (Ok (Answered s)) = decision.Reply (answered_with session cid transfer s)
+owed session cid transfer (Ok (Asked len)) = decision.Request (record { cid = cid; len = len })
+owed session cid transfer (Err r) = decision.Reply (refused_with session cid transfer r)

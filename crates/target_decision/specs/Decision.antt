@@ -1,10 +1,15 @@
 -- What is owed to a PDU, and what a decision sends.
-use Rattle.std.specs.Prelude.{ℕ, nat_lt, not, ◌==◌, List, [], ◌++◌, length, Option, Some, None, Bool, true, false, if◌then◌else◌}
+use Rattle.std.specs.Prelude.{ℕ, nat_lt, not, ◌==◌, List, [], ◌++◌, length, ◌+◌, Option, Some, None, Result, Ok, Err, Bool, true, false, if◌then◌else◌}
 use Rattle.admin_queue.specs.declared.payload.Payload.{Payload}
 use Rattle.admin_queue.specs.Controller.{AdminController}
 use Rattle.admin_queue.specs.Payload.{payload_bytes}
+use Rattle.data_transfer.specs.declared.fault.DataFault.{DataFault}
+use Rattle.data_transfer.specs.declared.transfer.Progress.{Progress}
+use Rattle.data_transfer.specs.declared.transfer.Progress.TheVariants as progress
+use Rattle.data_transfer.specs.DataFault.{fei_of, fes_of}
+use Rattle.data_transfer.specs.Part.{Part, data_answer}
 use Rattle.io_queue.specs.declared.operation.Operation.{Operation}
-use Rattle.io_queue.specs.Act.{Medium}
+use Rattle.io_queue.specs.Act.{DiskOutcome}
 use Rattle.io_queue.specs.Execution.{Act, act_of, returned, status_by}
 use Rattle.io_queue.specs.Operation.{IsWithin, disk_of}
 use Rattle.io_queue.specs.declared.reply.DataFormat.{DataFormat}
@@ -17,7 +22,9 @@ use Rattle.nvt_fields.specs.declared.termination.FatalErrorStatus.{FatalErrorSta
 use Rattle.nvt_fields.specs.declared.termination.FatalErrorStatus.TheVariants.{InvalidHeaderField, SequenceError, LimitExceeded, UnsupportedParameter}
 use Rattle.pdu_codec.specs.declared.initialize.IcReq as ic_req
 use Rattle.pdu_codec.specs.CapsuleResp.{capsule_resp}
+use Rattle.pdu_codec.specs.declared.data_head.DataHead.{DataHead}
 use Rattle.pdu_codec.specs.Initialize.{hpda_at, ic_req_of, ic_resp, pfv_at}
+use Rattle.pdu_codec.specs.R2t.{r2t}
 use Rattle.pdu_codec.specs.Sqe.{cid_of, entry_in}
 use Rattle.pdu_codec.specs.TermReq.{c2h_term_req}
 use Rattle.pdu_cut.specs.Front.{Front, incomplete, whole, faulty}
@@ -27,11 +34,13 @@ use Rattle.target_decision.specs.declared.decision.Answer.TheVariants as answer
 use Rattle.target_decision.specs.declared.decision.Decision.{Decision}
 use Rattle.target_decision.specs.declared.decision.Decision.TheVariants as decision
 use Rattle.target_decision.specs.declared.decision.Reply.{Reply}
-use Rattle.target_decision.specs.declared.session.Conversation.{Conversation}
+use Rattle.target_decision.specs.declared.session.ConnectionState.{ConnectionState}
 use Rattle.target_decision.specs.declared.session.Session.{Session}
 use Rattle.target_decision.specs.declared.session.Session.TheVariants.{Opened, Initialized, Connected, Ended}
 use Rattle.target_decision.specs.Alignment.{aligned}
-use Rattle.target_decision.specs.Capsule.{command, reply_of}
+use Rattle.target_decision.specs.declared.transfer.WaitingCommand.{WaitingCommand}
+use Rattle.target_decision.specs.Capsule.{command, finished, is_full, owed}
+use Rattle.target_decision.specs.Transfer.{Tags, h2c_of, head_in}
 use Rattle.target_decision.specs.World.{World, admin_controller_in}
 
 -- ---- what is owed to a PDU (TCP Transport 1.0, section 3.6; Base 2.0, sections 5 and 6)
@@ -58,39 +67,62 @@ first_by _ pdu = terminate SequenceError 0
 abbrev pub entry_of : Pdu → List ℕ
 entry_of pdu = entry_in (header_part pdu)
 
--- a capsule, with at most 8,192 bytes of data
-abbrev pub capsule : World → Conversation → Pdu → Decision
-capsule w v pdu =
-    if nat_lt 8192 (length (data_part pdu)) then terminate LimitExceeded 0 else
-    decision.Reply (reply_of v.session (cid_of (entry_of pdu)) (command w v (entry_of pdu) (data_part pdu)))
+-- .. as it waits for its data
+abbrev pub waiting_in : Pdu → WaitingCommand
+waiting_in pdu = record { entry = entry_of pdu }
 
--- a PDU after the first; no command that is built asks for data, so no H2CData has a known TTAG
-abbrev pub next_by : PduType → World → Conversation → Pdu → Decision
-next_by H2cTermReq w v pdu = decision.Close
-next_by CapsuleCmd w v pdu = capsule w v pdu
-next_by H2cData w v pdu = terminate InvalidHeaderField 10
-next_by _ w v pdu = terminate SequenceError 0
+-- a capsule, with at most 8,192 bytes of data, where one more command may be outstanding
+abbrev pub capsule : World → ConnectionState → Tags → Pdu → Decision
+capsule w v tags pdu =
+    if nat_lt 8192 (length (data_part pdu)) then terminate LimitExceeded 0 else
+    if is_full v.session tags then terminate SequenceError 0 else
+    owed v.session (cid_of (entry_of pdu)) None (command w v tags (entry_of pdu) (data_part pdu))
+
+-- the last data of a transfer: its command is finished with all that came, up to the end of these
+abbrev pub completed : World → ConnectionState → DataHead → Option (Part WaitingCommand) → Decision
+completed w v head None = decision.Close
+completed w v head (Some part) =
+    owed v.session head.cccid (Some head.ttag) (finished w v.session part.command.entry (head.datao + head.datal))
+
+abbrev pub received_by : World → ConnectionState → DataHead → Option (Part WaitingCommand) → Result Progress DataFault → Decision
+received_by w v head part (Ok progress.More) = decision.Receive head.ttag
+received_by w v head part (Ok progress.Whole) = completed w v head part
+received_by w v head part (Err fault) = terminate (fes_of fault) (fei_of fault)
+
+-- an H2CData, by how its transfer takes it
+abbrev pub received : World → ConnectionState → Tags → Pdu → Decision
+received w v tags pdu =
+    received_by w v (head_in pdu) (tags (head_in pdu).ttag) (data_answer (tags (head_in pdu).ttag) (h2c_of pdu))
+
+-- a PDU after the first
+abbrev pub next_by : PduType → World → ConnectionState → Tags → Pdu → Decision
+next_by H2cTermReq w v tags pdu = decision.Close
+next_by CapsuleCmd w v tags pdu = capsule w v tags pdu
+next_by H2cData w v tags pdu = received w v tags pdu
+next_by _ w v tags pdu = terminate SequenceError 0
 
 -- a whole PDU, in a session
-abbrev pub decide_in : Session → World → Conversation → Pdu → Decision
-decide_in Opened w v pdu = first_by pdu.kind pdu
-decide_in Initialized w v pdu = next_by pdu.kind w v pdu
-decide_in (Connected role queue) w v pdu = next_by pdu.kind w v pdu
-decide_in Ended w v pdu = decision.Close
+abbrev pub decide_in : Session → World → ConnectionState → Tags → Pdu → Decision
+decide_in Opened w v tags pdu = first_by pdu.kind pdu
+decide_in Initialized w v tags pdu = next_by pdu.kind w v tags pdu
+decide_in (Connected role queue) w v tags pdu = next_by pdu.kind w v tags pdu
+decide_in Ended w v tags pdu = decision.Close
 
-abbrev pub decide_pdu : World → Conversation → Pdu → Decision
-decide_pdu w v pdu = decide_in v.session w v pdu
+abbrev pub decide_pdu : World → ConnectionState → Tags → Pdu → Decision
+decide_pdu w v tags pdu = decide_in v.session w v tags pdu
 
--- what stands at the front of a connection's stream
-abbrev pub decide : World → Conversation → Front → Decision
-decide w v incomplete = decision.Close
-decide w v (whole pdu) = decide_pdu w v pdu
-decide w v (faulty fault head) = terminate fault.fes fault.fei
+-- what stands at the front of the stream of a connection with these transfers
+abbrev pub decide : World → ConnectionState → Tags → Front → Decision
+decide w v tags incomplete = decision.Close
+decide w v tags (whole pdu) = decide_pdu w v tags pdu
+decide w v tags (faulty fault head) = terminate fault.fes fault.fei
 
 -- whether a decision ends the connection
 abbrev pub is_end : Decision → Bool
 is_end (decision.Initialize alignment) = false
 is_end (decision.Reply r) = false
+is_end (decision.Request q) = false
+is_end (decision.Receive ttag) = false
 is_end (decision.Terminate t) = true
 is_end decision.Close = true
 
@@ -109,9 +141,7 @@ payload_in (answer.Performed op) = None
 -- what a decision returns of its controller
 abbrev pub payload_of : Decision → Option Payload
 payload_of (decision.Reply r) = payload_in r.answer
-payload_of (decision.Initialize alignment) = None
-payload_of (decision.Terminate t) = None
-payload_of decision.Close = None
+payload_of _ = None
 
 -- the bytes of it, in a session: commands on admin queues alone return any
 abbrev pub data_of : World → Session → Decision → Option (List ℕ)
@@ -147,14 +177,19 @@ head_of (faulty fault head) = head
 
 -- ---- what a decision does, where the disks held this and did that
 
--- the data in the capsule at a front
+-- what is brought for a decision: the tag of a transfer that it begins, and the bytes for its operation
+pub record Brought : Type 0 where
+  pub ttag : ℕ
+  pub bytes : List ℕ
+
+-- the data of the PDU at a front
 abbrev pub bytes_at : Front → List ℕ
 bytes_at (whole pdu) = data_part pdu
 bytes_at incomplete = []
 bytes_at (faulty fault head) = []
 
 -- what an answer says, with the data that it returns of its controller, where it returns any
-abbrev pub said_by : DataFormat → Answer → Option (List ℕ) → List ℕ → (ℕ → List (List ℕ)) → Medium → Said
+abbrev pub said_by : DataFormat → Answer → Option (List ℕ) → List ℕ → (ℕ → List (List ℕ)) → DiskOutcome → Said
 said_by format (answer.Given g) payload bytes contents m =
     record { status = g.status; result = g.result; data_pdus = whole_pdu format payload }
 said_by format (answer.Performed op) payload bytes contents m = record {
@@ -163,18 +198,22 @@ said_by format (answer.Performed op) payload bytes contents m = record {
   data_pdus = returned_pdus format (returned op (contents (disk_of op)) m);
 }
 
--- the bytes that a decision sends on a front to a host with this alignment of data, with the data that it returns of its
--- controller
-abbrev pub wire_of : ℕ → Decision → Front → Option (List ℕ) → (ℕ → List (List ℕ)) → Medium → List ℕ
-wire_of alignment (decision.Initialize asked) front payload contents m = ic_resp (record { pfv = 0; cpda = 0; dgst = 0; maxh2cdata = 16384 })
-wire_of alignment (decision.Reply r) front payload contents m =
-    reply_wire r (said_by (format_of r alignment) r.answer payload (bytes_at front) contents m)
-wire_of alignment (decision.Terminate t) front payload contents m = c2h_term_req (fatal_code_of t.fes) t.fei (head_of front)
-wire_of alignment decision.Close front payload contents m = []
+-- the bytes that a decision sends on a front to a host with this alignment of data, with what is brought for it and the
+-- data that it returns of its controller
+abbrev pub wire_of : ℕ → Decision → Front → Brought → Option (List ℕ) → (ℕ → List (List ℕ)) → DiskOutcome → List ℕ
+wire_of alignment (decision.Initialize asked) front b payload contents m =
+    ic_resp (record { pfv = 0; cpda = 0; dgst = 0; maxh2cdata = 16384 })
+wire_of alignment (decision.Reply r) front b payload contents m =
+    reply_wire r (said_by (format_of r alignment) r.answer payload b.bytes contents m)
+wire_of alignment (decision.Request q) front b payload contents m =
+    r2t (record { cccid = q.cid; ttag = b.ttag; r2to = 0; r2tl = q.len })
+wire_of alignment (decision.Receive ttag) front b payload contents m = []
+wire_of alignment (decision.Terminate t) front b payload contents m = c2h_term_req (fatal_code_of t.fes) t.fei (head_of front)
+wire_of alignment decision.Close front b payload contents m = []
 
 -- .. on a connection
-abbrev pub sent_by : World → (ℕ → List (List ℕ)) → Medium → Conversation → Decision → Front → List ℕ
-sent_by w contents m v d front = wire_of v.alignment d front (data_of w v.session d) contents m
+abbrev pub sent_by : World → (ℕ → List (List ℕ)) → DiskOutcome → ConnectionState → Decision → Front → Brought → List ℕ
+sent_by w contents m v d front b = wire_of v.alignment d front b (data_of w v.session d) contents m
 
 abbrev pub operation_in : Answer → Option Operation
 operation_in (answer.Given g) = None
@@ -183,25 +222,23 @@ operation_in (answer.Performed op) = Some op
 -- the operation that a decision is to perform
 abbrev pub operation_of : Decision → Option Operation
 operation_of (decision.Reply r) = operation_in r.answer
-operation_of (decision.Initialize alignment) = None
-operation_of (decision.Terminate t) = None
-operation_of decision.Close = None
+operation_of _ = None
 
-abbrev pub act_in : Option Operation → List ℕ → Medium → Option Act
+abbrev pub act_in : Option Operation → List ℕ → DiskOutcome → Option Act
 act_in None bytes m = None
 act_in (Some op) bytes m = act_of op bytes m
 
 -- what a decision writes to a disk
-abbrev pub act_by : Decision → Front → Medium → Option Act
-act_by d front m = act_in (operation_of d) (bytes_at front) m
+abbrev pub act_by : Decision → Brought → DiskOutcome → Option Act
+act_by d b m = act_in (operation_of d) b.bytes m
 
 abbrev pub WithinIn : List ℕ → Option Operation → List ℕ → Type 0
 WithinIn units None bytes = Unit {0}
 WithinIn units (Some op) bytes = IsWithin units (length bytes) op
 
 -- disks of these sizes have what a decision asks of them
-abbrev pub PerformsWithin : List ℕ → Decision → Front → Type 0
-PerformsWithin units d front = WithinIn units (operation_of d) (bytes_at front)
+abbrev pub PerformsWithin : List ℕ → Decision → Brought → Type 0
+PerformsWithin units d b = WithinIn units (operation_of d) b.bytes
 
 -- ---- what else a step does with the front
 

@@ -2,6 +2,7 @@ pub mod Act
 pub mod Alignment
 pub mod Begin
 pub mod Capsule
+pub mod Carry
 pub mod Connect
 pub mod Consequence
 pub mod Controller
@@ -10,4 +11,5 @@ pub mod Decision
 pub mod Outcome
 pub mod Queue
 pub mod Session
+pub mod Transfer
 pub mod World

@@ -1,25 +1,36 @@
--- What a command comes to: what it is answered and what follows from it, or a status.
+-- What a command comes to: what it is answered and what follows from it, or that its data are asked for, or a status.
 use Rattle.std.specs.Prelude.{ℕ, Option, None, Result, Ok, Err, Bool, if◌then◌else◌}
 use Rattle.admin_queue.specs.declared.payload.Payload.{Payload}
 use Rattle.nvt_fields.specs.declared.status.Status.{Status}
 use Rattle.nvt_fields.specs.Status.{success}
-use Rattle.target_decision.specs.declared.capsule.Success.{Success}
+use Rattle.io_queue.specs.declared.operation.Operation.{Operation}
+use Rattle.target_decision.specs.declared.capsule.Served.{Served}
+use Rattle.target_decision.specs.declared.capsule.Served.TheVariants.{Answered, Asked}
 use Rattle.target_decision.specs.declared.capsule.Refusal.{Refusal}
-use Rattle.target_decision.specs.declared.decision.Answer.TheVariants.{Given}
+use Rattle.target_decision.specs.declared.decision.Answer.TheVariants.{Given, Performed}
 use Rattle.target_decision.specs.declared.consequence.Consequence.{Consequence}
+use Rattle.target_decision.specs.declared.consequence.Consequence.TheVariants as consequence
 
 abbrev pub Outcome : Type 0
-Outcome = Result Success Refusal
+Outcome = Result Served Refusal
 
 -- success, with this result and this data
 abbrev pub given : ℕ → Option Payload → Consequence → Outcome
-given value payload consequence = Ok (record {
+given value payload follows = Ok (Answered (record {
   answer = Given (record { status = success; result = value; «data» = payload });
-  consequence = consequence;
-})
+  consequence = follows;
+}))
+
+-- what the performance of this operation will say
+abbrev pub performed : Operation → Outcome
+performed op = Ok (Answered (record { answer = Performed op; consequence = consequence.Nothing }))
 
 abbrev pub done : ℕ → Consequence → Outcome
-done value consequence = given value None consequence
+done value follows = given value None follows
+
+-- so many bytes of data are asked for
+abbrev pub asked : ℕ → Outcome
+asked len = Ok (Asked len)
 
 abbrev pub refused : Status → Outcome
 refused status = Err (record { status = status; result = 0 })

@@ -1,6 +1,6 @@
 -- How far target and host have come on a connection.
 use Rattle.std.specs.Prelude.{ℕ, Bool, true, false, Option, Some, None}
-use Rattle.target_decision.specs.declared.session.Conversation.{Conversation}
+use Rattle.target_decision.specs.declared.session.ConnectionState.{ConnectionState}
 use Rattle.target_decision.specs.declared.session.Role.{Role}
 use Rattle.target_decision.specs.declared.session.Role.TheVariants.{Admin, Io}
 use Rattle.target_decision.specs.declared.session.Session.{Session}
@@ -12,7 +12,7 @@ use Rattle.target_decision.specs.declared.decision.Decision.TheVariants as decis
 use Rattle.target_decision.specs.Queue.{new_queue, responded}
 
 -- a connection on which nothing has come yet
-abbrev pub opened_on : ℕ → Conversation
+abbrev pub opened_on : ℕ → ConnectionState
 opened_on port = record { port = port; session = Opened; alignment = 0 }
 
 -- whether it is ended: nothing more is consumed or sent
@@ -46,6 +46,8 @@ replied _ session = responded_in session
 abbrev pub session_after : Session → Decision → Session
 session_after session (decision.Initialize alignment) = Initialized
 session_after session (decision.Reply r) = replied r.consequence session
+session_after session (decision.Request q) = session
+session_after session (decision.Receive ttag) = session
 session_after session (decision.Terminate t) = Ended
 session_after session decision.Close = Ended
 
@@ -54,5 +56,5 @@ abbrev pub alignment_after : ℕ → Decision → ℕ
 alignment_after before (decision.Initialize alignment) = alignment
 alignment_after before _ = before
 
-abbrev pub turned : Conversation → Decision → Conversation
+abbrev pub turned : ConnectionState → Decision → ConnectionState
 turned v d = record v { session = session_after v.session d; alignment = alignment_after v.alignment d }

@@ -1,62 +1,96 @@
-//! What follows from a decision on its own connection: an operation is performed on its disk, its PDUs
-//! are sent, and the session moves.
+//! What follows from a decision on its own connection: room is made and its transfer carried on; then its
+//! operation is performed on its disk, its PDUs are sent, and the session moves.
 ghost use Rattle.std.specs.Prelude.{◌≡◌, ◌<◌, ◌≤◌, ◌^◌, IfOk, OnErr, OnOk, length};
+ghost use Rattle.data_transfer.specs.Parts.{Stand, part_at};
 ghost use Rattle.io_queue.specs.Execution.{sizes};
 ghost use Rattle.pdu_cut.specs.Cut.{front_shown};
 ghost use Rattle.pdu_cut.specs.Front.{whole};
 ghost use Rattle.fabrics_connect.specs.Row.{row_begun};
 ghost use Rattle.pdu_cut.specs.Pdu.{data_part};
 ghost use Rattle.target_decision.specs.Begin.{NamesIn, NamesWell, row_decided};
-ghost use Rattle.target_decision.specs.Act.{Does, room_of};
+ghost use Rattle.target_decision.specs.Act.{Does, room_for, room_of};
+ghost use Rattle.target_decision.specs.Carry.{CarriesWell, brought_by, brought_in, tags_after, with_own};
 ghost use Rattle.target_decision.specs.Decision.{PerformsWithin, consumed_of, data_of, entry_of, head_of};
 ghost use Rattle.target_decision.specs.Session.{turned};
 ghost use Rattle.target_decision.specs.World.{world_in};
 
+use crate::carry::{Carried, carry};
 use crate::consequence::Consequence;
 use crate::data::{Data, len_in};
 use crate::decision::{Answer, Decision, Reply};
-use crate::session::Conversation;
+use crate::session::{ConnectionState, Session};
+use crate::transfer::WaitingCommand;
 use crate::wire::{self, WIRE_MAX, head_of};
 use crate::world::World;
 use block_store::{Disk, Store};
 use bytes::BytesMut;
+use data_transfer::Transfers;
 use fabrics_connect::{Connect, NewController, Row};
 use pdu_codec::Sqe;
 use pdu_cut::{Cut, PduView};
 use std::alloc::{AllocError, Global};
 
-/// Does what the decision on this front owes in the session: performs its operation, sends what it owes,
-/// and moves the session. All growth comes first: want of memory changes nothing.
-pub fn perform<D: Disk>(
+/// Makes room in the output for all that a decision on this front sends in this session, and carries on
+/// the transfer that it is about. Only here memory can be wanted, and want of it changes nothing.
+pub fn prepare(
     world: &World<'_>,
-    stores: &mut [Store<D>],
-    conversation: &mut Conversation,
+    transfers: &mut Transfers<WaitingCommand>,
+    connection: usize,
+    session: &Session,
     output: &mut BytesMut,
     decision: &Decision,
     front: &Cut<'_>,
-) -> Result<(), AllocError>
+) -> Result<Carried, AllocError>
+    requires known { connection < 64 }
     requires head { length (head_of (front_shown front.now)) ≤ 128 }
-    requires within { PerformsWithin (sizes stores.old) decision.now (front_shown front.now) }
-    ensures conversation { OnOk result (conversation.new ≡ turned conversation.old decision.now) }
-    ensures does { let payload = data_of (world_in world.now) conversation.old.session decision.now in
-        OnOk result (Does conversation.old.alignment decision.now (front_shown front.now) payload
-        stores.old stores.new output.old.items output.new.items) }
-    ensures err { OnErr result ((conversation.new ≡ conversation.old) × (stores.new ≡ stores.old)
-        × (output.new.items ≡ output.old.items)) }
+    requires small { room_of decision.now < 2 ^ 18 }
+    requires well { CarriesWell (part_at transfers.old connection) decision.now (front_shown front.now) }
+    ensures room { let room = room_for (world_in world.now) session.now decision.now (front_shown front.now) in
+        OnOk result (room ≤ output.new.spare) }
+    ensures output { output.new.items ≡ output.old.items }
+    ensures after { let tags = tags_after decision.now (front_shown front.now) (part_at transfers.old connection) in
+        IfOk result (λ carried. Stand transfers.new (with_own (part_at transfers.old) connection tags)) }
+    ensures carried { let brought = brought_by (part_at transfers.old connection) decision.now (front_shown front.now) in
+        IfOk result (λ carried. brought_in carried (front_shown front.now) ≡ brought) }
+    ensures err { OnErr result (transfers.new ≡ transfers.old) }
 {
-    let data = Data::of(world, &conversation.session, decision);
-    let returned = len_in(&data) + room_of(decision);
-    output.reserve(WIRE_MAX + head_of(front).len() + returned)?;
+    let data = Data::of(world, session, decision);
+    output.reserve(WIRE_MAX + head_of(front).len() + len_in(&data) + room_of(decision))?;
+    carry(transfers, connection, decision, front)
+}
+
+/// Does what the decision on this front owes in the session: performs its operation, sends what it owes,
+/// into room that is there, and moves the session.
+pub fn perform<D: Disk>(
+    world: &World<'_>,
+    stores: &mut [Store<D>],
+    state: &mut ConnectionState,
+    output: &mut BytesMut,
+    decision: &Decision,
+    front: &Cut<'_>,
+    carried: &Carried,
+)
+    requires head { length (head_of (front_shown front.now)) ≤ 128 }
+    requires within { PerformsWithin (sizes stores.old) decision.now (brought_in carried.now (front_shown front.now)) }
+    requires room { let room = room_for (world_in world.now) state.old.session decision.now (front_shown front.now) in
+        room ≤ output.old.spare }
+    ensures state { state.new ≡ turned state.old decision.now }
+    ensures does { let payload = data_of (world_in world.now) state.old.session decision.now in
+        let brought = brought_in carried.now (front_shown front.now) in
+        Does state.old.alignment decision.now (front_shown front.now) brought payload
+        stores.old stores.new output.old.items output.new.items }
+{
+    let data = Data::of(world, &state.session, decision);
     wire::write(
         output,
         stores,
-        conversation.alignment,
+        state.alignment,
         decision,
         front,
+        carried,
         &data,
     );
-    conversation.turn(decision);
-    Ok(())
+    state.turn(decision);
 }
 
 // How many bytes a decision may send of what it reads.

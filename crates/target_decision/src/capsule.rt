@@ -1,22 +1,26 @@
 //! A command capsule: the checks that come before its command is looked at.
-ghost use Rattle.std.specs.Prelude.{◌≡◌};
+ghost use Rattle.std.specs.Prelude.{◌≡◌, ◌<◌};
 ghost use Rattle.std.specs.Option.{option_copied};
 ghost use Rattle.target_decision.specs.Capsule.{command, first_command, queue_command};
 ghost use Rattle.target_decision.specs.Capsule.{is_ready_at, on_admin_queue, on_io_queue};
-ghost use Rattle.target_decision.specs.Capsule.{head_after, reply_of};
+ghost use Rattle.target_decision.specs.Capsule.{answered_with, command_on, head_after, is_full, owed};
+ghost use Rattle.target_decision.specs.Capsule.{refused_with};
 ghost use Rattle.target_decision.specs.Decision.{capsule};
-ghost use Rattle.target_decision.specs.Outcome.{done, given, refused};
+ghost use Rattle.target_decision.specs.Outcome.{done, given, performed, refused};
+ghost use Rattle.target_decision.specs.Transfer.{tags_in};
 ghost use Rattle.target_decision.specs.World.{world_in};
 
 use crate::consequence::Consequence;
-use crate::decision::{Answer, Decision, Given, Reply, terminate};
+use crate::decision::{Answer, DataRequest, Decision, Given, Reply, terminate};
 use crate::fabrics::{CONNECT, FABRICS};
 use crate::queue::next_head;
-use crate::session::{Conversation, Role, Session};
+use crate::session::{ConnectionState, Role, Session};
+use crate::transfer::OwnTransfers;
 use crate::world::World;
 use crate::{admin, connect, fabrics, io};
 use admin_queue::Payload;
 use fabrics_connect::Row;
+use io_queue::Operation;
 use nvt_fields::{FatalErrorStatus, PduType, Status};
 use pdu_codec::Sqe;
 use pdu_cut::PduView;
@@ -24,10 +28,21 @@ use pdu_cut::PduView;
 /// The most bytes of data that a capsule may bring.
 const IN_CAPSULE_MAX: usize = 8_192;
 
-/// A command's outcome: what it is answered and what follows from it, or its refusal.
-pub(crate) type Outcome = Result<Success, Refusal>;
+/// The most commands that may be outstanding on a queue, whatever its size.
+const OUTSTANDING_MAX: u16 = 63;
 
-/// What a command that is not refused gives.
+/// A command's outcome: what is done about it, or its refusal.
+pub(crate) type Outcome = Result<Served, Refusal>;
+
+/// What is done about a command that is not refused.
+#[derive(Clone, Copy)]
+pub(crate) enum Served {
+    Answered(Success),
+    /// Its host is asked for so many bytes of data.
+    Asked(u32),
+}
+
+/// What a command is answered that is not refused, and what follows from it.
 #[derive(Clone, Copy)]
 pub(crate) struct Success {
     pub answer: Answer,
@@ -42,22 +57,61 @@ pub(crate) struct Refusal {
 }
 
 /// What is owed to a capsule.
-pub(crate) fn decide(world: &World<'_>, v: &Conversation, pdu: &PduView<'_>) -> Decision
-    requires { pdu.now.kind ≡ PduType.CapsuleCmd }
-    ensures { result ≡ capsule (world_in world.now) v.now pdu.now }
+pub(crate) fn decide(
+    world: &World<'_>,
+    v: &ConnectionState,
+    own: &OwnTransfers<'_>,
+    pdu: &PduView<'_>,
+) -> Decision
+    requires kind { pdu.now.kind ≡ PduType.CapsuleCmd }
+    requires known { own.now.connection < 64 }
+    ensures { result ≡ capsule (world_in world.now) v.now (tags_in own.now) pdu.now }
 {
     let payload = pdu.data();
     if payload.len() > IN_CAPSULE_MAX {
         return terminate(FatalErrorStatus::LimitExceeded, 0);
     }
+    if is_full(&v.session, own) {
+        return terminate(FatalErrorStatus::SequenceError, 0);
+    }
     let header = <&[u8; 72]>::try_from(pdu.header()).unwrap();
     let sqe = Sqe::read(header);
-    let outcome = command(world, v, &sqe, payload);
-    Decision::Reply(reply(&v.session, sqe.cid(), outcome))
+    let outcome = command(world, v, own, &sqe, payload);
+    owed(&v.session, sqe.cid(), None, outcome)
 }
 
-fn command(world: &World<'_>, v: &Conversation, sqe: &Sqe<'_>, payload: &[u8]) -> Outcome
-    ensures { result ≡ command (world_in world.now) v.now sqe.now.entry.now payload.now }
+// Whether no further command may be outstanding on a queue.
+fn is_full(session: &Session, own: &OwnTransfers<'_>) -> bool
+    requires { own.now.connection < 64 }
+    ensures { result ≡ is_full session.now (tags_in own.now) }
+{
+    match session {
+        Session::Connected { queue, .. } => {
+            usize::from(queue.sqsize.min(OUTSTANDING_MAX)) <= own.count()
+        }
+        Session::Opened | Session::Initialized | Session::Ended => false,
+    }
+}
+
+fn command(
+    world: &World<'_>,
+    v: &ConnectionState,
+    own: &OwnTransfers<'_>,
+    sqe: &Sqe<'_>,
+    payload: &[u8],
+) -> Outcome
+    requires { own.now.connection < 64 }
+    ensures { let tags = tags_in own.now in
+        result ≡ command (world_in world.now) v.now tags sqe.now.entry.now payload.now }
+{
+    if own.has_command(sqe.cid()) {
+        return refused(Status::COMMAND_ID_CONFLICT);
+    }
+    command_on(world, v, sqe, payload)
+}
+
+fn command_on(world: &World<'_>, v: &ConnectionState, sqe: &Sqe<'_>, payload: &[u8]) -> Outcome
+    ensures { result ≡ command_on (world_in world.now) v.now sqe.now.entry.now payload.now }
 {
     if sqe.fuse() != 0 {
         return refused(Status::INVALID_FIELD);
@@ -118,26 +172,44 @@ pub(crate) fn is_ready(row: Option<&Row>) -> bool
     }
 }
 
-fn reply(session: &Session, cid: u16, outcome: Outcome) -> Reply
-    ensures { result ≡ reply_of session.now cid outcome }
+/// What is owed to a command of this identifier that comes to this, and ends this transfer.
+pub(crate) fn owed(session: &Session, cid: u16, transfer: Option<u16>, outcome: Outcome) -> Decision
+    ensures { result ≡ owed session.now cid transfer outcome }
 {
     match outcome {
-        Ok(success) => Reply {
-            cid,
-            sqhd: head_after(session, &success.consequence),
-            answer: success.answer,
-            consequence: success.consequence,
-        },
-        Err(refusal) => Reply {
-            cid,
-            sqhd: head_after(session, &Consequence::Nothing),
-            answer: Answer::Given(Given {
-                status: refusal.status,
-                result: refusal.result,
-                data: None,
-            }),
-            consequence: Consequence::Nothing,
-        },
+        Ok(Served::Answered(success)) => {
+            Decision::Reply(answered_with(session, cid, transfer, success))
+        }
+        Ok(Served::Asked(len)) => Decision::Request(DataRequest { cid, len }),
+        Err(refusal) => Decision::Reply(refused_with(session, cid, transfer, refusal)),
+    }
+}
+
+fn answered_with(session: &Session, cid: u16, transfer: Option<u16>, success: Success) -> Reply
+    ensures { result ≡ answered_with session.now cid transfer success }
+{
+    Reply {
+        cid,
+        sqhd: head_after(session, &success.consequence),
+        transfer,
+        answer: success.answer,
+        consequence: success.consequence,
+    }
+}
+
+fn refused_with(session: &Session, cid: u16, transfer: Option<u16>, refusal: Refusal) -> Reply
+    ensures { result ≡ refused_with session.now cid transfer refusal }
+{
+    Reply {
+        cid,
+        sqhd: head_after(session, &Consequence::Nothing),
+        transfer,
+        answer: Answer::Given(Given {
+            status: refusal.status,
+            result: refusal.result,
+            data: None,
+        }),
+        consequence: Consequence::Nothing,
     }
 }
 
@@ -169,12 +241,22 @@ pub(crate) fn done(value: u64, consequence: Consequence) -> Outcome
 pub(crate) fn given(value: u64, payload: Option<Payload>, consequence: Consequence) -> Outcome
     ensures { result ≡ given value payload consequence }
 {
-    Ok(Success {
+    Ok(Served::Answered(Success {
         answer: Answer::Given(Given {
             status: Status::SUCCESS,
             result: value,
             data: payload,
         }),
         consequence,
-    })
+    }))
+}
+
+/// What the performance of this operation will say.
+pub(crate) fn performed(operation: Operation) -> Outcome
+    ensures { result ≡ performed operation }
+{
+    Ok(Served::Answered(Success {
+        answer: Answer::Performed(operation),
+        consequence: Consequence::Nothing,
+    }))
 }

@@ -1,7 +1,7 @@
 //! The data of a reply, and where their bytes come from.
 ghost use Rattle.std.specs.Prelude.{◌≡◌, ◌<◌, ◌≤◌, ◌^◌, length};
 ghost use Rattle.admin_queue.specs.Payload.{payload_len};
-ghost use Rattle.target_decision.specs.Data.{bytes_in, bytes_of, len_in};
+ghost use Rattle.target_decision.specs.Data.{bytes_in, bytes_of, data_len, len_in};
 ghost use Rattle.target_decision.specs.Decision.{data_of, payload_of};
 ghost use Rattle.target_decision.specs.World.{world_in};
 
@@ -25,7 +25,8 @@ impl<'a> Data<'a> {
         session: &Session,
         decision: &Decision,
     ) -> Option<Data<'a>>
-        ensures { bytes_in result ≡ data_of (world_in world.now) session.now decision.now }
+        ensures bytes { bytes_in result ≡ data_of (world_in world.now) session.now decision.now }
+        ensures len { len_in result ≡ data_len (world_in world.now) session.now decision.now }
     {
         let payload = payload_of(decision)?;
         let controller = world.admin_controller_in(session)?;

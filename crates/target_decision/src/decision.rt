@@ -1,24 +1,24 @@
 //! What a PDU leads to, as a value: decided by looking alone, before anything changes.
-ghost use Rattle.std.specs.Prelude.{◌≡◌};
+ghost use Rattle.std.specs.Prelude.{◌≡◌, ◌<◌};
 ghost use Rattle.pdu_cut.specs.Cut.{front_shown};
 ghost use Rattle.target_decision.specs.Begin.{BeginsFree, NamesWell};
+ghost use Rattle.target_decision.specs.Carry.{CarriesWell, brought_by};
 ghost use Rattle.target_decision.specs.Decision.{decide, decide_pdu, first_by, initialize};
 ghost use Rattle.target_decision.specs.Decision.{PerformsWithin, is_end, next_by, terminate};
+ghost use Rattle.target_decision.specs.Transfer.{tags_in};
 ghost use Rattle.target_decision.specs.World.{world_in};
 
 use crate::alignment::Alignment;
-use crate::capsule;
 use crate::consequence::Consequence;
-use crate::session::{Conversation, Session};
+use crate::session::{ConnectionState, Session};
+use crate::transfer::OwnTransfers;
 use crate::world::World;
+use crate::{capsule, received};
 use admin_queue::Payload;
 use io_queue::Operation;
 use nvt_fields::{FatalErrorStatus, PduType, Status};
 use pdu_codec::IcReq;
 use pdu_cut::{Cut, PduView};
-
-/// The offset of the transfer tag in an H2CData.
-const TTAG_AT: u32 = 10;
 
 /// What is owed to a PDU.
 #[derive(Clone, Copy)]
@@ -27,6 +27,10 @@ pub enum Decision {
     Initialize(Alignment),
     /// A command is answered.
     Reply(Reply),
+    /// The host is asked for the data of a command, by an R2T.
+    Request(DataRequest),
+    /// An H2CData brings data of the transfer of this tag (TTAG), and more is to come.
+    Receive { ttag: u16 },
     /// The connection is ended by a C2HTermReq.
     Terminate(Termination),
     /// The host asked for termination: the connection is ended, and nothing is sent.
@@ -56,8 +60,19 @@ pub struct Reply {
     pub cid: u16,
     /// Submission queue head.
     pub sqhd: u16,
+    /// The tag (TTAG) of the transfer that brought the command's data, which this ends.
+    pub transfer: Option<u16>,
     pub answer: Answer,
     pub consequence: Consequence,
+}
+
+/// What a host is asked for: the data of a command, in one transfer.
+#[derive(Clone, Copy)]
+pub struct DataRequest {
+    /// The command's identifier.
+    pub cid: u16,
+    /// How many bytes: all its data, at most 131,072.
+    pub len: u32,
 }
 
 /// What a reply says.
@@ -76,35 +91,55 @@ pub struct Given {
     pub data: Option<Payload>,
 }
 
-/// What is owed to what stands at the front of a connection's stream.
-pub fn decide(world: &World<'_>, v: &Conversation, front: &Cut<'_>) -> Decision
-    ensures decision { result ≡ decide (world_in world.now) v.now (front_shown front.now) }
+/// What is owed to what stands at the front of the stream of a connection that has these transfers.
+pub fn decide(
+    world: &World<'_>,
+    v: &ConnectionState,
+    own: &OwnTransfers<'_>,
+    front: &Cut<'_>,
+) -> Decision
+    requires known { own.now.connection < 64 }
+    ensures decision { result
+        ≡ decide (world_in world.now) v.now (tags_in own.now) (front_shown front.now) }
     ensures begins { BeginsFree (world_in world.now).row result }
     ensures named { NamesWell result (front_shown front.now) }
+    ensures carries { CarriesWell (tags_in own.now) result (front_shown front.now) }
     ensures within { let units = (world_in world.now).config.units in
-        PerformsWithin units result (front_shown front.now) }
+        PerformsWithin units result (brought_by (tags_in own.now) result (front_shown front.now)) }
 {
-    // A configuration says that it is valid where it lends a list.
+    // prover: a configuration says that it is valid where it lends a list
     world.config.namespaces();
-    decide_front(world, v, front)
+    decide_front(world, v, own, front)
 }
 
-fn decide_front(world: &World<'_>, v: &Conversation, front: &Cut<'_>) -> Decision
-    ensures { result ≡ decide (world_in world.now) v.now (front_shown front.now) }
+fn decide_front(
+    world: &World<'_>,
+    v: &ConnectionState,
+    own: &OwnTransfers<'_>,
+    front: &Cut<'_>,
+) -> Decision
+    requires { own.now.connection < 64 }
+    ensures { result ≡ decide (world_in world.now) v.now (tags_in own.now) (front_shown front.now) }
 {
     match front {
         Cut::More => Decision::Close,
-        Cut::Pdu(pdu) => decide_pdu(world, v, pdu),
+        Cut::Pdu(pdu) => decide_pdu(world, v, own, pdu),
         Cut::Fault { fes, fei, .. } => terminate(*fes, *fei),
     }
 }
 
-fn decide_pdu(world: &World<'_>, v: &Conversation, pdu: &PduView<'_>) -> Decision
-    ensures { result ≡ decide_pdu (world_in world.now) v.now pdu.now }
+fn decide_pdu(
+    world: &World<'_>,
+    v: &ConnectionState,
+    own: &OwnTransfers<'_>,
+    pdu: &PduView<'_>,
+) -> Decision
+    requires { own.now.connection < 64 }
+    ensures { result ≡ decide_pdu (world_in world.now) v.now (tags_in own.now) pdu.now }
 {
     match v.session {
         Session::Opened => first(pdu),
-        Session::Initialized | Session::Connected { .. } => next(world, v, pdu),
+        Session::Initialized | Session::Connected { .. } => next(world, v, own, pdu),
         Session::Ended => Decision::Close,
     }
 }
@@ -120,14 +155,19 @@ fn first(pdu: &PduView<'_>) -> Decision
     }
 }
 
-fn next(world: &World<'_>, v: &Conversation, pdu: &PduView<'_>) -> Decision
-    ensures { result ≡ next_by pdu.now.kind (world_in world.now) v.now pdu.now }
+fn next(
+    world: &World<'_>,
+    v: &ConnectionState,
+    own: &OwnTransfers<'_>,
+    pdu: &PduView<'_>,
+) -> Decision
+    requires { own.now.connection < 64 }
+    ensures { result ≡ next_by pdu.now.kind (world_in world.now) v.now (tags_in own.now) pdu.now }
 {
     match pdu.kind() {
         PduType::H2cTermReq => Decision::Close,
-        PduType::CapsuleCmd => capsule::decide(world, v, pdu),
-        // No command that is built asks for data by R2T, so no TTAG is known.
-        PduType::H2cData => terminate(FatalErrorStatus::InvalidHeaderField, TTAG_AT),
+        PduType::CapsuleCmd => capsule::decide(world, v, own, pdu),
+        PduType::H2cData => received::decide(world, v, own, pdu),
         _ => terminate(FatalErrorStatus::SequenceError, 0),
     }
 }

@@ -10,7 +10,7 @@ use crate::queue::Queue;
 
 /// A connection, as far as a decision may look at it.
 #[derive(Clone, Copy)]
-pub struct Conversation {
+pub struct ConnectionState {
     /// The port that it was opened on.
     pub port: u16,
     pub session: Session,
@@ -18,12 +18,12 @@ pub struct Conversation {
     pub alignment: Alignment,
 }
 
-impl Conversation {
+impl ConnectionState {
     /// A connection on which nothing has come yet.
-    pub fn opened_on(port: u16) -> Conversation
+    pub fn opened_on(port: u16) -> ConnectionState
         ensures { result ≡ opened_on port }
     {
-        Conversation {
+        ConnectionState {
             port,
             session: Session::Opened,
             alignment: Alignment::none(),
@@ -71,6 +71,7 @@ impl Session {
         match decision {
             Decision::Initialize(_) => *self = Session::Initialized,
             Decision::Reply(reply) => self.reply(&reply.consequence),
+            Decision::Request(_) | Decision::Receive { .. } => {}
             Decision::Terminate(_) | Decision::Close => *self = Session::Ended,
         }
     }

@@ -5,48 +5,55 @@ ghost use Rattle.target_decision.specs.Data.{bytes_in, bytes_of, len_in};
 ghost use Rattle.io_queue.specs.Execution.{sizes};
 ghost use Rattle.pdu_cut.specs.Cut.{front_shown};
 ghost use Rattle.target_decision.specs.Act.{Does, room_in, room_of};
+ghost use Rattle.target_decision.specs.Carry.{brought_in};
 ghost use Rattle.target_decision.specs.Decision.{PerformsWithin, WithinIn, bytes_at, format_of, head_of, operation_in, response_of, whole_pdu};
 ghost use Rattle.nvt_fields.specs.FatalErrorStatus.{fatal_code_of};
 ghost use Rattle.pdu_codec.specs.Initialize.{ic_resp};
+ghost use Rattle.pdu_codec.specs.R2t.{r2t};
 ghost use Rattle.pdu_codec.specs.TermReq.{c2h_term_req};
 
 use crate::alignment::Alignment;
+use crate::carry::Carried;
 use crate::data::Data;
-use crate::decision::{Answer, Decision, Reply, Termination};
+use crate::decision::{Answer, DataRequest, Decision, Reply, Termination};
 use block_store::{Disk, Store};
 use bytes::BytesMut;
+use data_transfer::MAX_H2C_DATA;
 use io_queue::{DataFormat, perform};
 use nvt_fields::Status;
-use pdu_codec::{C2hHead, CapsuleResp, IcResp, TermReq};
+use pdu_codec::{C2hHead, CapsuleResp, IcResp, R2t, TermReq};
 use pdu_cut::Cut;
-
-/// The most data bytes that the target takes in one H2CData.
-const MAX_H2C_DATA: u32 = 16_384;
 
 /// The most bytes that a decision sends beside its data and the header in error: what stands before the
 /// data of a C2HData, and a response.
 pub(crate) const WIRE_MAX: usize = 128 + 24;
 
-/// Performs the operation of a decision on this front, and appends its PDUs, with the data that it
-/// returns of its controller.
+/// Performs the operation of a decision on this front, with what was carried for it, and appends its PDUs,
+/// with the data that it returns of its controller.
 pub(crate) fn write<D: Disk>(
     output: &mut BytesMut,
     stores: &mut [Store<D>],
     alignment: Alignment,
     decision: &Decision,
     front: &Cut<'_>,
+    carried: &Carried,
     returned: &Option<Data<'_>>,
 )
     requires room { let head = head_of (front_shown front.now) in
         WIRE_MAX + length head + len_in returned.now + room_of decision.now ≤ output.old.spare }
     requires head { length (head_of (front_shown front.now)) ≤ 128 }
-    requires within { PerformsWithin (sizes stores.old) decision.now (front_shown front.now) }
-    ensures { Does alignment decision.now (front_shown front.now) (bytes_in returned.now)
+    requires within { PerformsWithin (sizes stores.old) decision.now (brought_in carried.now (front_shown front.now)) }
+    ensures { let brought = brought_in carried.now (front_shown front.now) in
+        Does alignment decision.now (front_shown front.now) brought (bytes_in returned.now)
         stores.old stores.new output.old.items output.new.items }
 {
     match decision {
         Decision::Initialize(_) => write_initialized(output),
-        Decision::Reply(reply) => write_reply(output, stores, alignment, reply, front, returned),
+        Decision::Reply(reply) => {
+            write_reply(output, stores, alignment, reply, front, carried, returned);
+        }
+        Decision::Request(request) => write_request(output, request, carried.ttag),
+        Decision::Receive { .. } => {}
         Decision::Terminate(termination) => {
             write_termination(output, termination, head_of(front));
         }
@@ -60,12 +67,14 @@ fn write_reply<D: Disk>(
     alignment: Alignment,
     reply: &Reply,
     front: &Cut<'_>,
+    carried: &Carried,
     returned: &Option<Data<'_>>,
 )
     requires room { 152 + len_in returned.now + room_in (operation_in reply.now.answer) ≤ output.old.spare }
-    requires within { let bytes = bytes_at (front_shown front.now) in
-        WithinIn (sizes stores.old) (operation_in reply.now.answer) bytes }
-    ensures { Does alignment (Decision.Reply reply.now) (front_shown front.now) (bytes_in returned.now)
+    requires within { let brought = brought_in carried.now (front_shown front.now) in
+        WithinIn (sizes stores.old) (operation_in reply.now.answer) brought.bytes }
+    ensures { let brought = brought_in carried.now (front_shown front.now) in
+        Does alignment (Decision.Reply reply.now) (front_shown front.now) brought (bytes_in returned.now)
         stores.old stores.new output.old.items output.new.items }
 {
     match &reply.answer {
@@ -77,7 +86,7 @@ fn write_reply<D: Disk>(
             let status = perform(
                 stores,
                 operation,
-                bytes_at(front),
+                carried.bytes(front),
                 format_of(reply, alignment),
                 output,
             );
@@ -155,6 +164,20 @@ fn write_response(output: &mut BytesMut, reply: &Reply, status: Status, value: u
     response.write(output).unwrap();
 }
 
+fn write_request(output: &mut BytesMut, request: &DataRequest, ttag: u16)
+    requires { 24 ≤ output.old.spare }
+    ensures { output.new.items ≡ output.old.items
+        ++ r2t (record { cccid = request.now.cid; ttag = ttag; r2to = 0; r2tl = request.now.len }) }
+{
+    let asked = R2t {
+        cccid: request.cid,
+        ttag,
+        r2to: 0,
+        r2tl: request.len,
+    };
+    asked.write(output).unwrap();
+}
+
 fn write_termination(output: &mut BytesMut, termination: &Termination, head: &[u8])
     requires room { 24 + length head.now ≤ output.old.spare }
     requires head { length head.now ≤ 128 }
@@ -175,8 +198,8 @@ pub(crate) fn head_of<'a>(front: &Cut<'a>) -> &'a [u8]
     }
 }
 
-// The data in the capsule at a front.
-fn bytes_at<'a>(front: &Cut<'a>) -> &'a [u8]
+// The data of the PDU at a front.
+pub(crate) fn bytes_at<'a>(front: &Cut<'a>) -> &'a [u8]
     ensures { result.now ≡ bytes_at (front_shown front.now) }
 {
     match front {

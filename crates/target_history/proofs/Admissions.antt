@@ -1,6 +1,6 @@
 -- A Connect admits a connection that has no queue yet: to a controller under an identifier that is free, or as a
 -- queue that its controller has not.
-use Rattle.std.proofs.Common.{◌≡◌, ◌≤◌, ℕ, Bool, true, false, List, Option, Some, None, Result, Ok, Err, refl, ap, sym, subst}
+use Rattle.std.proofs.Common.{◌≡◌, ◌≤◌, ℕ, ◌+◌, Bool, true, false, List, Option, Some, None, Result, Ok, Err, refl, ap, sym, subst}
 use Rattle.std.specs.Prelude.{if◌then◌else◌, IsSomeAnd}
 use Rattle.fabrics_connect.specs.declared.decision.AdmitAs.{AdmitAs}
 use Rattle.fabrics_connect.specs.declared.decision.AdmitAs.TheVariants as admit
@@ -20,18 +20,18 @@ use Rattle.target_decision.specs.declared.consequence.Consequence.{Consequence}
 use Rattle.target_decision.specs.declared.consequence.Consequence.TheVariants as consequence
 use Rattle.target_decision.specs.declared.decision.Decision.{Decision}
 use Rattle.target_decision.specs.declared.decision.Decision.TheVariants as decision
-use Rattle.target_decision.specs.declared.session.Conversation.{Conversation}
+use Rattle.target_decision.specs.declared.session.ConnectionState.{ConnectionState}
 use Rattle.target_decision.specs.declared.session.Role.{Role}
 use Rattle.target_decision.specs.declared.session.Session.{Session}
-use Rattle.target_decision.specs.Capsule.{command, reply_of}
+use Rattle.target_decision.specs.Capsule.{command, owed}
 use Rattle.target_decision.specs.Connect.{admitted}
 use Rattle.target_decision.specs.Decision.{decide, entry_of}
-use Rattle.target_decision.specs.Outcome.{Outcome}
 use Rattle.target_decision.specs.Session.{is_ended, role_in}
+use Rattle.target_decision.specs.Transfer.{Tags, head_in}
 use Rattle.target_decision.specs.World.{World}
-use Rattle.target_decision.proofs.Deciding.{command_is, decision_is}
+use Rattle.target_decision.proofs.Deciding.{command_is, decision_is, finished_is}
 use Rattle.target_history.specs.Event.{front_in, steps}
-use Rattle.target_history.specs.Happening.{Happening, consequence_decided, consequence_of, decided, decided_on, port_at, stepping}
+use Rattle.target_history.specs.Occurrence.{Occurrence, consequence_decided, consequence_of, decided, decided_on, port_at, stepping, stepping_tags}
 use Rattle.target_history.specs.Laws.{role_at}
 
 -- a controller on this port may get a queue of this identifier
@@ -44,10 +44,6 @@ abbrev pub AdmitsBy : (ℕ → Option Row) → Option Role → ℕ → Consequen
 AdmitsBy row role port (consequence.Begin b) = (role ≡ None) × (row b.controller.cntlid ≡ None)
 AdmitsBy row role port (consequence.Join j) = (role ≡ None) × (j.qid ≤ 8) × IsSomeAnd (row j.cntlid) (CanTake port j.qid)
 AdmitsBy row role port _ = Unit {0}
-
-abbrev pub AdmitsIn : (ℕ → Option Row) → Option Role → ℕ → Outcome → Type 0
-AdmitsIn row role port (Ok success) = AdmitsBy row role port success.consequence
-AdmitsIn row role port (Err refusal) = Unit {0}
 
 -- .. and what a decision does, which initializes a connection without a queue alone
 abbrev pub Admits : (ℕ → Option Row) → Option Role → ℕ → Decision → Type 0
@@ -78,50 +74,52 @@ takes : (port qid : ℕ) (p : Parameters) (o : Option Row) → p.qid ≡ qid →
 takes port qid p None is h = h
 takes port qid p (Some row) is h = record { port = h.port; vacant = subst (λ (q : ℕ). has_queue q row ≡ false) is h.vacant }
 
-admitted_admits : (w : World) (port : ℕ) (entry bytes : List ℕ) (a : AdmitAs) → connect w.config w.row port entry bytes ≡ Admit a
-    → AdmitsIn w.row None port (admitted a entry)
-admitted_admits w port entry bytes (admit.Queue cntlid qid) h =
+admitted_admits : (w : World) (port : ℕ) (s : Session) (cid : ℕ) (entry bytes : List ℕ) (a : AdmitAs) → connect w.config w.row port entry bytes ≡ Admit a
+    → Admits w.row None port (owed s cid None (admitted a entry))
+admitted_admits w port s cid entry bytes (admit.Queue cntlid qid) h =
     let joined = joined_to w port entry bytes cntlid qid h in
     (refl, joined.most, takes port qid (parameters_of entry bytes) (w.row cntlid) joined.qid joined.found)
-admitted_admits w port entry bytes (admit.Controller new) h =
+admitted_admits w port s cid entry bytes (admit.Controller new) h =
     (refl, (identifiers_are_least.is_least w.config w.row port entry bytes new.cntlid new.kind h).free)
 
 -- ---- a PDU
 
-command_admits : (w : World) (v : Conversation) (entry bytes : List ℕ) → AdmitsIn w.row (role_in v.session) v.port (command w v entry bytes)
-command_admits w v entry bytes = command_is w v entry bytes (AdmitsIn w.row (role_in v.session) v.port) (record {
-  refuses = λ r. tt;
-  admits = λ none a is.
-      subst (λ (role : Option Role). AdmitsIn w.row role v.port (admitted a entry)) (sym none) (admitted_admits w v.port entry bytes a is);
-  tells = λ value. tt;
-  configures = λ cntlid role s. tt;
-  administers = λ cntlid role s. tt;
-  performs = λ cntlid qid role port subsystem op is. tt;
-})
+command_admits : (w : World) (v : ConnectionState) (tags : Tags) (cid : ℕ) (entry bytes : List ℕ)
+    → Admits w.row (role_in v.session) v.port (owed v.session cid None (command w v tags entry bytes))
+command_admits w v tags cid entry bytes =
+    command_is w v entry bytes (λ o. Admits w.row (role_in v.session) v.port (owed v.session cid None o)) (record {
+      refuses = λ r. tt;
+      admits = λ none a is.
+          subst (λ (role : Option Role). Admits w.row role v.port (owed v.session cid None (admitted a entry))) (sym none)
+          (admitted_admits w v.port v.session cid entry bytes a is);
+      tells = λ value. tt;
+      configures = λ cntlid role s. tt;
+      administers = λ cntlid role s. tt;
+      performs = λ cntlid qid role port subsystem op is. tt;
+      asks = λ cntlid qid role port subsystem len is. tt;
+    }) tags
 
-reply_admits : (row : ℕ → Option Row) (role : Option Role) (port : ℕ) (s : Session) (cid : ℕ) (o : Outcome) → AdmitsIn row role port o
-    → Admits row role port (decision.Reply (reply_of s cid o))
-reply_admits row role port s cid (Ok success) h = h
-reply_admits row role port s cid (Err refusal) h = tt
-
-decide_admits : (w : World) (v : Conversation) (front : Front) → Admits w.row (role_in v.session) v.port (decide w v front)
-decide_admits w v front = decision_is w v front (Admits w.row (role_in v.session) v.port) (record {
+decide_admits : (w : World) (v : ConnectionState) (tags : Tags) (front : Front) → Admits w.row (role_in v.session) v.port (decide w v tags front)
+decide_admits w v tags front = decision_is w v tags front (Admits w.row (role_in v.session) v.port) (record {
   closes = tt;
   terminates = λ t. tt;
   initializes = λ opened alignment. ap role_in opened;
-  replies = λ pdu is kind.
-      reply_admits w.row (role_in v.session) v.port v.session (cid_of (entry_of pdu)) (command w v (entry_of pdu) (data_part pdu))
-      (command_admits w v (entry_of pdu) (data_part pdu));
+  answers = λ pdu is kind room. command_admits w v tags (cid_of (entry_of pdu)) (entry_of pdu) (data_part pdu);
+  receives = λ pdu part brings. tt;
+  completes = λ pdu part brings.
+      finished_is w part.command.entry ((head_in pdu).datao + (head_in pdu).datal)
+      (λ o. Admits w.row (role_in v.session) v.port (owed v.session (head_in pdu).cccid (Some (head_in pdu).ttag) o)) v.session
+      (record { refuses = λ status. tt; performs = λ cntlid qid role port subsystem op is. tt });
 })
 
 -- ---- an event
 
-decided_admits : (w : World) (o : Option Conversation) (front : Front) → AdmitsAt w.row (role_at o) (port_at o) (decided_on w o front)
-decided_admits w None front = tt
-decided_admits w (Some v) front = by (is_ended v.session) where
-  by : (over : Bool) → AdmitsAt w.row (role_in v.session) v.port (if over then None else Some (decide w v front))
+decided_admits : (w : World) (tags : Tags) (o : Option ConnectionState) (front : Front) → AdmitsAt w.row (role_at o) (port_at o) (decided_on w tags o front)
+decided_admits w tags None front = tt
+decided_admits w tags (Some v) front = by (is_ended v.session) where
+  by : (over : Bool) → AdmitsAt w.row (role_in v.session) v.port (if over then None else Some (decide w v tags front))
   by true = tt
-  by false = decide_admits w v front
+  by false = decide_admits w v tags front
 
 follows_admits : (row : ℕ → Option Row) (role : Option Role) (port : ℕ) (d : Option Decision) → AdmitsAt row role port d
     → AdmitsBy row role port (consequence_decided d)
@@ -129,16 +127,17 @@ follows_admits row role port (Some (decision.Reply r)) h = h
 follows_admits row role port _ h = tt
 
 -- what is decided for a connection is right for the queue that it is
-pub own_admits : (x : Happening) (k : ℕ) → AdmitsAt x.world.row (role_at (x.conversation k)) (port_at (x.conversation k)) (decided x k)
+pub own_admits : (x : Occurrence) (k : ℕ) → AdmitsAt x.world.row (role_at (x.connection k)) (port_at (x.connection k)) (decided x k)
 own_admits x k = by (steps x.event k) where
   by : (stepping : Bool)
-      → AdmitsAt x.world.row (role_at (x.conversation k)) (port_at (x.conversation k)) (if stepping then decided_on x.world (x.conversation k) (front_in x.event) else None)
-  by true = decided_admits x.world (x.conversation k) (front_in x.event)
+      → AdmitsAt x.world.row (role_at (x.connection k)) (port_at (x.connection k)) (if stepping then decided_on x.world (x.parts k) (x.connection k) (front_in x.event) else None)
+  by true = decided_admits x.world (x.parts k) (x.connection k) (front_in x.event)
   by false = tt
 
 -- what follows from a reply is admitted to the connection that an event steps
-pub event_admits : (x : Happening)
-    → AdmitsBy x.world.row (role_at (stepping x.event x.conversation)) (port_at (stepping x.event x.conversation)) (consequence_of x)
+pub event_admits : (x : Occurrence)
+    → AdmitsBy x.world.row (role_at (stepping x.event x.connection)) (port_at (stepping x.event x.connection)) (consequence_of x)
 event_admits x =
-    let o = stepping x.event x.conversation in
-    follows_admits x.world.row (role_at o) (port_at o) (decided_on x.world o (front_in x.event)) (decided_admits x.world o (front_in x.event))
+    let o = stepping x.event x.connection in
+    let tags = stepping_tags x.event x.parts in
+    follows_admits x.world.row (role_at o) (port_at o) (decided_on x.world tags o (front_in x.event)) (decided_admits x.world tags o (front_in x.event))

@@ -1,6 +1,11 @@
 -- What a connection is sent depends on what happened to it alone, and on what its worlds show it.
 use Rattle.std.proofs.Common.{◌≡◌, ℕ, Bool, true, false, ◌||◌, ◌&&◌, List, [], ◌∷◌, ◌++◌, Option, Some, None, refl, sym, ap, ◌∙◌, append-nil}
-use Rattle.std.specs.Prelude.{if◌then◌else◌, not, ◌==◌, length}
+use Rattle.std.specs.Prelude.{if◌then◌else◌, not, ◌+◌, ◌==◌, length, Result, Ok, Err}
+use Rattle.data_transfer.specs.declared.fault.DataFault.{DataFault}
+use Rattle.data_transfer.specs.declared.transfer.Progress.{Progress}
+use Rattle.data_transfer.specs.declared.transfer.Progress.TheVariants as progress
+use Rattle.data_transfer.specs.Part.{Part, data_answer}
+use Rattle.pdu_codec.specs.declared.data_head.DataHead.{DataHead}
 use Rattle.admin_queue.specs.declared.payload.Payload.{Payload}
 use Rattle.admin_queue.specs.Controller.{AdminController}
 use Rattle.admin_queue.proofs.Asking.{answered_alike}
@@ -9,8 +14,8 @@ use Rattle.fabrics_connect.specs.declared.row.Row.{Row}
 use Rattle.fabrics_connect.specs.Command.{Parameters, parameters_of}
 use Rattle.fabrics_connect.specs.Connect.{admitted, begun, connect, joined_by, names_verdict, permission_verdict}
 use Rattle.io_queue.specs.declared.reply.DataFormat.{DataFormat}
-use Rattle.io_queue.specs.Act.{Medium}
-use Rattle.io_queue.proofs.Deciding.{begun_alike}
+use Rattle.io_queue.specs.Act.{DiskOutcome}
+use Rattle.io_queue.proofs.Deciding.{begun_alike, finished_alike}
 use Rattle.nvt_fields.specs.declared.pdu_type.PduType.{PduType}
 use Rattle.nvt_fields.specs.declared.pdu_type.PduType.TheVariants.{IcReq, IcResp, H2cTermReq, C2hTermReq, CapsuleCmd, CapsuleResp, H2cData, C2hData, R2t}
 use Rattle.nvt_fields.specs.Status.{command_sequence_error}
@@ -22,19 +27,22 @@ use Rattle.target_decision.specs.declared.decision.Answer.TheVariants as answer
 use Rattle.target_decision.specs.declared.decision.Decision.{Decision}
 use Rattle.target_decision.specs.declared.decision.Decision.TheVariants as decision
 use Rattle.target_decision.specs.declared.queue.Queue.{Queue}
-use Rattle.target_decision.specs.declared.session.Conversation.{Conversation}
+use Rattle.target_decision.specs.declared.session.ConnectionState.{ConnectionState}
 use Rattle.target_decision.specs.declared.session.Role.{Role}
 use Rattle.target_decision.specs.declared.session.Role.TheVariants.{Admin, Io}
 use Rattle.target_decision.specs.declared.session.Session.{Session}
+use Rattle.target_decision.specs.declared.transfer.WaitingCommand.{WaitingCommand}
 use Rattle.target_decision.specs.declared.session.Session.TheVariants.{Opened, Initialized, Connected, Ended}
-use Rattle.target_decision.specs.Capsule.{admin_at, admin_by, command_in, connect_type, fabrics_opcode, first_command, io_begun, io_at, io_by, io_of, is_ready_at, on_admin_queue, queue_command}
+use Rattle.target_decision.specs.Capsule.{admin_at, admin_by, command_in, connect_type, fabrics_opcode, finished, finished_by, finished_of, first_command, io_begun, io_at, io_by, io_finished, io_of, is_ready_at, on_admin_queue, owed, queue_command}
+use Rattle.target_decision.specs.Carry.{brought_by}
 use Rattle.target_decision.specs.Connect.{answered, connect_on}
-use Rattle.target_decision.specs.Decision.{bytes_at, data_of, decide, decide_in, entry_of, format_of, next_by, operation_in, operation_of, payload_at, payload_of, reply_wire, said_by, sent_by, wire_of}
+use Rattle.target_decision.specs.Decision.{Brought, completed, data_of, decide, decide_in, entry_of, format_of, next_by, operation_in, operation_of, payload_at, payload_of, received_by, reply_wire, said_by, sent_by, wire_of}
 use Rattle.target_decision.specs.Outcome.{Outcome, refuse, refused}
 use Rattle.target_decision.specs.Session.{is_ended}
+use Rattle.target_decision.specs.Transfer.{Tags, h2c_of, head_in}
 use Rattle.target_decision.specs.World.{World, admin_controller}
-use Rattle.target_history.specs.Event.{Event, front_in, gives_up, medium_in, opens, steps}
-use Rattle.target_history.specs.Happening.{Happening, decided_on, operation_decided, sends, sends_on}
+use Rattle.target_history.specs.Event.{Event, front_in, gives_up, disk_outcome_in, opens, steps}
+use Rattle.target_history.specs.Occurrence.{Occurrence, decided_on, operation_decided, sends, sends_on}
 use Rattle.target_history.specs.History.{sent}
 use Rattle.target_history.specs.Laws.{AdminAlike, AreSeenAlike, AreToldAlike, ConnectAlike, DiskAlike, HappenedAlike, IoAlike, IoSeen, RoleAlike, SameFor, SentByOwnAlone, SessionAlike, SubsystemAlike, WorldAlike, io_seen, is_command, is_of, own}
 
@@ -118,6 +126,33 @@ io_alike v w cntlid entry brings h =
     ∙ ap (λ (o : Option IoSeen). io_from o w entry brings) h.controller
     ∙ sym (io_is_from (w.row cntlid) w entry brings)
 
+-- .. once its data have come
+abbrev end_from : Option IoSeen → World → List ℕ → ℕ → Outcome
+end_from None w entry came = refused command_sequence_error
+end_from (Some s) w entry came = finished_of s.subsystem s.port w entry came
+
+end_is_from : (row : Option Row) (w : World) (entry : List ℕ) (came : ℕ) → finished_by row w entry came ≡ end_from (io_seen row) w entry came
+end_is_from None w entry came = refl
+end_is_from (Some row) w entry came = refl
+
+end_of_alike : (subsystem : Option (List ℕ)) (port : ℕ) (v w : World) (entry : List ℕ) (came : ℕ) → SubsystemAlike subsystem port v w
+    → finished_of subsystem port v entry came ≡ finished_of subsystem port w entry came
+end_of_alike None port v w entry came h = refl
+end_of_alike (Some nqn) port v w entry came h = ap io_finished (finished_alike v.config w.config port nqn entry came h)
+
+end_seen_alike : (o : Option IoSeen) (v w : World) (entry : List ℕ) (came : ℕ) → AreSeenAlike o v w → end_from o v entry came ≡ end_from o w entry came
+end_seen_alike None v w entry came h = refl
+end_seen_alike (Some s) v w entry came h = end_of_alike s.subsystem s.port v w entry came h
+
+ends_alike : (v w : World) (role : Role) (queue : Queue) → RoleAlike v w role → (entry : List ℕ) (came : ℕ)
+    → finished v (Connected role queue) entry came ≡ finished w (Connected role queue) entry came
+ends_alike v w (Admin cntlid) queue h entry came = refl
+ends_alike v w (Io cntlid qid) queue h entry came =
+    end_is_from (v.row cntlid) v entry came
+    ∙ end_seen_alike (io_seen (v.row cntlid)) v w entry came h.seen
+    ∙ ap (λ (o : Option IoSeen). end_from o w entry came) h.controller
+    ∙ sym (end_is_from (w.row cntlid) w entry came)
+
 queue_alike : (v w : World) (role : Role) (entry bytes : List ℕ) → RoleAlike v w role
     → queue_command v role entry bytes ≡ queue_command w role entry bytes
 queue_alike v w (Admin cntlid) entry bytes h = on_admin_alike v w cntlid entry h
@@ -125,41 +160,60 @@ queue_alike v w (Io cntlid qid) entry bytes h = rw (io_alike v w cntlid entry (l
 
 -- ---- what is decided
 
-next_alike : (kind : PduType) (v w : World) (c : Conversation) (pdu : Pdu)
+-- a command whose data have come ends the same
+abbrev EndsAlike : World → World → Session → Type 0
+EndsAlike v w s = (entry : List ℕ) (came : ℕ) → finished v s entry came ≡ finished w s entry came
+
+completed_alike : (v w : World) (c : ConnectionState) (head : DataHead) (part : Option (Part WaitingCommand)) → EndsAlike v w c.session
+    → completed v c head part ≡ completed w c head part
+completed_alike v w c head None h = refl
+completed_alike v w c head (Some part) h = ap (owed c.session head.cccid (Some head.ttag)) (h part.command.entry (head.datao + head.datal))
+
+received_alike : (v w : World) (c : ConnectionState) (head : DataHead) (part : Option (Part WaitingCommand)) (answer : Result Progress DataFault)
+    → EndsAlike v w c.session → received_by v c head part answer ≡ received_by w c head part answer
+received_alike v w c head part (Ok progress.More) h = refl
+received_alike v w c head part (Ok progress.Whole) h = completed_alike v w c head part h
+received_alike v w c head part (Err fault) h = refl
+
+next_alike : (kind : PduType) (v w : World) (c : ConnectionState) (tags : Tags) (pdu : Pdu)
     → (is_command kind ≡ true → command_in v c.port c.session (entry_of pdu) (data_part pdu) ≡ command_in w c.port c.session (entry_of pdu) (data_part pdu))
-    → next_by kind v c pdu ≡ next_by kind w c pdu
-next_alike CapsuleCmd v w c pdu h = rw (h refl) refl
-next_alike IcReq v w c pdu h = refl
-next_alike IcResp v w c pdu h = refl
-next_alike H2cTermReq v w c pdu h = refl
-next_alike C2hTermReq v w c pdu h = refl
-next_alike CapsuleResp v w c pdu h = refl
-next_alike H2cData v w c pdu h = refl
-next_alike C2hData v w c pdu h = refl
-next_alike R2t v w c pdu h = refl
+    → EndsAlike v w c.session → next_by kind v c tags pdu ≡ next_by kind w c tags pdu
+next_alike CapsuleCmd v w c tags pdu h i = rw (h refl) refl
+next_alike H2cData v w c tags pdu h i =
+    received_alike v w c (head_in pdu) (tags (head_in pdu).ttag) (data_answer (tags (head_in pdu).ttag) (h2c_of pdu)) i
+next_alike IcReq v w c tags pdu h i = refl
+next_alike IcResp v w c tags pdu h i = refl
+next_alike H2cTermReq v w c tags pdu h i = refl
+next_alike C2hTermReq v w c tags pdu h i = refl
+next_alike CapsuleResp v w c tags pdu h i = refl
+next_alike C2hData v w c tags pdu h i = refl
+next_alike R2t v w c tags pdu h i = refl
 
 both : (a b : Bool) → a ≡ true → b ≡ true → (a && b) ≡ true
 both a b h k = rw (h, k) refl
 
-abbrev on_port : ℕ → ℕ → Session → Conversation
+abbrev on_port : ℕ → ℕ → Session → ConnectionState
 on_port port alignment session = record { port = port; session = session; alignment = alignment }
 
-pdu_alike : (v w : World) (port alignment : ℕ) (s : Session) (pdu : Pdu) → SessionAlike v w port (whole pdu) s
-    → decide_in s v (on_port port alignment s) pdu ≡ decide_in s w (on_port port alignment s) pdu
-pdu_alike v w port alignment Opened pdu h = refl
-pdu_alike v w port alignment Initialized pdu h =
+pdu_alike : (v w : World) (port alignment : ℕ) (s : Session) (tags : Tags) (pdu : Pdu) → SessionAlike v w port (whole pdu) s
+    → decide_in s v (on_port port alignment s) tags pdu ≡ decide_in s w (on_port port alignment s) tags pdu
+pdu_alike v w port alignment Opened tags pdu h = refl
+pdu_alike v w port alignment Initialized tags pdu h =
     let entry = entry_of pdu in
     let connects : Bool = (opcode_of entry == fabrics_opcode) && (fctype_of entry == connect_type) in
-    next_alike pdu.kind v w (on_port port alignment Initialized) pdu
+    next_alike pdu.kind v w (on_port port alignment Initialized) tags pdu
     (λ is. first_alike v w port entry (data_part pdu) (λ (c : connects ≡ true). h (both (is_command pdu.kind) connects is c)))
-pdu_alike v w port alignment (Connected role queue) pdu h =
-    next_alike pdu.kind v w (on_port port alignment (Connected role queue)) pdu (λ is. queue_alike v w role (entry_of pdu) (data_part pdu) h)
-pdu_alike v w port alignment Ended pdu h = refl
+    (λ entry came. refl)
+pdu_alike v w port alignment (Connected role queue) tags pdu h =
+    next_alike pdu.kind v w (on_port port alignment (Connected role queue)) tags pdu (λ is. queue_alike v w role (entry_of pdu) (data_part pdu) h)
+    (ends_alike v w role queue h)
+pdu_alike v w port alignment Ended tags pdu h = refl
 
-decide_alike : (v w : World) (c : Conversation) (front : Front) → SessionAlike v w c.port front c.session → decide v c front ≡ decide w c front
-decide_alike v w c incomplete h = refl
-decide_alike v w c (whole pdu) h = pdu_alike v w c.port c.alignment c.session pdu h
-decide_alike v w c (faulty fault head) h = refl
+decide_alike : (v w : World) (c : ConnectionState) (tags : Tags) (front : Front) → SessionAlike v w c.port front c.session
+    → decide v c tags front ≡ decide w c tags front
+decide_alike v w c tags incomplete h = refl
+decide_alike v w c tags (whole pdu) h = pdu_alike v w c.port c.alignment c.session tags pdu h
+decide_alike v w c tags (faulty fault head) h = refl
 
 -- ---- what is sent
 
@@ -182,47 +236,51 @@ data_alike v w port (Connected (Admin cntlid) queue) front d h = admin_data v w 
 data_alike v w port (Connected (Io cntlid qid) queue) front d h = payload_alike v w None (payload_of d) tt
 data_alike v w port Ended front d h = payload_alike v w None (payload_of d) tt
 
-said_alike : (format : DataFormat) (a : Answer) (payload : Option (List ℕ)) (bytes : List ℕ) (b c : ℕ → List (List ℕ)) (m : Medium) → DiskAlike (operation_in a) b c
+said_alike : (format : DataFormat) (a : Answer) (payload : Option (List ℕ)) (bytes : List ℕ) (b c : ℕ → List (List ℕ)) (m : DiskOutcome) → DiskAlike (operation_in a) b c
     → said_by format a payload bytes b m ≡ said_by format a payload bytes c m
 said_alike format (answer.Given g) payload bytes b c m h = refl
 said_alike format (answer.Performed op) payload bytes b c m h = rw h refl
 
-wire_alike : (alignment : ℕ) (d : Decision) (front : Front) (payload : Option (List ℕ)) (b c : ℕ → List (List ℕ)) (m : Medium) → DiskAlike (operation_of d) b c
-    → wire_of alignment d front payload b m ≡ wire_of alignment d front payload c m
-wire_alike alignment (decision.Initialize asked) front payload b c m h = refl
-wire_alike alignment (decision.Reply r) front payload b c m h = ap (reply_wire r) (said_alike (format_of r alignment) r.answer payload (bytes_at front) b c m h)
-wire_alike alignment (decision.Terminate t) front payload b c m h = refl
-wire_alike alignment decision.Close front payload b c m h = refl
+wire_alike : (alignment : ℕ) (d : Decision) (front : Front) (given : Brought) (payload : Option (List ℕ)) (b c : ℕ → List (List ℕ)) (m : DiskOutcome)
+    → DiskAlike (operation_of d) b c → wire_of alignment d front given payload b m ≡ wire_of alignment d front given payload c m
+wire_alike alignment (decision.Reply r) front given payload b c m h =
+    ap (reply_wire r) (said_alike (format_of r alignment) r.answer payload given.bytes b c m h)
+wire_alike alignment (decision.Initialize asked) front given payload b c m h = refl
+wire_alike alignment (decision.Request q) front given payload b c m h = refl
+wire_alike alignment (decision.Receive ttag) front given payload b c m h = refl
+wire_alike alignment (decision.Terminate t) front given payload b c m h = refl
+wire_alike alignment decision.Close front given payload b c m h = refl
 
-abbrev decided_by : Bool → World → Option Conversation → Front → Option Decision
-decided_by stepping w o front = if stepping then decided_on w o front else None
+abbrev decided_by : Bool → World → Tags → Option ConnectionState → Front → Option Decision
+decided_by stepping w tags o front = if stepping then decided_on w tags o front else None
 
-sends_by : (stepping : Bool) (v w : World) (b c : ℕ → List (List ℕ)) (m : Medium) (o : Option Conversation) (front : Front)
-    → (stepping ≡ true → WorldAlike v w front o) → DiskAlike (operation_decided (decided_by stepping v o front)) b c
-    → sends_on v b m o (decided_by stepping v o front) front ≡ sends_on w c m o (decided_by stepping w o front) front
-sends_by stepping v w b c m None front h i = refl
-sends_by false v w b c m (Some k) front h i = refl
-sends_by true v w b c m (Some k) front h i = by (is_ended k.session) i where
+sends_by : (stepping : Bool) (v w : World) (b c : ℕ → List (List ℕ)) (m : DiskOutcome) (tags : Tags) (o : Option ConnectionState) (front : Front)
+    → (stepping ≡ true → WorldAlike v w front o) → DiskAlike (operation_decided (decided_by stepping v tags o front)) b c
+    → sends_on v b m tags o (decided_by stepping v tags o front) front ≡ sends_on w c m tags o (decided_by stepping w tags o front) front
+sends_by stepping v w b c m tags None front h i = refl
+sends_by false v w b c m tags (Some k) front h i = refl
+sends_by true v w b c m tags (Some k) front h i = by (is_ended k.session) i where
   over_or : Bool → World → Option Decision
-  over_or over w = if over then None else Some (decide w k front)
+  over_or over w = if over then None else Some (decide w k tags front)
 
   by : (over : Bool) → DiskAlike (operation_decided (over_or over v)) b c
-      → sends_on v b m (Some k) (over_or over v) front ≡ sends_on w c m (Some k) (over_or over w) front
+      → sends_on v b m tags (Some k) (over_or over v) front ≡ sends_on w c m tags (Some k) (over_or over w) front
   by true i = refl
   by false i =
-      ap (λ (payload : Option (List ℕ)). wire_of k.alignment (decide v k front) front payload b m) (data_alike v w k.port k.session front (decide v k front) (h refl))
-      ∙ wire_alike k.alignment (decide v k front) front (data_of w k.session (decide v k front)) b c m i
-      ∙ ap (λ (d : Decision). sent_by w c m k d front) (decide_alike v w k front (h refl))
+      let d = decide v k tags front in
+      ap (λ (payload : Option (List ℕ)). wire_of k.alignment d front (brought_by tags d front) payload b m) (data_alike v w k.port k.session front d (h refl))
+      ∙ wire_alike k.alignment d front (brought_by tags d front) (data_of w k.session d) b c m i
+      ∙ ap (λ (e : Decision). sent_by w c m k e front (brought_by tags e front)) (decide_alike v w k tags front (h refl))
 
-sends_alike : (k : ℕ) (x y : Happening) → SameFor k x y → sends x k ≡ sends y k
+sends_alike : (k : ℕ) (x y : Occurrence) → SameFor k x y → sends x k ≡ sends y k
 sends_alike k x y same =
-    rw (same.event, ← same.conversation)
-    (sends_by (steps x.event k) x.world y.world x.blocks y.blocks (medium_in x.event) (x.conversation k) (front_in x.event) same.world same.disk)
+    rw (same.event, ← same.connection, ← same.parts)
+    (sends_by (steps x.event k) x.world y.world x.blocks y.blocks (disk_outcome_in x.event) (x.parts k) (x.connection k) (front_in x.event) same.world same.disk)
 
 sent_more : (b c : Bool) (s t u z : List ℕ) → b ≡ c → s ≡ t → u ≡ z → (if b then [] else s ++ u) ≡ (if c then [] else t ++ z)
 sent_more b c s t u z p q r = rw (p, q, r) refl
 
-alike_sent : (g h : List Happening) (k : ℕ) → HappenedAlike g h k → sent g k ≡ sent h k
+alike_sent : (g h : List Occurrence) (k : ℕ) → HappenedAlike g h k → sent g k ≡ sent h k
 alike_sent [] [] k alike = refl
 alike_sent [] (y ∷ ys) k alike = absurd alike
 alike_sent (x ∷ xs) [] k alike = absurd alike
@@ -237,11 +295,11 @@ none_of true b c h = cc
 none_of false true c h = cc
 none_of false false c h = (refl, refl, h)
 
-silent : (x : Happening) (o : Option Conversation) → sends_on x.world x.blocks (medium_in x.event) o None (front_in x.event) ≡ []
-silent x None = refl
-silent x (Some c) = refl
+silent : (x : Occurrence) (tags : Tags) (o : Option ConnectionState) → sends_on x.world x.blocks (disk_outcome_in x.event) tags o None (front_in x.event) ≡ []
+silent x tags None = refl
+silent x tags (Some c) = refl
 
-own_sent : (h : List Happening) (k : ℕ) → sent h k ≡ sent (own h k) k
+own_sent : (h : List Occurrence) (k : ℕ) → sent h k ≡ sent (own h k) k
 own_sent [] k = refl
 own_sent (x ∷ before) k = by (is_of x.event k) refl (own_sent before k) where
   by : (mine : Bool) → is_of x.event k ≡ mine → sent before k ≡ sent (own before k) k
@@ -249,7 +307,7 @@ own_sent (x ∷ before) k = by (is_of x.event k) refl (own_sent before k) where
   by true is earlier = ap (λ (s : List ℕ). if opens x.event k || gives_up x.event k then [] else s ++ sends x k) earlier
   by false is earlier =
       let parts = none_of (opens x.event k) (steps x.event k) (gives_up x.event k) is in
-      rw (parts.0, parts.1, parts.2, silent x (x.conversation k)) (append-nil (sent before k) ∙ earlier)
+      rw (parts.0, parts.1, parts.2, silent x (x.parts k) (x.connection k)) (append-nil (sent before k) ∙ earlier)
 
 pub sent_by_own_alone : SentByOwnAlone
 sent_by_own_alone = record { same = λ g h k alike. own_sent g k ∙ alike_sent (own g k) (own h k) k alike ∙ sym (own_sent h k) }

@@ -3,7 +3,7 @@ use Rattle.std.proofs.Common.{◌≡◌, ℕ, Bool, true, false, ◌==◌, List,
 use Rattle.std.specs.Prelude.{if◌then◌else◌}
 use Rattle.block_store.specs.Write.{contents_after}
 use Rattle.io_queue.specs.Execution.{Act, write_on, written}
-use Rattle.target_history.specs.Happening.{Happening, acts}
+use Rattle.target_history.specs.Occurrence.{Occurrence, acts}
 use Rattle.target_history.specs.History.{Opening, acts_of, blocks_of, with_act, writes_to}
 
 act_step : (o : Option Act) (earlier : List Act) (opening : List (List ℕ)) (disk : ℕ)
@@ -16,6 +16,6 @@ act_step (Some a) earlier opening disk = by (disk == a.disk) where
   by false = refl
 
 -- the units of a disk are as before, written over by what the event writes to it
-pub blocks_step : (disks : Opening) (x : Happening) (before : List Happening) (disk : ℕ)
+pub blocks_step : (disks : Opening) (x : Occurrence) (before : List Occurrence) (disk : ℕ)
     → blocks_of disks (x ∷ before) disk ≡ written (write_on disk (acts x)) (blocks_of disks before disk)
 blocks_step disks x before disk = act_step (acts x) (acts_of before) (slice_index_or disks disk []) disk

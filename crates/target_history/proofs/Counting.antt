@@ -1,5 +1,5 @@
 -- Each response carries the number of responses since the Connect.
-use Rattle.std.proofs.Common.{◌≡◌, ℕ, ◌+◌, ◌%◌, ◌<◌, Bool, true, false, List, ◌∷◌, Option, Some, None, Ok, Err, refl, sym, ◌∙◌, arith}
+use Rattle.std.proofs.Common.{◌≡◌, ℕ, ◌+◌, ◌%◌, ◌<◌, Bool, true, false, List, ◌∷◌, Option, Some, None, refl, sym, ◌∙◌, arith}
 use Rattle.std.specs.Prelude.{if◌then◌else◌}
 use Rattle.std.proofs.Math.Nat.{mod-lt}
 use Rattle.pdu_codec.specs.Sqe.{cid_of}
@@ -10,18 +10,19 @@ use Rattle.target_decision.specs.declared.consequence.Consequence.TheVariants as
 use Rattle.target_decision.specs.declared.decision.Decision.{Decision}
 use Rattle.target_decision.specs.declared.decision.Decision.TheVariants as decision
 use Rattle.target_decision.specs.declared.decision.Reply.{Reply}
-use Rattle.target_decision.specs.declared.session.Conversation.{Conversation}
+use Rattle.target_decision.specs.declared.session.ConnectionState.{ConnectionState}
 use Rattle.target_decision.specs.declared.session.Session.{Session}
 use Rattle.target_decision.specs.declared.session.Session.TheVariants.{Ended}
-use Rattle.target_decision.specs.Capsule.{command, head_after, reply_of}
+use Rattle.target_decision.specs.Capsule.{command, finished, head_after, owed}
 use Rattle.target_decision.specs.Decision.{decide, entry_of}
 use Rattle.target_decision.specs.Outcome.{Outcome}
 use Rattle.target_decision.specs.Session.{is_ended}
+use Rattle.target_decision.specs.Transfer.{Tags, head_in}
 use Rattle.target_decision.specs.World.{World}
-use Rattle.target_decision.proofs.Deciding.{decision_is}
+use Rattle.target_decision.proofs.Deciding.{decision_is, owed_is}
 use Rattle.target_history.specs.Event.{Event, edited, front_in, opened, opens, stepped, steps, given_up, ticked}
-use Rattle.target_history.specs.Happening.{Happening, decided, decided_on}
-use Rattle.target_history.specs.History.{Admission, admission_by, admission_of, admission_or, alignment_of, conversation_of, has_ended, is_initialized, is_known, port_of, responses_by, responses_since, session_with}
+use Rattle.target_history.specs.Occurrence.{Occurrence, decided, decided_on}
+use Rattle.target_history.specs.History.{Admission, admission_by, admission_of, admission_or, alignment_of, connection_of, has_ended, is_initialized, is_known, port_of, responses_by, responses_since, session_with}
 use Rattle.target_history.specs.Laws.{HeadsCountResponses, sqsize_of}
 use Rattle.target_history.proofs.Steps.{first_head, one_more}
 
@@ -31,16 +32,19 @@ abbrev HeadIs : Session → Decision → Type 0
 HeadIs s (decision.Reply r) = r.sqhd ≡ head_after s r.consequence
 HeadIs s _ = Unit {0}
 
-reply_heads : (s : Session) (cid : ℕ) (o : Outcome) → HeadIs s (decision.Reply (reply_of s cid o))
-reply_heads s cid (Ok success) = refl
-reply_heads s cid (Err refusal) = refl
+owed_heads : (s : Session) (cid : ℕ) (transfer : Option ℕ) (o : Outcome) → HeadIs s (owed s cid transfer o)
+owed_heads s cid transfer o = owed_is (HeadIs s) s cid transfer (λ r ends head. head) (λ len. tt) o
 
-decide_heads : (w : World) (v : Conversation) (front : Front) → HeadIs v.session (decide w v front)
-decide_heads w v front = decision_is w v front (HeadIs v.session) (record {
+decide_heads : (w : World) (v : ConnectionState) (tags : Tags) (front : Front) → HeadIs v.session (decide w v tags front)
+decide_heads w v tags front = decision_is w v tags front (HeadIs v.session) (record {
   closes = tt;
   terminates = λ t. tt;
   initializes = λ opened alignment. tt;
-  replies = λ pdu is kind. reply_heads v.session (cid_of (entry_of pdu)) (command w v (entry_of pdu) (data_part pdu));
+  answers = λ pdu is kind room. owed_heads v.session (cid_of (entry_of pdu)) None (command w v tags (entry_of pdu) (data_part pdu));
+  receives = λ pdu part brings. tt;
+  completes = λ pdu part brings.
+      owed_heads v.session (head_in pdu).cccid (Some (head_in pdu).ttag)
+      (finished w v.session part.command.entry ((head_in pdu).datao + (head_in pdu).datal));
 })
 
 -- ---- .. on a connection that is known and not ended
@@ -48,20 +52,21 @@ decide_heads w v front = decision_is w v front (HeadIs v.session) (record {
 heads_same : (s : Session) (d e : Decision) → d ≡ e → HeadIs s d → HeadIs s e
 heads_same s d e same h = rw (← same) h
 
-decided_heads : (over : Bool) (w : World) (v : Conversation) (front : Front) (r : Reply)
-    → (if over then None else Some (decide w v front)) ≡ Some (decision.Reply r) → r.sqhd ≡ head_after v.session r.consequence
-decided_heads true w v front r h = cc
-decided_heads false w v front r h =
-    let same : decide w v front ≡ decision.Reply r = cc in
-    heads_same v.session (decide w v front) (decision.Reply r) same (decide_heads w v front)
+decided_heads : (over : Bool) (w : World) (v : ConnectionState) (tags : Tags) (front : Front) (r : Reply)
+    → (if over then None else Some (decide w v tags front)) ≡ Some (decision.Reply r) → r.sqhd ≡ head_after v.session r.consequence
+decided_heads true w v tags front r h = cc
+decided_heads false w v tags front r h =
+    let same : decide w v tags front ≡ decision.Reply r = cc in
+    heads_same v.session (decide w v tags front) (decision.Reply r) same (decide_heads w v tags front)
 
-told : (stepping known ended : Bool) (w : World) (port alignment : ℕ) (s : Session) (front : Front) (r : Reply)
-    → (if stepping then decided_on w (if known then Some (record { port = port; session = if ended then Ended else s; alignment = alignment }) else None) front else None)
+told : (stepping known ended : Bool) (w : World) (tags : Tags) (port alignment : ℕ) (s : Session) (front : Front) (r : Reply)
+    → (if stepping then decided_on w tags (if known then Some (record { port = port; session = if ended then Ended else s; alignment = alignment }) else None) front else None)
     ≡ Some (decision.Reply r) → r.sqhd ≡ head_after s r.consequence
-told false known ended w port alignment s front r h = cc
-told true false ended w port alignment s front r h = cc
-told true true true w port alignment s front r h = cc
-told true true false w port alignment s front r h = decided_heads (is_ended s) w (record { port = port; session = s; alignment = alignment }) front r h
+told false known ended w tags port alignment s front r h = cc
+told true false ended w tags port alignment s front r h = cc
+told true true true w tags port alignment s front r h = cc
+told true true false w tags port alignment s front r h =
+    decided_heads (is_ended s) w (record { port = port; session = s; alignment = alignment }) tags front r h
 
 -- ---- the head counts
 
@@ -85,13 +90,13 @@ no_open (given_up n) k d e h = refl
 no_open (stepped n front m) k d e h = refl
 no_open (ticked now) k d e h = refl
 
-counts_here : (x : Happening) (before : List Happening) (k : ℕ) (r : Reply)
-    → x.conversation k ≡ conversation_of before k → decided x k ≡ Some (decision.Reply r)
+counts_here : (x : Occurrence) (before : List Occurrence) (k : ℕ) (r : Reply)
+    → x.connection k ≡ connection_of before k → decided x k ≡ Some (decision.Reply r)
     → r.sqhd ≡ responses_since (x ∷ before) k % (sqsize_of (admission_of (x ∷ before) k) + 1)
 counts_here x before k r met h =
-    let carries = told (steps x.event k) (is_known before k) (has_ended before k) x.world (port_of before k) (alignment_of before k)
+    let carries = told (steps x.event k) (is_known before k) (has_ended before k) x.world (x.parts k) (port_of before k) (alignment_of before k)
     (session_with (admission_of before k) (is_initialized before k) (responses_since before k)) (front_in x.event) r (rw met at h) in
-    let closed = no_open x.event k (decided_on x.world (x.conversation k) (front_in x.event)) (decision.Reply r) h in
+    let closed = no_open x.event k (decided_on x.world (x.parts k) (x.connection k) (front_in x.event)) (decision.Reply r) h in
     rw (h, closed) (carries ∙ head_counts r.consequence (admission_of before k) (is_initialized before k) (responses_since before k))
 
 pub heads_count_responses : HeadsCountResponses

@@ -17,62 +17,65 @@ use Rattle.target_decision.specs.declared.consequence.Update.{Update}
 use Rattle.target_decision.specs.declared.consequence.Update.TheVariants as update
 use Rattle.target_decision.specs.declared.decision.Decision.{Decision}
 use Rattle.target_decision.specs.declared.decision.Decision.TheVariants as decision
-use Rattle.target_decision.specs.declared.session.Conversation.{Conversation}
+use Rattle.target_decision.specs.declared.session.ConnectionState.{ConnectionState}
 use Rattle.target_decision.specs.declared.session.Role.{Role}
 use Rattle.target_decision.specs.declared.session.Role.TheVariants.{Admin, Io}
 use Rattle.target_decision.specs.declared.session.Session.{Session}
 use Rattle.target_decision.specs.declared.session.Session.TheVariants.{Opened, Initialized, Connected, Ended}
 use Rattle.target_decision.specs.Controller.{restarts}
+use Rattle.target_decision.specs.Transfer.{Tags}
 use Rattle.target_decision.specs.World.{World}
-use Rattle.target_history.specs.declared.ending.Ending.{Ending}
-use Rattle.target_history.specs.declared.ending.Ending.TheVariants as ending
-use Rattle.target_history.specs.Ending.{ending_edited, ending_lost, ending_replied, ending_set, ends_by, ends_role, ends_row, ends_row_at, ends_session, ends_timer, is_barred, is_on_port}
+use Rattle.target_history.specs.declared.end_cause.EndCause.{EndCause}
+use Rattle.target_history.specs.declared.end_cause.EndCause.TheVariants as cause
+use Rattle.target_history.specs.EndCause.{cause_edited, cause_lost, cause_replied, cause_set, ends_by, ends_role, ends_row, ends_row_at, ends_session, ends_timer, is_barred, is_on_port}
 use Rattle.target_history.specs.Event.{Event, edited, front_in, opened, stepped, steps, given_up, ticked}
-use Rattle.target_history.specs.Happening.{Happening, Start, begins, begins_by, consequence_decided, consequence_of, decided, decided_on, decision_of, ending_by, ending_given_up, ending_of, ending_taken, ends_live, is_end_decided, row_kept, started, stepping, updates}
-use Rattle.target_history.specs.History.{Opening, clock_of, config_of, controller_of, conversation_of, happened, mark_of, meets_after, part_after, row_of}
+use Rattle.target_history.specs.Occurrence.{Occurrence, Start, begins, begins_by, consequence_decided, consequence_of, decided, decided_on, decision_of, cause_by, cause_given_up, cause_of, cause_stepped, ends_live, is_end_decided, row_kept, started, stepping, stepping_tags, updates}
+use Rattle.target_history.specs.History.{Opening, clock_of, config_of, controller_of, connection_of, happened, mark_of, meets_after, part_after, row_of}
 use Rattle.target_history.specs.Laws.{EditsEndControllers, NothingExpiresWithoutTicks, PermittedOutliveEdits, ResetsEndTheirQueuesAlone, StaysPermitted, deletes, has_ticks, is_io_queue_of, is_queue_of, is_role_of, is_tick}
 use Rattle.target_history.proofs.Lives.{controller_step, row_step}
-use Rattle.target_history.proofs.Steps.{conversation_step}
+use Rattle.target_history.proofs.Steps.{connection_step}
 use Rattle.target_history.proofs.Tests.{either_false, neither, other_true, same_number}
 
 -- ---- the connection that an event steps
 
-pub decided_is : (event : Event) (w : World) (conversation : ℕ → Option Conversation) (k : ℕ) → steps event k ≡ true
-    → decided_on w (conversation k) (front_in event) ≡ decided_on w (stepping event conversation) (front_in event)
-decided_is (edited edit) w conversation k h = cc
-decided_is (opened port n) w conversation k h = cc
-decided_is (given_up n) w conversation k h = cc
-decided_is (ticked now) w conversation k h = cc
-decided_is (stepped n front m) w conversation k h = ap (λ (j : ℕ). decided_on w (conversation j) front) (same_number k n h)
+pub decided_is : (event : Event) (w : World) (parts : ℕ → Tags) (connection : ℕ → Option ConnectionState) (k : ℕ) → steps event k ≡ true
+    → decided_on w (parts k) (connection k) (front_in event) ≡ decided_on w (stepping_tags event parts) (stepping event connection) (front_in event)
+decided_is (edited edit) w parts connection k h = cc
+decided_is (opened port n) w parts connection k h = cc
+decided_is (given_up n) w parts connection k h = cc
+decided_is (ticked now) w parts connection k h = cc
+decided_is (stepped n front m) w parts connection k h = ap (λ (j : ℕ). decided_on w (parts j) (connection j) front) (same_number k n h)
 
 -- ---- a reset
 
-taken_is : (o : Option Conversation) (w : World) (front : Front) (d : Option Decision) (ch : Consequence) → decided_on w o front ≡ d
-    → consequence_decided d ≡ ch → (ch ≡ consequence.Nothing → ⊥) → ending_taken o d ≡ ending_replied ch
-taken_is None w front d ch is h changes = absurd (changes (sym h ∙ ap consequence_decided (sym is)))
-taken_is (Some v) w front None ch is h changes = absurd (changes (sym h))
-taken_is (Some v) w front (Some (decision.Initialize alignment)) ch is h changes = absurd (changes (sym h))
-taken_is (Some v) w front (Some (decision.Reply r)) ch is h changes = ap ending_replied h
-taken_is (Some v) w front (Some (decision.Terminate t)) ch is h changes = absurd (changes (sym h))
-taken_is (Some v) w front (Some decision.Close) ch is h changes = absurd (changes (sym h))
+taken_is : (o : Option ConnectionState) (w : World) (tags : Tags) (front : Front) (d : Option Decision) (ch : Consequence) → decided_on w tags o front ≡ d
+    → consequence_decided d ≡ ch → (ch ≡ consequence.Nothing → ⊥) → cause_stepped o d ≡ cause_replied ch
+taken_is None w tags front d ch is h changes = absurd (changes (sym h ∙ ap consequence_decided (sym is)))
+taken_is (Some v) w tags front None ch is h changes = absurd (changes (sym h))
+taken_is (Some v) w tags front (Some (decision.Initialize alignment)) ch is h changes = absurd (changes (sym h))
+taken_is (Some v) w tags front (Some (decision.Request q)) ch is h changes = absurd (changes (sym h))
+taken_is (Some v) w tags front (Some (decision.Receive ttag)) ch is h changes = absurd (changes (sym h))
+taken_is (Some v) w tags front (Some (decision.Reply r)) ch is h changes = ap cause_replied h
+taken_is (Some v) w tags front (Some (decision.Terminate t)) ch is h changes = absurd (changes (sym h))
+taken_is (Some v) w tags front (Some decision.Close) ch is h changes = absurd (changes (sym h))
 
-ending_by_is : (event : Event) (w : World) (conversation : ℕ → Option Conversation) (clock : ℕ) (ch : Consequence)
-    → consequence_decided (decided_on w (stepping event conversation) (front_in event)) ≡ ch → (ch ≡ consequence.Nothing → ⊥)
-    → ending_by event conversation (decided_on w (stepping event conversation) (front_in event)) clock ≡ ending_replied ch
-ending_by_is (edited edit) w conversation clock ch h changes = absurd (changes (sym h))
-ending_by_is (opened port n) w conversation clock ch h changes = absurd (changes (sym h))
-ending_by_is (given_up n) w conversation clock ch h changes = absurd (changes (sym h))
-ending_by_is (ticked now) w conversation clock ch h changes = absurd (changes (sym h))
-ending_by_is (stepped n front m) w conversation clock ch h changes =
-    taken_is (conversation n) w front (decided_on w (conversation n) front) ch refl h changes
+cause_by_is : (event : Event) (w : World) (parts : ℕ → Tags) (connection : ℕ → Option ConnectionState) (clock : ℕ) (ch : Consequence)
+    → consequence_decided (decided_on w (stepping_tags event parts) (stepping event connection) (front_in event)) ≡ ch → (ch ≡ consequence.Nothing → ⊥)
+    → cause_by event connection (decided_on w (stepping_tags event parts) (stepping event connection) (front_in event)) clock ≡ cause_replied ch
+cause_by_is (edited edit) w parts connection clock ch h changes = absurd (changes (sym h))
+cause_by_is (opened port n) w parts connection clock ch h changes = absurd (changes (sym h))
+cause_by_is (given_up n) w parts connection clock ch h changes = absurd (changes (sym h))
+cause_by_is (ticked now) w parts connection clock ch h changes = absurd (changes (sym h))
+cause_by_is (stepped n front m) w parts connection clock ch h changes =
+    taken_is (connection n) w (parts n) front (decided_on w (parts n) (connection n) front) ch refl h changes
 
 -- what an event ends where something follows from its reply, by that alone
-pub reply_ends : (x : Happening) (ch : Consequence) → consequence_of x ≡ ch → (ch ≡ consequence.Nothing → ⊥) → ending_of x ≡ ending_replied ch
-reply_ends x ch h changes = ending_by_is x.event x.world x.conversation x.clock ch h changes
+pub reply_ends : (x : Occurrence) (ch : Consequence) → consequence_of x ≡ ch → (ch ≡ consequence.Nothing → ⊥) → cause_of x ≡ cause_replied ch
+reply_ends x ch h changes = cause_by_is x.event x.world x.parts x.connection x.clock ch h changes
 
-reset_ends : (x : Happening) (d : ℕ) (s : ConfigurationSet) → consequence_of x ≡ consequence.Update d (update.Configuration s) → s.change ≡ change.Reset
-    → ending_of x ≡ ending.Reset d
-reset_ends x d s h resets = reply_ends x (consequence.Update d (update.Configuration s)) h (λ is. cc) ∙ ap (λ (e : Change). ending_set e d) resets
+reset_ends : (x : Occurrence) (d : ℕ) (s : ConfigurationSet) → consequence_of x ≡ consequence.Update d (update.Configuration s) → s.change ≡ change.Reset
+    → cause_of x ≡ cause.Reset d
+reset_ends x d s h resets = reply_ends x (consequence.Update d (update.Configuration s)) h (λ is. cc) ∙ ap (λ (e : Change). cause_set e d) resets
 
 no_end : (d : Option Decision) (c : ℕ) (u : Update) → consequence_decided d ≡ consequence.Update c u → is_end_decided d ≡ false
 no_end (Some (decision.Terminate t)) c u h = cc
@@ -80,22 +83,22 @@ no_end (Some decision.Close) c u h = cc
 no_end _ c u h = refl
 
 -- no step that changes a controller ends its own connection
-goes_on : (x : Happening) (k c : ℕ) (u : Update) → consequence_of x ≡ consequence.Update c u → is_end_decided (decided x k) ≡ false
+goes_on : (x : Occurrence) (k c : ℕ) (u : Update) → consequence_of x ≡ consequence.Update c u → is_end_decided (decided x k) ≡ false
 goes_on x k c u h = by (steps x.event k) refl where
   by : (stepping : Bool) → steps x.event k ≡ stepping
-      → is_end_decided (if stepping then decided_on x.world (x.conversation k) (front_in x.event) else None) ≡ false
-  by true is = ap is_end_decided (decided_is x.event x.world x.conversation k is) ∙ no_end (decision_of x) c u h
+      → is_end_decided (if stepping then decided_on x.world (x.parts k) (x.connection k) (front_in x.event) else None) ≡ false
+  by true is = ap is_end_decided (decided_is x.event x.world x.parts x.connection k is) ∙ no_end (decision_of x) c u h
   by false is = refl
 
-no_row_reset : (c d : ℕ) (config : Configuration) (o : Option Row) → ends_row_at (ending.Reset c) config d o ≡ false
+no_row_reset : (c d : ℕ) (config : Configuration) (o : Option Row) → ends_row_at (cause.Reset c) config d o ≡ false
 no_row_reset c d config None = refl
 no_row_reset c d config (Some row) = refl
 
-none_reset : (x : Happening) (c d : ℕ) → ending_of x ≡ ending.Reset c → ends_live x d ≡ false
+none_reset : (x : Occurrence) (c d : ℕ) → cause_of x ≡ cause.Reset c → ends_live x d ≡ false
 none_reset x c d is = rw (is, no_row_reset c d) refl
 
 session_reset : (c : ℕ) (gone : ℕ → Bool) (session : Session) → ((d : ℕ) → gone d ≡ false)
-    → ends_session (ending.Reset c) gone session ≡ is_io_queue_of c session
+    → ends_session (cause.Reset c) gone session ≡ is_io_queue_of c session
 session_reset c gone (Connected (Admin d) queue) none = none d
 session_reset c gone (Connected (Io d q) queue) none = rw (none d) refl
 session_reset c gone _ none = refl
@@ -103,16 +106,16 @@ session_reset c gone _ none = refl
 pub resets_end_their_queues_alone : ResetsEndTheirQueuesAlone
 resets_end_their_queues_alone = record {
   connections = λ x d s k v sets resets met.
-      let is : ending_of x ≡ ending.Reset d = reset_ends x d s sets resets in
-      let here : ends_by (ending.Reset d) (ends_live x) v ≡ is_io_queue_of d v.session =
+      let is : cause_of x ≡ cause.Reset d = reset_ends x d s sets resets in
+      let here : ends_by (cause.Reset d) (ends_live x) v ≡ is_io_queue_of d v.session =
       session_reset d (ends_live x) v.session (λ c. none_reset x d c is) in
-      rw (goes_on x k d (update.Configuration s) sets, met) (ap (λ (e : Ending). ends_by e (ends_live x) v) is ∙ here);
+      rw (goes_on x k d (update.Configuration s) sets, met) (ap (λ (e : EndCause). ends_by e (ends_live x) v) is ∙ here);
   controllers = λ x d s c sets resets. none_reset x d c (reset_ends x d s sets resets);
 }
 
 -- ---- an edit
 
-edit_is : (edit : Edit) → (ending_edited edit ≡ ending.Permission) ⊎ ((id : ℕ) × (edit ≡ PortDel id))
+edit_is : (edit : Edit) → (cause_edited edit ≡ cause.Permission) ⊎ ((id : ℕ) × (edit ≡ PortDel id))
 edit_is (PortDel id) = inr (id, refl)
 edit_is _ = inl refl
 
@@ -122,60 +125,60 @@ not_barred config host None port h = refl
 not_barred config host (Some nqn) port h = rw h refl
 
 row_outlives : (edit : Edit) (config : Configuration) (c : ℕ) (row : Row) → deletes edit row.port ≡ false → is_permitted config row ≡ true
-    → ends_row (ending_edited edit) config c row ≡ false
+    → ends_row (cause_edited edit) config c row ≡ false
 row_outlives edit config c row port permitted =
     elim (edit_is edit) [
       | inl other ↦ rw other (not_barred config row.host row.subsystem row.port permitted)
       | inr (id, is) ↦
           let stays : (id == row.port) ≡ false = ap (λ (e : Edit). deletes e row.port) (sym is) ∙ port in
-          ap (λ (e : Edit). ends_row (ending_edited e) config c row) is
+          ap (λ (e : Edit). ends_row (cause_edited e) config c row) is
           ∙ either_false (id == row.port) (is_barred config row.host row.subsystem row.port) stays
           (not_barred config row.host row.subsystem row.port permitted)
     ]
 
-no_timer : (edit : Edit) (o : Option Controller) → ends_timer (ending_edited edit) o ≡ false
+no_timer : (edit : Edit) (o : Option Controller) → ends_timer (cause_edited edit) o ≡ false
 no_timer edit o =
     elim (edit_is edit) [
       | inl other ↦ rw other refl
-      | inr (id, is) ↦ ap (λ (e : Edit). ends_timer (ending_edited e) o) is
+      | inr (id, is) ↦ ap (λ (e : Edit). ends_timer (cause_edited e) o) is
     ]
 
-kept_whole : (edit : Edit) (c : ℕ) (row : Row) → row_kept (ending_edited edit) c row ≡ row
+kept_whole : (edit : Edit) (c : ℕ) (row : Row) → row_kept (cause_edited edit) c row ≡ row
 kept_whole edit c row =
     elim (edit_is edit) [
       | inl other ↦ rw other refl
-      | inr (id, is) ↦ ap (λ (e : Edit). row_kept (ending_edited e) c row) is
+      | inr (id, is) ↦ ap (λ (e : Edit). row_kept (cause_edited e) c row) is
     ]
 
 -- the connection of a controller that lives, where its port is not deleted
-role_outlives : (e : Edit) (gone : ℕ → Bool) (c : ℕ) (role : Role) → gone c ≡ false → is_role_of c role ≡ true → ends_role (ending_edited e) gone role ≡ false
+role_outlives : (e : Edit) (gone : ℕ → Bool) (c : ℕ) (role : Role) → gone c ≡ false → is_role_of c role ≡ true → ends_role (cause_edited e) gone role ≡ false
 role_outlives edit gone c (Admin d) lives is = ap gone (sym (same_number c d is)) ∙ lives
 role_outlives edit gone c (Io d q) lives is =
     let live : gone d ≡ false = ap gone (sym (same_number c d is)) ∙ lives in
     elim (edit_is edit) [
       | inl other ↦ rw (live, other) refl
-      | inr (id, del) ↦ rw live (ap (λ (e : Edit). ends_role (ending_edited e) (λ (n : ℕ). false) (Io d q)) del)
+      | inr (id, del) ↦ rw live (ap (λ (e : Edit). ends_role (cause_edited e) (λ (n : ℕ). false) (Io d q)) del)
     ]
 
 session_outlives : (edit : Edit) (gone : ℕ → Bool) (c : ℕ) (s : Session) → gone c ≡ false → is_queue_of c s ≡ true
-    → ends_session (ending_edited edit) gone s ≡ false
+    → ends_session (cause_edited edit) gone s ≡ false
 session_outlives edit gone c Opened lives is = refl
 session_outlives edit gone c Initialized lives is = refl
 session_outlives edit gone c (Connected role queue) lives is = role_outlives edit gone c role lives is
 session_outlives edit gone c Ended lives is = refl
 
-port_outlives : (edit : Edit) (port : ℕ) → deletes edit port ≡ false → is_on_port (ending_edited edit) port ≡ false
+port_outlives : (edit : Edit) (port : ℕ) → deletes edit port ≡ false → is_on_port (cause_edited edit) port ≡ false
 port_outlives edit port h =
     elim (edit_is edit) [
       | inl other ↦ rw other refl
-      | inr (id, is) ↦ ap (λ (e : Edit). is_on_port (ending_edited e) port) is ∙ ap (λ (e : Edit). deletes e port) (sym is) ∙ h
+      | inr (id, is) ↦ ap (λ (e : Edit). is_on_port (cause_edited e) port) is ∙ ap (λ (e : Edit). deletes e port) (sym is) ∙ h
     ]
 
 module _ (disks : Opening) (events : List Event) (edit : Edit) (c : ℕ) (row : Row) (stays : StaysPermitted disks events edit c row) where
-  abbrev before : List Happening
+  abbrev before : List Occurrence
   before = happened disks events
 
-  abbrev x : Happening
+  abbrev x : Occurrence
   x = meets_after disks before (edited edit)
 
   lives : ends_live x c ≡ false
@@ -188,21 +191,21 @@ module _ (disks : Opening) (events : List Event) (edit : Edit) (c : ℕ) (row : 
   controller_stays : controller_of (x ∷ before) c ≡ controller_of before c
   controller_stays = controller_step x before c ∙ rw lives refl
 
-  conversation_stays : (k : ℕ) (v : Conversation) → conversation_of before k ≡ Some v → is_queue_of c v.session ≡ true
-      → deletes edit v.port ≡ false → conversation_of (x ∷ before) k ≡ Some v
-  conversation_stays k v met is port =
-      let here : ends_by (ending_edited edit) (ends_live x) v ≡ false =
+  connection_stays : (k : ℕ) (v : ConnectionState) → connection_of before k ≡ Some v → is_queue_of c v.session ≡ true
+      → deletes edit v.port ≡ false → connection_of (x ∷ before) k ≡ Some v
+  connection_stays k v met is port =
+      let here : ends_by (cause_edited edit) (ends_live x) v ≡ false =
       rw (port_outlives edit v.port port) (session_outlives edit (ends_live x) c v.session lives is) in
-      conversation_step x before k refl ∙ rw (met, here) refl
+      connection_step x before k refl ∙ rw (met, here) refl
 
 pub permitted_outlive_edits : PermittedOutliveEdits
 permitted_outlive_edits = record {
   row = row_stays;
   controller = controller_stays;
-  connections = λ disks events edit c row k v stays. conversation_stays disks events edit c row stays k v;
+  connections = λ disks events edit c row k v stays. connection_stays disks events edit c row stays k v;
 }
 
-deleted_ends : (edit : Edit) (config : Configuration) (c : ℕ) (row : Row) → deletes edit row.port ≡ true → ends_row (ending_edited edit) config c row ≡ true
+deleted_ends : (edit : Edit) (config : Configuration) (c : ℕ) (row : Row) → deletes edit row.port ≡ true → ends_row (cause_edited edit) config c row ≡ true
 deleted_ends (PortDel id) config c row h = ap (λ (b : Bool). b || is_barred config row.host row.subsystem row.port) h
 deleted_ends _ config c row h = cc
 
@@ -212,14 +215,14 @@ barred_is config host None port h = cc
 barred_is config host (Some nqn) port h = rw h refl
 
 barred_ends : (edit : Edit) (config : Configuration) (c : ℕ) (row : Row) → is_permitted config row ≡ false
-    → ends_row (ending_edited edit) config c row ≡ true
+    → ends_row (cause_edited edit) config c row ≡ true
 barred_ends (PortDel id) config c row h =
     other_true (id == row.port) (is_barred config row.host row.subsystem row.port) (barred_is config row.host row.subsystem row.port h)
 barred_ends _ config c row h = barred_is config row.host row.subsystem row.port h
 
 -- a controller whose row an edit ends is gone
 edit_ends : (disks : Opening) (events : List Event) (edit : Edit) (c : ℕ) (row : Row) → row_of (happened disks events) c ≡ Some row
-    → ends_row (ending_edited edit) (config_of disks (happened disks (edited edit ∷ events))) c row ≡ true
+    → ends_row (cause_edited edit) (config_of disks (happened disks (edited edit ∷ events))) c row ≡ true
     → row_of (happened disks (edited edit ∷ events)) c ≡ None
 edit_ends disks events edit c row lives h =
     let before = happened disks events in
@@ -242,7 +245,7 @@ clock_stays disks (ticked now ∷ events) h = cc
 clock_stays disks (_ ∷ events) h = clock_stays disks events h
 
 -- what begins has the clock of then
-begun_now : (x : Happening) (ch : Consequence) (c : ℕ) (s : Start) → begins_by x ch c ≡ Some s → s.clock ≡ x.clock
+begun_now : (x : Occurrence) (ch : Consequence) (c : ℕ) (s : Start) → begins_by x ch c ≡ Some s → s.clock ≡ x.clock
 begun_now x (consequence.Begin b) c s h = by (c == b.controller.cntlid) h where
   by : (same : Bool) → (if same then Some (started x b) else None) ≡ Some s → s.clock ≡ x.clock
   by true is =
@@ -272,39 +275,41 @@ mark_stays disks (event ∷ events) c h =
       by None (Some u) is clock mark = restarted (restarts u) (mark_of (happened disks events) c) clock mark
       by None None is clock mark = mark
 
-lost_no_timer : (s : Session) (o : Option Controller) → ends_timer (ending_lost s) o ≡ false
+lost_no_timer : (s : Session) (o : Option Controller) → ends_timer (cause_lost s) o ≡ false
 lost_no_timer (Connected (Admin c) queue) o = refl
 lost_no_timer (Connected (Io c q) queue) o = refl
 lost_no_timer _ o = refl
 
-set_no_timer : (c : ℕ) (e : Change) (o : Option Controller) → ends_timer (ending_set e c) o ≡ false
+set_no_timer : (c : ℕ) (e : Change) (o : Option Controller) → ends_timer (cause_set e c) o ≡ false
 set_no_timer c change.Reset o = refl
 set_no_timer c _ o = refl
 
-reply_no_timer : (ch : Consequence) (o : Option Controller) → ends_timer (ending_replied ch) o ≡ false
+reply_no_timer : (ch : Consequence) (o : Option Controller) → ends_timer (cause_replied ch) o ≡ false
 reply_no_timer (consequence.Update c (update.Configuration s)) o = set_no_timer c s.change o
 reply_no_timer (consequence.Update c (update.Command e)) o = refl
 reply_no_timer _ o = refl
 
-taken_no_timer : (v : Option Conversation) (d : Option Decision) (o : Option Controller) → ends_timer (ending_taken v d) o ≡ false
+taken_no_timer : (v : Option ConnectionState) (d : Option Decision) (o : Option Controller) → ends_timer (cause_stepped v d) o ≡ false
 taken_no_timer None d o = refl
 taken_no_timer (Some v) None o = refl
 taken_no_timer (Some v) (Some (decision.Initialize alignment)) o = refl
+taken_no_timer (Some v) (Some (decision.Request q)) o = refl
+taken_no_timer (Some v) (Some (decision.Receive ttag)) o = refl
 taken_no_timer (Some v) (Some (decision.Reply r)) o = reply_no_timer r.consequence o
 taken_no_timer (Some v) (Some (decision.Terminate t)) o = lost_no_timer v.session o
 taken_no_timer (Some v) (Some decision.Close) o = lost_no_timer v.session o
 
-given_up_no_timer : (v : Option Conversation) (o : Option Controller) → ends_timer (ending_given_up v) o ≡ false
+given_up_no_timer : (v : Option ConnectionState) (o : Option Controller) → ends_timer (cause_given_up v) o ≡ false
 given_up_no_timer None o = refl
 given_up_no_timer (Some v) o = lost_no_timer v.session o
 
-no_timer_by : (event : Event) (conversation : ℕ → Option Conversation) (d : Option Decision) (clock : ℕ) (o : Option Controller) → is_tick event ≡ false
-    → ends_timer (ending_by event conversation d clock) o ≡ false
-no_timer_by (edited edit) conversation d clock o h = no_timer edit o
-no_timer_by (opened port n) conversation d clock o h = refl
-no_timer_by (stepped n front m) conversation d clock o h = taken_no_timer (conversation n) d o
-no_timer_by (given_up n) conversation d clock o h = given_up_no_timer (conversation n) o
-no_timer_by (ticked now) conversation d clock o h = cc
+no_timer_by : (event : Event) (connection : ℕ → Option ConnectionState) (d : Option Decision) (clock : ℕ) (o : Option Controller) → is_tick event ≡ false
+    → ends_timer (cause_by event connection d clock) o ≡ false
+no_timer_by (edited edit) connection d clock o h = no_timer edit o
+no_timer_by (opened port n) connection d clock o h = refl
+no_timer_by (stepped n front m) connection d clock o h = taken_no_timer (connection n) d o
+no_timer_by (given_up n) connection d clock o h = given_up_no_timer (connection n) o
+no_timer_by (ticked now) connection d clock o h = cc
 
 pub nothing_expires_without_ticks : NothingExpiresWithoutTicks
 nothing_expires_without_ticks = record {
@@ -312,5 +317,5 @@ nothing_expires_without_ticks = record {
   mark = mark_stays;
   timers = λ disks events event controller h.
       let x = meets_after disks (happened disks events) event in
-      no_timer_by event x.conversation (decision_of x) x.clock controller (tickless event events h).0;
+      no_timer_by event x.connection (decision_of x) x.clock controller (tickless event events h).0;
 }

@@ -11,17 +11,17 @@ use Rattle.target_decision.specs.declared.consequence.Joining.{Joining}
 use Rattle.target_decision.specs.declared.session.Role.{Role}
 use Rattle.target_decision.specs.declared.session.Role.TheVariants.{Admin, Io}
 use Rattle.target_decision.specs.Consequence.{role_by}
-use Rattle.target_history.specs.declared.ending.Ending.{Ending}
-use Rattle.target_history.specs.declared.ending.Ending.TheVariants as ending
-use Rattle.target_history.specs.Ending.{resets}
+use Rattle.target_history.specs.declared.end_cause.EndCause.{EndCause}
+use Rattle.target_history.specs.declared.end_cause.EndCause.TheVariants as cause
+use Rattle.target_history.specs.EndCause.{resets}
 use Rattle.target_history.specs.Event.{Event, edited, opened, stepped, steps, given_up, ticked}
-use Rattle.target_history.specs.Happening.{Happening, Start, begins, begins_by, consequence_of, conversation_after, ending_of, ends_live, port_at, port_met, started, stepping}
-use Rattle.target_history.specs.History.{Opening, conversation_of, drops_by, happened, has_queue, joins_by, meets_after, registers_of, row_of, row_with, start_of, start_or}
+use Rattle.target_history.specs.Occurrence.{Occurrence, Start, begins, begins_by, consequence_of, connection_after, cause_of, ends_live, port_at, port_met, started, stepping}
+use Rattle.target_history.specs.History.{Opening, connection_of, drops_by, happened, has_queue, joins_by, meets_after, registers_of, row_of, row_with, start_of, start_or}
 use Rattle.target_history.specs.Laws.{QueuesAreOfOneConnection, role_at, role_of}
 use Rattle.target_history.proofs.Admissions.{AdmitsBy, CanTake, event_admits}
 use Rattle.target_history.proofs.Endings.{reply_ends}
 use Rattle.target_history.proofs.Roles.{Comes, LostFrom, Stays, after_is, leaves, loses, nothing_ends}
-use Rattle.target_history.proofs.Steps.{conversation_step}
+use Rattle.target_history.proofs.Steps.{connection_step}
 use Rattle.target_history.proofs.Tests.{both_same, either_true, flipped, neither, same_here, same_number}
 
 -- ---- what is there of a queue
@@ -30,16 +30,16 @@ abbrev StartsOn : ℕ → Start → Type 0
 StartsOn port s = s.row.port ≡ port
 
 -- the controller lives, begun on this port
-abbrev pub LivesOn : List Happening → ℕ → ℕ → Type 0
+abbrev pub LivesOn : List Occurrence → ℕ → ℕ → Type 0
 LivesOn h c port = IsSomeAnd (start_of h c) (StartsOn port)
 
 -- what is there of the queue of a connection on this port
-abbrev pub Holds : List Happening → ℕ → Role → Type 0
+abbrev pub Holds : List Occurrence → ℕ → Role → Type 0
 Holds h port (Admin c) = LivesOn h c port
 Holds h port (Io c q) = LivesOn h c port × (q ≤ 8) × (has_queue h c q ≡ true)
 
-pub record AllHold (h : List Happening) : Type 0 where
-  pub there : (k : ℕ) (role : Role) → role_of h k ≡ Some role → Holds h (port_at (conversation_of h k)) role
+pub record AllHold (h : List Occurrence) : Type 0 where
+  pub there : (k : ℕ) (role : Role) → role_of h k ≡ Some role → Holds h (port_at (connection_of h k)) role
   pub one : (j k : ℕ) (role : Role) → role_of h j ≡ Some role → role_of h k ≡ Some role → j ≡ k
 
 -- ---- options
@@ -81,13 +81,13 @@ queue_kept false drops has (Some s) begun dropped h = cc
 
 -- ---- rows
 
-no_row : (h : List Happening) (c port : ℕ) → row_of h c ≡ None → LivesOn h c port → ⊥
+no_row : (h : List Occurrence) (c port : ℕ) → row_of h c ≡ None → LivesOn h c port → ⊥
 no_row h c port none lives = none_starts (registers_of h c) (has_queue h c) (start_of h c) port none lives
 
-may_join : (h : List Happening) (c port q : ℕ) → IsSomeAnd (row_of h c) (CanTake port q) → LivesOn h c port
+may_join : (h : List Occurrence) (c port q : ℕ) → IsSomeAnd (row_of h c) (CanTake port q) → LivesOn h c port
 may_join h c port q can = takes_on (registers_of h c) (has_queue h c) (start_of h c) port q can
 
-has_none : (h : List Happening) (c port q : ℕ) → q ≤ 8 → IsSomeAnd (row_of h c) (CanTake port q) → has_queue h c q ≡ false
+has_none : (h : List Occurrence) (c port q : ℕ) → q ≤ 8 → IsSomeAnd (row_of h c) (CanTake port q) → has_queue h c q ≡ false
 has_none h c port q small can = takes_new (registers_of h c) (has_queue h c) (start_of h c) port q small can
 
 -- ---- one more event
@@ -100,12 +100,12 @@ stepped_one (given_up n) j k h i = cc
 stepped_one (ticked now) j k h i = cc
 stepped_one (stepped n front m) j k h i = same_number j n h ∙ sym (same_number k n i)
 
-module _ (disks : Opening) (before : List Happening) (event : Event) (earlier : AllHold before) where
-  abbrev x : Happening
+module _ (disks : Opening) (before : List Occurrence) (event : Event) (earlier : AllHold before) where
+  abbrev x : Occurrence
   x = meets_after disks before event
 
   abbrev Admitted : Consequence → Type 0
-  Admitted ch = AdmitsBy (row_of before) (role_at (stepping event (conversation_of before))) (port_met x) ch
+  Admitted ch = AdmitsBy (row_of before) (role_at (stepping event (connection_of before))) (port_met x) ch
 
   admitted : Admitted (consequence_of x)
   admitted = event_admits x
@@ -128,9 +128,9 @@ module _ (disks : Opening) (before : List Happening) (event : Event) (earlier : 
       start_kept (begins x c) (start_of before c) (ends_live x c) port (not_begun c port lives) goes lives
 
   -- a queue is dropped with its connection, or by a reset, which ends that
-  not_dropped : (k c q : ℕ) (e : Ending) → role_of before k ≡ Some (Io c q) → leaves x k ≡ false → LostFrom x e
+  not_dropped : (k c q : ℕ) (e : EndCause) → role_of before k ≡ Some (Io c q) → leaves x k ≡ false → LostFrom x e
       → (ends_live x c || resets e c) ≡ false → drops_by e c q ≡ false
-  not_dropped k c q (ending.Queue d p) is stays lost kept = by (c == d) (q == p) refl refl where
+  not_dropped k c q (cause.Queue d p) is stays lost kept = by (c == d) (q == p) refl refl where
     by : (a b : Bool) → (c == d) ≡ a → (q == p) ≡ b → (a && b) ≡ false
     by false b h i = refl
     by true false h i = refl
@@ -140,17 +140,17 @@ module _ (disks : Opening) (before : List Happening) (event : Event) (earlier : 
         let one : lost.0 ≡ k = earlier.one lost.0 k role lost.1 (is ∙ ap Some same) in
         let clash : true ≡ false = sym lost.2 ∙ ap (leaves x) one ∙ stays in
         cc
-  not_dropped k c q (ending.Reset d) is stays lost kept = flipped c d (neither (ends_live x c) (d == c) kept).1
+  not_dropped k c q (cause.Reset d) is stays lost kept = flipped c d (neither (ends_live x c) (d == c) kept).1
   not_dropped k c q _ is stays lost kept = refl
 
-  stays_holding : (k : ℕ) (role : Role) → Stays x k role → Holds before (port_at (conversation_of before k)) role
-      → Holds (x ∷ before) (port_at (conversation_of before k)) role
-  stays_holding k (Admin c) stays h = lives_on c (port_at (conversation_of before k)) h stays.kept
+  stays_holding : (k : ℕ) (role : Role) → Stays x k role → Holds before (port_at (connection_of before k)) role
+      → Holds (x ∷ before) (port_at (connection_of before k)) role
+  stays_holding k (Admin c) stays h = lives_on c (port_at (connection_of before k)) h stays.kept
   stays_holding k (Io c q) stays h =
-      let dropped : drops_by (ending_of x) c q ≡ false = not_dropped k c q (ending_of x) stays.before stays.remains (loses x) stays.kept in (
-        lives_on c (port_at (conversation_of before k)) h.0 (neither (ends_live x c) (resets (ending_of x) c) stays.kept).0,
+      let dropped : drops_by (cause_of x) c q ≡ false = not_dropped k c q (cause_of x) stays.before stays.remains (loses x) stays.kept in (
+        lives_on c (port_at (connection_of before k)) h.0 (neither (ends_live x c) (resets (cause_of x) c) stays.kept).0,
         h.1,
-        queue_kept (joins_by (consequence_of x) c q) (drops_by (ending_of x) c q) (has_queue before c q) (begins x c) (not_begun c (port_at (conversation_of before k)) h.0) dropped h.2,
+        queue_kept (joins_by (consequence_of x) c q) (drops_by (cause_of x) c q) (has_queue before c q) (begins x c) (not_begun c (port_at (connection_of before k)) h.0) dropped h.2,
       )
 
   begins_holding : (b : Beginning) → consequence_of x ≡ consequence.Begin b → LivesOn (x ∷ before) b.controller.cntlid (port_met x)
@@ -190,12 +190,12 @@ module _ (disks : Opening) (before : List Happening) (event : Event) (earlier : 
   not_made _ port role h made held = cc
 
   after_of : (k : ℕ) (role : Role) → role_of (x ∷ before) k ≡ Some role → Stays x k role ⊎ Comes x k role
-  after_of k role h = after_is x k role (ap role_at (sym (conversation_step x before k refl)) ∙ h)
+  after_of k role h = after_is x k role (ap role_at (sym (connection_step x before k refl)) ∙ h)
 
-  there_after : (k : ℕ) (role : Role) → role_of (x ∷ before) k ≡ Some role → Holds (x ∷ before) (port_at (conversation_of (x ∷ before) k)) role
+  there_after : (k : ℕ) (role : Role) → role_of (x ∷ before) k ≡ Some role → Holds (x ∷ before) (port_at (connection_of (x ∷ before) k)) role
   there_after k role h =
-      let port : port_at (conversation_of (x ∷ before) k) ≡ port_at (conversation_after x k (conversation_of before k)) =
-      ap port_at (conversation_step x before k refl) in
+      let port : port_at (connection_of (x ∷ before) k) ≡ port_at (connection_after x k (connection_of before k)) =
+      ap port_at (connection_step x before k refl) in
       elim (after_of k role h) [
         | inl stays ↦
             subst (λ (p : ℕ). Holds (x ∷ before) p role) (sym (port ∙ stays.same_port)) (stays_holding k role stays (earlier.there k role stays.before))
@@ -209,11 +209,11 @@ module _ (disks : Opening) (before : List Happening) (event : Event) (earlier : 
         | inl stays ↦
             elim (after_of k role hk) [
               | inl too ↦ earlier.one j k role stays.before too.before
-              | inr comes ↦ absurd (not_made (consequence_of x) (port_at (conversation_of before j)) role admitted comes.made (earlier.there j role stays.before))
+              | inr comes ↦ absurd (not_made (consequence_of x) (port_at (connection_of before j)) role admitted comes.made (earlier.there j role stays.before))
             ]
         | inr comes ↦
             elim (after_of k role hk) [
-              | inl stays ↦ absurd (not_made (consequence_of x) (port_at (conversation_of before k)) role admitted comes.made (earlier.there k role stays.before))
+              | inl stays ↦ absurd (not_made (consequence_of x) (port_at (connection_of before k)) role admitted comes.made (earlier.there k role stays.before))
               | inr too ↦ stepped_one event j k comes.stepped too.stepped
             ]
       ]

@@ -6,13 +6,13 @@ use Rattle.fabrics_connect.specs.declared.row.Row.{Row}
 use Rattle.property_regs.specs.declared.regs.Regs.{Regs}
 use Rattle.target_decision.specs.declared.consequence.Consequence.{Consequence}
 use Rattle.target_decision.specs.declared.consequence.Consequence.TheVariants as consequence
-use Rattle.target_history.specs.Happening.{Happening, Start, begins, begins_by, consequence_of, ends_live, started}
+use Rattle.target_history.specs.Occurrence.{Occurrence, Start, begins, begins_by, consequence_of, ends_live, started}
 use Rattle.target_history.specs.History.{has_queue, registers_of, row_with, start_of, start_or}
 use Rattle.target_history.specs.Identifiers.{RowsHaveTheirIdentifiers}
 use Rattle.target_history.proofs.Tests.{same_number}
 
 -- what an event begins
-begun : (x : Happening) (ch : Consequence) (c : ℕ) (s : Start) → begins_by x ch c ≡ Some s → s.row.cntlid ≡ c
+begun : (x : Occurrence) (ch : Consequence) (c : ℕ) (s : Start) → begins_by x ch c ≡ Some s → s.row.cntlid ≡ c
 begun x (consequence.Begin b) c s h = by (c == b.controller.cntlid) refl h where
   by : (same : Bool) → (c == b.controller.cntlid) ≡ same → (if same then Some (started x b) else None) ≡ Some s → s.row.cntlid ≡ c
   by true same is =
@@ -28,7 +28,7 @@ begun_or (Some t) before over c s one other h = one s h
 begun_or None before true c s one other h = cc
 begun_or None before false c s one other h = other s h
 
-start_own : (happened : List Happening) (c : ℕ) (s : Start) → start_of happened c ≡ Some s → s.row.cntlid ≡ c
+start_own : (happened : List Occurrence) (c : ℕ) (s : Start) → start_of happened c ≡ Some s → s.row.cntlid ≡ c
 start_own [] c s h = cc
 start_own (x ∷ before) c s h = begun_or (begins x c) (start_of before c) (ends_live x c) c s (begun x (consequence_of x) c) (start_own before c) h
 

@@ -13,5 +13,6 @@ pub mod Permissions
 pub mod Roles
 pub mod Serving
 pub mod Steps
+pub mod Tags
 pub mod Terminations
 pub mod Tests

@@ -14,26 +14,26 @@ use Rattle.target_decision.specs.declared.controller.Controller.{Controller}
 use Rattle.target_decision.specs.Begin.{row_by}
 use Rattle.target_decision.specs.Consequence.{update_by}
 use Rattle.target_decision.specs.Controller.{kato_by, new_controller, registers_by, restarts, updated}
-use Rattle.target_history.specs.declared.ending.Ending.{Ending}
-use Rattle.target_history.specs.declared.ending.Ending.TheVariants as ending
+use Rattle.target_history.specs.declared.end_cause.EndCause.{EndCause}
+use Rattle.target_history.specs.declared.end_cause.EndCause.TheVariants as cause
 use Rattle.target_history.specs.Event.{front_in}
-use Rattle.target_history.specs.Happening.{Happening, Start, begins_by, consequence_of, controller_after, controller_changed, ending_of, ends_live, port_met, ready_after, row_after, row_changed, row_kept, row_left, started}
+use Rattle.target_history.specs.Occurrence.{Occurrence, Start, begins_by, consequence_of, controller_after, controller_changed, cause_of, ends_live, port_met, ready_after, row_after, row_changed, row_kept, row_left, started}
 use Rattle.target_history.specs.History.{controller_of, controller_with, drops_by, has_queue, joins_by, kato_of, mark_of, part_after, registers_of, row_of, row_with, start_of, start_or}
 
 -- ---- the queues of a controller
 
 -- what an event that ends queues leaves of them
-abbrev kept : Ending → ℕ → (ℕ → Bool) → ℕ → Bool
+abbrev kept : EndCause → ℕ → (ℕ → Bool) → ℕ → Bool
 kept e c queue q = not (drops_by e c q) && queue q
 
-kept_row : (e : Ending) (c : ℕ) (registers : Regs) (queue : ℕ → Bool) (s : Start)
+kept_row : (e : EndCause) (c : ℕ) (registers : Regs) (queue : ℕ → Bool) (s : Start)
     → row_kept e c (row_with registers queue s) ≡ row_with registers (kept e c queue) s
-kept_row (ending.Queue d q) c registers queue s = by (c == d) where
+kept_row (cause.Queue d q) c registers queue s = by (c == d) where
   by : (same : Bool) → (if same then left q (row_with registers queue s) else row_with registers queue s)
       ≡ row_with registers (λ p. not (same && (p == q)) && queue p) s
   by true = ap (λ (l : List Bool). let r : Row = record (row_with registers queue s) { qids = l } in r) (set-map_false queue q)
   by false = refl
-kept_row (ending.Reset d) c registers queue s = by (c == d) where
+kept_row (cause.Reset d) c registers queue s = by (c == d) where
   by : (same : Bool) → (if same then left_all (row_with registers queue s) else row_with registers queue s)
       ≡ row_with registers (λ p. not same && queue p) s
   by true = refl
@@ -41,7 +41,7 @@ kept_row (ending.Reset d) c registers queue s = by (c == d) where
 kept_row _ c registers queue s = refl
 
 -- .. where it may have ended
-left_row : (e : Ending) (c : ℕ) (gone : Bool) (registers : Regs) (queue : ℕ → Bool) (o : Option Start)
+left_row : (e : EndCause) (c : ℕ) (gone : Bool) (registers : Regs) (queue : ℕ → Bool) (o : Option Start)
     → option_map (row_with registers (kept e c queue)) (if gone then None else o)
     ≡ (if gone then None else option_map (row_kept e c) (option_map (row_with registers queue) o))
 left_row e c true registers queue o = refl
@@ -56,9 +56,9 @@ joined_row qid registers queue (Some s) =
 
 -- ---- one more event
 
-module _ (x : Happening) (c : ℕ) (gone : Bool) (registers : Regs) (queue : ℕ → Bool) (kato mark : ℕ) (o : Option Start) where
-  abbrev e : Ending
-  e = ending_of x
+module _ (x : Occurrence) (c : ℕ) (gone : Bool) (registers : Regs) (queue : ℕ → Bool) (kato mark : ℕ) (o : Option Start) where
+  abbrev e : EndCause
+  e = cause_of x
 
   -- what is left of it
   abbrev rest : Option Row
@@ -145,14 +145,14 @@ module _ (x : Happening) (c : ℕ) (gone : Bool) (registers : Regs) (queue : ℕ
   controller_by_reply _ = stays
 
 -- What one more event makes of a controller.
-pub row_step : (x : Happening) (before : List Happening) (c : ℕ) → x.world.controller c ≡ controller_of before c
+pub row_step : (x : Occurrence) (before : List Occurrence) (c : ℕ) → x.world.controller c ≡ controller_of before c
     → row_of (x ∷ before) c ≡ row_after x c (row_of before c)
 row_step x before c met =
     row_by_reply x c (ends_live x c) (registers_of before c) (has_queue before c) (kato_of before c) (mark_of before c) (start_of before c) (consequence_of x)
     ∙ ap (λ (o : Option Controller). row_changed (consequence_of x) (row_by (consequence_of x) (port_met x) (front_in x.event)) o c (row_left x c (row_of before c)))
     (sym met)
 
-pub controller_step : (x : Happening) (before : List Happening) (c : ℕ)
+pub controller_step : (x : Occurrence) (before : List Occurrence) (c : ℕ)
     → controller_of (x ∷ before) c ≡ controller_after x c (controller_of before c)
 controller_step x before c =
     controller_by_reply x c (ends_live x c) (registers_of before c) (has_queue before c) (kato_of before c) (mark_of before c) (start_of before c) (consequence_of x)

@@ -16,11 +16,11 @@ use Rattle.target_decision.specs.declared.consequence.Consequence.{Consequence}
 use Rattle.target_decision.specs.declared.consequence.Consequence.TheVariants as consequence
 use Rattle.target_decision.specs.Begin.{bytes_at, entry_at, row_by}
 use Rattle.target_decision.specs.World.{World}
-use Rattle.target_history.specs.declared.ending.Ending.{Ending}
-use Rattle.target_history.specs.declared.ending.Ending.TheVariants as ending
-use Rattle.target_history.specs.Ending.{ending_edited, ends_controller, ends_row, ends_timer, is_barred}
+use Rattle.target_history.specs.declared.end_cause.EndCause.{EndCause}
+use Rattle.target_history.specs.declared.end_cause.EndCause.TheVariants as cause
+use Rattle.target_history.specs.EndCause.{cause_edited, ends_controller, ends_row, ends_timer, is_barred}
 use Rattle.target_history.specs.Event.{Event, edited, opened, stepped, given_up, ticked}
-use Rattle.target_history.specs.Happening.{Happening, consequence_of, config_after, ending_of, ends_live, port_met, ready_after, row_after, row_changed, row_kept, row_left}
+use Rattle.target_history.specs.Occurrence.{Occurrence, consequence_of, config_after, cause_of, ends_live, port_met, ready_after, row_after, row_changed, row_kept, row_left}
 use Rattle.target_history.specs.History.{Opening, config_of, controller_of, happened, meets_after, row_of}
 use Rattle.target_history.specs.Laws.{LiveArePermitted}
 use Rattle.target_history.proofs.Begun.{BegunBy, event_begun}
@@ -34,18 +34,18 @@ Permitted config (Some row) = is_permitted config row ≡ true
 
 -- ---- what stays of a row
 
-kept_permitted : (e : Ending) (config : Configuration) (c : ℕ) (row : Row) → is_permitted config row ≡ true → is_permitted config (row_kept e c row) ≡ true
-kept_permitted (ending.Queue d q) config c row h = by (c == d) where
+kept_permitted : (e : EndCause) (config : Configuration) (c : ℕ) (row : Row) → is_permitted config row ≡ true → is_permitted config (row_kept e c row) ≡ true
+kept_permitted (cause.Queue d q) config c row h = by (c == d) where
   by : (same : Bool) → is_permitted config (if same then left q row else row) ≡ true
   by true = h
   by false = h
-kept_permitted (ending.Reset d) config c row h = by (c == d) where
+kept_permitted (cause.Reset d) config c row h = by (c == d) where
   by : (same : Bool) → is_permitted config (if same then left_all row else row) ≡ true
   by true = h
   by false = h
 kept_permitted _ config c row h = h
 
-left_permitted : (gone : Bool) (e : Ending) (config : Configuration) (c : ℕ) (o : Option Row) → (gone ≡ false → Permitted config o)
+left_permitted : (gone : Bool) (e : EndCause) (config : Configuration) (c : ℕ) (o : Option Row) → (gone ≡ false → Permitted config o)
     → Permitted config (if gone then None else option_map (row_kept e c) o)
 left_permitted true e config c o h = tt
 left_permitted false e config c None h = tt
@@ -83,16 +83,16 @@ used : (config : Configuration) (host : List ℕ) (subsystem : Option (List ℕ)
 used config host None port h = refl
 used config host (Some nqn) port h = flipped_false (may_use config host nqn port) h
 
-row_stays : (edit : Edit) (config : Configuration) (c : ℕ) (row : Row) → ends_row (ending_edited edit) config c row ≡ false → is_permitted config row ≡ true
+row_stays : (edit : Edit) (config : Configuration) (c : ℕ) (row : Row) → ends_row (cause_edited edit) config c row ≡ false → is_permitted config row ≡ true
 row_stays (PortDel id) config c row h =
     used config row.host row.subsystem row.port (neither (id == row.port) (is_barred config row.host row.subsystem row.port) h).1
 row_stays _ config c row h = used config row.host row.subsystem row.port h
 
 edit_leaves : (edit : Edit) (config : Configuration) (c : ℕ) (o : Option Row) (own : Option Controller)
-    → ends_controller (ending_edited edit) config c o own ≡ false → Permitted config o
+    → ends_controller (cause_edited edit) config c o own ≡ false → Permitted config o
 edit_leaves edit config c None own h = tt
 edit_leaves edit config c (Some row) own h =
-    row_stays edit config c row (neither (ends_row (ending_edited edit) config c row) (ends_timer (ending_edited edit) own) h).0
+    row_stays edit config c row (neither (ends_row (cause_edited edit) config c row) (ends_timer (cause_edited edit) own) h).0
 
 -- ---- what a Connect begins
 
@@ -103,27 +103,27 @@ begun_permitted _ w port front h = tt
 
 -- ---- one more event
 
-event_permitted : (disks : Opening) (before : List Happening) (event : Event) (c : ℕ) → Permitted (config_of disks before) (row_of before c)
+event_permitted : (disks : Opening) (before : List Occurrence) (event : Event) (c : ℕ) → Permitted (config_of disks before) (row_of before c)
     → Permitted (config_after event (config_of disks before)) (row_after (meets_after disks before event) c (row_of before c))
 event_permitted disks before (edited edit) c h =
     let x = meets_after disks before (edited edit) in
     let config = config_after (edited edit) (config_of disks before) in
-    left_permitted (ends_live x c) (ending_of x) config c (row_of before c) (edit_leaves edit config c (row_of before c) (controller_of before c))
+    left_permitted (ends_live x c) (cause_of x) config c (row_of before c) (edit_leaves edit config c (row_of before c) (controller_of before c))
 event_permitted disks before (opened port n) c h =
     let x = meets_after disks before (opened port n) in
-    left_permitted (ends_live x c) (ending_of x) (config_of disks before) c (row_of before c) (λ stays. h)
+    left_permitted (ends_live x c) (cause_of x) (config_of disks before) c (row_of before c) (λ stays. h)
 event_permitted disks before (given_up n) c h =
     let x = meets_after disks before (given_up n) in
-    left_permitted (ends_live x c) (ending_of x) (config_of disks before) c (row_of before c) (λ stays. h)
+    left_permitted (ends_live x c) (cause_of x) (config_of disks before) c (row_of before c) (λ stays. h)
 event_permitted disks before (ticked now) c h =
     let x = meets_after disks before (ticked now) in
-    left_permitted (ends_live x c) (ending_of x) (config_of disks before) c (row_of before c) (λ stays. h)
+    left_permitted (ends_live x c) (cause_of x) (config_of disks before) c (row_of before c) (λ stays. h)
 event_permitted disks before (stepped n front m) c h =
     let x = meets_after disks before (stepped n front m) in
     changed_permitted (consequence_of x) (row_by (consequence_of x) (port_met x) front) (controller_of before c) (config_of disks before) c
     (row_left x c (row_of before c))
     (begun_permitted (consequence_of x) x.world (port_met x) front (event_begun x))
-    (left_permitted (ends_live x c) (ending_of x) (config_of disks before) c (row_of before c) (λ stays. h))
+    (left_permitted (ends_live x c) (cause_of x) (config_of disks before) c (row_of before c) (λ stays. h))
 
 all_permitted : (disks : Opening) (events : List Event) (c : ℕ) → Permitted (config_of disks (happened disks events)) (row_of (happened disks events) c)
 all_permitted disks [] c = tt

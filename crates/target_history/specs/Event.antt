@@ -1,7 +1,7 @@
 -- What happens to a target.
 use Rattle.std.specs.Prelude.{ℕ, Bool, false, ◌==◌}
 use Rattle.config_edits.specs.declared.edit.Edit.{Edit}
-use Rattle.io_queue.specs.Act.{Medium, good}
+use Rattle.io_queue.specs.Act.{DiskOutcome, good}
 use Rattle.pdu_cut.specs.Front.{Front, incomplete}
 
 -- An edit was accepted; a connection was opened on a port and got a number; a step of a connection found
@@ -10,7 +10,7 @@ use Rattle.pdu_cut.specs.Front.{Front, incomplete}
 pub data Event : Type 0 where
   edited : Edit → Event
   opened : ℕ → ℕ → Event
-  stepped : ℕ → Front → Medium → Event
+  stepped : ℕ → Front → DiskOutcome → Event
   given_up : ℕ → Event
   ticked : ℕ → Event
 
@@ -40,6 +40,6 @@ front_in (stepped n front m) = front
 front_in _ = incomplete
 
 -- what the disks did: all that was asked of them, where nothing was
-abbrev pub medium_in : Event → Medium
-medium_in (stepped n front m) = m
-medium_in _ = good
+abbrev pub disk_outcome_in : Event → DiskOutcome
+disk_outcome_in (stepped n front m) = m
+disk_outcome_in _ = good

@@ -22,17 +22,18 @@ use Rattle.target_decision.specs.declared.controller.Controller.{Controller}
 use Rattle.target_decision.specs.declared.consequence.Consequence.{Consequence}
 use Rattle.target_decision.specs.declared.consequence.Consequence.TheVariants as consequence
 use Rattle.target_decision.specs.declared.consequence.Update.{Update}
-use Rattle.target_decision.specs.declared.session.Conversation.{Conversation}
+use Rattle.target_decision.specs.declared.session.ConnectionState.{ConnectionState}
 use Rattle.target_decision.specs.declared.session.Role.{Role}
 use Rattle.target_decision.specs.declared.session.Role.TheVariants.{Admin, Io}
 use Rattle.target_decision.specs.declared.session.Session.{Session}
 use Rattle.target_decision.specs.declared.session.Session.TheVariants.{Opened, Initialized, Connected, Ended}
 use Rattle.target_decision.specs.Controller.{kato_by, registers_by, restarts}
+use Rattle.target_decision.specs.Transfer.{Tags}
 use Rattle.target_decision.specs.World.{World}
-use Rattle.target_history.specs.declared.ending.Ending.{Ending}
-use Rattle.target_history.specs.declared.ending.Ending.TheVariants as ending
+use Rattle.target_history.specs.declared.end_cause.EndCause.{EndCause}
+use Rattle.target_history.specs.declared.end_cause.EndCause.TheVariants as cause
 use Rattle.target_history.specs.Event.{Event, edited, front_in, gives_up, opens, port_in, steps}
-use Rattle.target_history.specs.Happening.{Happening, Start, acts, alignment_decided, begins, consequence_of, clock_after, config_after, decided, ending_of, ends, ends_live, initializes, own_consequence, responses, sends, updates}
+use Rattle.target_history.specs.Occurrence.{Occurrence, Start, acts, alignment_decided, begins, consequence_of, clock_after, config_after, decided, cause_of, ends, ends_live, initializes, own_consequence, parts_after, responses, sends, updates}
 
 -- the units of each disk that a target is made with
 abbrev pub Opening : Type 0
@@ -41,12 +42,12 @@ Opening = List (List (List ℕ))
 -- ---- the configuration and the clock
 
 -- the disks alone, with each edit accepted in turn
-abbrev pub config_of : Opening → List Happening → Configuration
+abbrev pub config_of : Opening → List Occurrence → Configuration
 config_of disks [] = disks_alone (map length disks)
 config_of disks (x ∷ before) = config_after x.event (config_of disks before)
 
 -- the greatest value that it was set to, in ms
-abbrev pub clock_of : List Happening → ℕ
+abbrev pub clock_of : List Occurrence → ℕ
 clock_of [] = 0
 clock_of (x ∷ before) = clock_after x.event (clock_of before)
 
@@ -58,47 +59,47 @@ generation_after (edited edit) c host n = changes_records c (config_after (edite
 generation_after _ c host n = n
 
 -- the number of edits that changed the records of a host
-abbrev pub generation_of : Opening → List Happening → List ℕ → ℕ
+abbrev pub generation_of : Opening → List Occurrence → List ℕ → ℕ
 generation_of disks [] host = 0
 generation_of disks (x ∷ before) host = generation_after x.event (config_of disks before) host (generation_of disks before host)
 
-abbrev pub page_of : Opening → List Happening → List ℕ → List ℕ
+abbrev pub page_of : Opening → List Occurrence → List ℕ → List ℕ
 page_of disks happened host = discovery_page (generation_of disks happened host % 2 ^ 64) (records_of (config_of disks happened) host)
 
 -- ---- the list of active namespaces (Base 2.0, section 5.17.2.2)
 
 -- the identifiers of a subsystem's namespaces above one, rising
-abbrev pub active_of : Opening → List Happening → List ℕ → ℕ → List ℕ
+abbrev pub active_of : Opening → List Occurrence → List ℕ → ℕ → List ℕ
 active_of disks happened subsystem above = list_page (nsids_above above (active_nsids (config_of disks happened).namespaces subsystem))
 
 -- what log pages and lists show; a further one is a field more
-abbrev pub pages_of : Opening → List Happening → Pages
+abbrev pub pages_of : Opening → List Occurrence → Pages
 pages_of disks happened = record { discovery = page_of disks happened; active = active_of disks happened }
 
 -- ---- connections (TCP Transport 1.0, section 3)
 
 -- whether connection k is known: it is from its open until it is given up
-abbrev pub is_known : List Happening → ℕ → Bool
+abbrev pub is_known : List Occurrence → ℕ → Bool
 is_known [] k = false
 is_known (x ∷ before) k = opens x.event k || (not (gives_up x.event k) && is_known before k)
 
 -- the port of its latest open
-abbrev pub port_of : List Happening → ℕ → ℕ
+abbrev pub port_of : List Occurrence → ℕ → ℕ
 port_of [] k = 0
 port_of (x ∷ before) k = if opens x.event k then port_in x.event else port_of before k
 
 -- whether it was ended since its open
-abbrev pub has_ended : List Happening → ℕ → Bool
+abbrev pub has_ended : List Occurrence → ℕ → Bool
 has_ended [] k = false
 has_ended (x ∷ before) k = not (opens x.event k) && (ends x k || has_ended before k)
 
 -- whether it was initialized since its open
-abbrev pub is_initialized : List Happening → ℕ → Bool
+abbrev pub is_initialized : List Occurrence → ℕ → Bool
 is_initialized [] k = false
 is_initialized (x ∷ before) k = not (opens x.event k) && (initializes x k || is_initialized before k)
 
 -- the alignment of data that its ICReq asked for since its open
-abbrev pub alignment_of : List Happening → ℕ → ℕ
+abbrev pub alignment_of : List Occurrence → ℕ → ℕ
 alignment_of [] k = 0
 alignment_of (x ∷ before) k = if opens x.event k then 0 else alignment_decided (alignment_of before k) (decided x k)
 
@@ -115,7 +116,7 @@ admission_by (consequence.Join j) = Some (record { role = Io j.cntlid j.qid; sqs
 admission_by _ = None
 
 -- the queue that the connection's own command makes of it
-abbrev pub admits : Happening → ℕ → Option Admission
+abbrev pub admits : Occurrence → ℕ → Option Admission
 admits x k = admission_by (own_consequence x k)
 
 abbrev pub admission_or : Option Admission → Option Admission → Option Admission
@@ -123,7 +124,7 @@ admission_or None before = before
 admission_or (Some a) before = Some a
 
 -- its latest since its open
-abbrev pub admission_of : List Happening → ℕ → Option Admission
+abbrev pub admission_of : List Occurrence → ℕ → Option Admission
 admission_of [] k = None
 admission_of (x ∷ before) k = if opens x.event k then None else admission_or (admits x k) (admission_of before k)
 
@@ -132,7 +133,7 @@ responses_by None before = before
 responses_by (Some a) before = 0
 
 -- the number of responses since that Connect, its own included
-abbrev pub responses_since : List Happening → ℕ → ℕ
+abbrev pub responses_since : List Occurrence → ℕ → ℕ
 responses_since [] k = 0
 responses_since (x ∷ before) k = responses x k + responses_by (admits x k) (responses_since before k)
 
@@ -143,16 +144,22 @@ session_with (Some a) initialized n = Connected a.role (record { sqsize = a.sqsi
 
 -- how far target and host have come on it: the queue's head counts the responses round the queue's size
 -- (SQHD: Base 2.0, section 3.3.3.2)
-abbrev pub session_of : List Happening → ℕ → Session
+abbrev pub session_of : List Occurrence → ℕ → Session
 session_of happened k =
     if has_ended happened k then Ended else
     session_with (admission_of happened k) (is_initialized happened k) (responses_since happened k)
 
-abbrev pub conversation_of : List Happening → ℕ → Option Conversation
-conversation_of happened k =
+abbrev pub connection_of : List Occurrence → ℕ → Option ConnectionState
+connection_of happened k =
     if is_known happened k
     then Some (record { port = port_of happened k; session = session_of happened k; alignment = alignment_of happened k })
     else None
+
+-- what stands under a tag of it: the transfer that an R2T began, with the data that came since, while not all has come,
+-- and the connection is not ended
+abbrev pub part_of : List Occurrence → ℕ → Tags
+part_of [] k t = None
+part_of (x ∷ before) k t = parts_after x k (part_of before k) t
 
 -- ---- controllers (Base 2.0, sections 3.1 and 6.3)
 
@@ -161,11 +168,11 @@ start_or None before = before
 start_or (Some s) before = Some s
 
 -- what the controller of this identifier began with, where it lives: it does from its Connect until it is ended
-abbrev pub start_of : List Happening → ℕ → Option Start
+abbrev pub start_of : List Occurrence → ℕ → Option Start
 start_of [] c = None
 start_of (x ∷ before) c = start_or (begins x c) (if ends_live x c then None else start_of before c)
 
-abbrev pub is_live : List Happening → ℕ → Bool
+abbrev pub is_live : List Occurrence → ℕ → Bool
 is_live happened c = is_some (start_of happened c)
 
 -- what an event makes of a part of a controller: it begins it so, or its own command changes it, or it stays
@@ -176,19 +183,19 @@ module _ {T : Type 0} (first : Start → T) (changed : Update → T → T) where
   part_after None None before = before
 
 -- its properties, by each Property Set since its Connect (Base 2.0, section 3.1.3)
-abbrev pub registers_of : List Happening → ℕ → Regs
+abbrev pub registers_of : List Occurrence → ℕ → Regs
 registers_of [] c = regs_at_connect Discovery
 registers_of (x ∷ before) c =
     part_after (λ s. regs_at_connect s.beginning.controller.kind) registers_by (begins x c) (updates x c) (registers_of before c)
 
 -- its keep alive timeout, in ms: that of its Connect or, where one came later, of its latest Set Features that set it
-abbrev pub kato_of : List Happening → ℕ → ℕ
+abbrev pub kato_of : List Occurrence → ℕ → ℕ
 kato_of [] c = 0
 kato_of (x ∷ before) c = part_after (λ s. s.beginning.kato) kato_by (begins x c) (updates x c) (kato_of before c)
 
 -- the clock at its Connect or, where one came later, at its latest Keep Alive or Set Features that set its timeout
 -- (Base 2.0, section 3.9)
-abbrev pub mark_of : List Happening → ℕ → ℕ
+abbrev pub mark_of : List Occurrence → ℕ → ℕ
 mark_of [] c = 0
 mark_of (x ∷ before) c =
     part_after (λ s. s.clock) (λ u mark. if restarts u then x.clock else mark) (begins x c) (updates x c) (mark_of before c)
@@ -197,30 +204,30 @@ abbrev pub joins_by : Consequence → ℕ → ℕ → Bool
 joins_by (consequence.Join j) c qid = (c == j.cntlid) && (qid == j.qid)
 joins_by _ c qid = false
 
-abbrev pub drops_by : Ending → ℕ → ℕ → Bool
-drops_by (ending.Queue d q) c qid = (c == d) && (qid == q)
-drops_by (ending.Reset d) c qid = c == d
+abbrev pub drops_by : EndCause → ℕ → ℕ → Bool
+drops_by (cause.Queue d q) c qid = (c == d) && (qid == q)
+drops_by (cause.Reset d) c qid = c == d
 drops_by _ c qid = false
 
 -- whether it has an I/O queue of this identifier: it does from the queue's Connect until the queue's
 -- connection is ended or given up, or the controller is reset
-abbrev pub has_queue : List Happening → ℕ → ℕ → Bool
+abbrev pub has_queue : List Occurrence → ℕ → ℕ → Bool
 has_queue [] c qid = false
 has_queue (x ∷ before) c qid =
-    joins_by (consequence_of x) c qid || (not (is_some (begins x c) || drops_by (ending_of x) c qid) && has_queue before c qid)
+    joins_by (consequence_of x) c qid || (not (is_some (begins x c) || drops_by (cause_of x) c qid) && has_queue before c qid)
 
 abbrev pub row_with : Regs → (ℕ → Bool) → Start → Row
 row_with registers queue s = record s.row { ready = is_ready registers; qids = map queue (range_with_len 0 9) }
 
 -- what all connections may see of it
-abbrev pub row_of : List Happening → ℕ → Option Row
+abbrev pub row_of : List Occurrence → ℕ → Option Row
 row_of happened c = option_map (row_with (registers_of happened c) (has_queue happened c)) (start_of happened c)
 
 abbrev pub controller_with : Regs → ℕ → ℕ → Start → Controller
 controller_with registers kato mark s = record { registers = registers; kato = kato; mark = mark }
 
 -- what its own admin queue alone uses of it
-abbrev pub controller_of : List Happening → ℕ → Option Controller
+abbrev pub controller_of : List Occurrence → ℕ → Option Controller
 controller_of happened c = option_map (controller_with (registers_of happened c) (kato_of happened c) (mark_of happened c)) (start_of happened c)
 
 -- ---- its stream
@@ -231,21 +238,21 @@ with_pdu (faulty fault head) pdus = pdus
 with_pdu incomplete pdus = pdus
 
 -- the whole PDUs that were consumed of it since its open, the oldest first
-abbrev pub pdus_of : List Happening → ℕ → List Pdu
+abbrev pub pdus_of : List Occurrence → ℕ → List Pdu
 pdus_of [] k = []
 pdus_of (x ∷ before) k =
     if opens x.event k || gives_up x.event k then [] else
     if steps x.event k then with_pdu (front_in x.event) (pdus_of before k) else pdus_of before k
 
 -- what its last step found at its front
-abbrev pub last_front : List Happening → ℕ → Front
+abbrev pub last_front : List Occurrence → ℕ → Front
 last_front [] k = incomplete
 last_front (x ∷ before) k =
     if opens x.event k || gives_up x.event k then incomplete else
     if steps x.event k then front_in x.event else last_front before k
 
 -- the bytes of all PDUs that it was sent since its open
-abbrev pub sent : List Happening → ℕ → List ℕ
+abbrev pub sent : List Occurrence → ℕ → List ℕ
 sent [] k = []
 sent (x ∷ before) k = if opens x.event k || gives_up x.event k then [] else sent before k ++ sends x k
 
@@ -256,7 +263,7 @@ with_act None earlier = earlier
 with_act (Some act) earlier = act ∷ earlier
 
 -- what was written, by Writes and Write Zeroes that passed every check, the newest first
-abbrev pub acts_of : List Happening → List Act
+abbrev pub acts_of : List Occurrence → List Act
 acts_of [] = []
 acts_of (x ∷ before) = with_act (acts x) (acts_of before)
 
@@ -266,12 +273,12 @@ writes_to disk [] = []
 writes_to disk (act ∷ earlier) = if disk == act.disk then act.write ∷ writes_to disk earlier else writes_to disk earlier
 
 -- the units of a disk: those that it opened with, written over in the order of the events
-abbrev pub blocks_of : Opening → List Happening → ℕ → List (List ℕ)
+abbrev pub blocks_of : Opening → List Occurrence → ℕ → List (List ℕ)
 blocks_of disks happened disk = contents_after (writes_to disk (acts_of happened)) (slice_index_or disks disk [])
 
 -- ---- the world, and what happened
 
-abbrev pub world_of : Opening → List Happening → World
+abbrev pub world_of : Opening → List Occurrence → World
 world_of disks happened = record {
   pages = pages_of disks happened;
   config = config_of disks happened;
@@ -280,16 +287,17 @@ world_of disks happened = record {
 }
 
 -- an event after all that happened
-abbrev pub meets_after : Opening → List Happening → Event → Happening
+abbrev pub meets_after : Opening → List Occurrence → Event → Occurrence
 meets_after disks before event = record {
   event = event;
   world = world_of disks before;
-  conversation = conversation_of before;
+  connection = connection_of before;
+  parts = part_of before;
   clock = clock_of before;
   blocks = blocks_of disks before;
 }
 
 -- each event with what it met
-abbrev pub happened : Opening → List Event → List Happening
+abbrev pub happened : Opening → List Event → List Occurrence
 happened disks [] = []
 happened disks (event ∷ before) = meets_after disks (happened disks before) event ∷ happened disks before

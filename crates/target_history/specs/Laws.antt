@@ -5,6 +5,7 @@ use Rattle.admin_queue.specs.Laws.{ToldAlike}
 use Rattle.config_edits.specs.declared.edit.Edit.{Edit}
 use Rattle.config_edits.specs.declared.edit.Edit.TheVariants.{PortDel}
 use Rattle.config_rules.specs.Permission.{may_use}
+use Rattle.data_transfer.specs.Parts.{count_of}
 use Rattle.fabrics_connect.specs.declared.row.Row.{Row}
 use Rattle.fabrics_connect.specs.Command.{Parameters, parameters_of}
 use Rattle.fabrics_connect.specs.Connect.{is_served}
@@ -25,7 +26,7 @@ use Rattle.target_decision.specs.declared.consequence.Consequence.TheVariants as
 use Rattle.target_decision.specs.declared.consequence.Update.TheVariants as update
 use Rattle.target_decision.specs.declared.decision.Decision.TheVariants as decision
 use Rattle.target_decision.specs.declared.decision.Reply.{Reply}
-use Rattle.target_decision.specs.declared.session.Conversation.{Conversation}
+use Rattle.target_decision.specs.declared.session.ConnectionState.{ConnectionState}
 use Rattle.target_decision.specs.declared.session.Role.{Role}
 use Rattle.target_decision.specs.declared.session.Role.TheVariants.{Admin, Io}
 use Rattle.target_decision.specs.declared.session.Session.{Session}
@@ -35,10 +36,10 @@ use Rattle.target_decision.specs.Capsule.{connect_type, fabrics_opcode, is_ready
 use Rattle.target_decision.specs.Controller.{registers_at}
 use Rattle.target_decision.specs.Session.{role_in}
 use Rattle.target_decision.specs.World.{World, admin_controller}
-use Rattle.target_history.specs.Ending.{ends_timer}
+use Rattle.target_history.specs.EndCause.{ends_timer}
 use Rattle.target_history.specs.Event.{Event, edited, front_in, gives_up, opens, steps, ticked}
-use Rattle.target_history.specs.Happening.{Happening, consequence_of, decided, ending_of, ends, ends_live, operation_decided, responses}
-use Rattle.target_history.specs.History.{Admission, active_of, Opening, admission_of, clock_of, config_of, controller_of, conversation_of, happened, has_ended, is_known, is_live, mark_of, meets_after, page_of, port_of, responses_since, row_of, sent}
+use Rattle.target_history.specs.Occurrence.{Occurrence, consequence_of, decided, cause_of, ends, ends_live, operation_decided, responses}
+use Rattle.target_history.specs.History.{Admission, active_of, Opening, admission_of, clock_of, config_of, controller_of, connection_of, happened, has_ended, is_known, is_live, mark_of, meets_after, page_of, part_of, port_of, responses_since, row_of, sent}
 
 -- ---- what connections are sent
 
@@ -49,7 +50,7 @@ pub record EndedAreSentNothing : Type 0 where
 
 -- an edit that deletes the port of a connection ends it
 pub record DeletedPortsEnd : Type 0 where
-  pub ends : (x : Happening) (before : List Happening) (k id : ℕ) → x.event ≡ edited (PortDel id) → x.conversation k ≡ conversation_of before k
+  pub ends : (x : Occurrence) (before : List Occurrence) (k id : ℕ) → x.event ≡ edited (PortDel id) → x.connection k ≡ connection_of before k
       → is_known before k ≡ true → port_of before k ≡ id
       → has_ended (x ∷ before) k ≡ true
 
@@ -64,26 +65,28 @@ is_capsule (faulty fault head) = false
 
 -- the number of capsules that were consumed of a connection's stream since it was opened, and of the
 -- responses that it was sent
-abbrev pub capsules_of : List Happening → ℕ → ℕ
+abbrev pub capsules_of : List Occurrence → ℕ → ℕ
 capsules_of [] k = 0
 capsules_of (x ∷ before) k =
     if opens x.event k then 0 else (if steps x.event k && is_capsule (front_in x.event) then 1 else 0) + capsules_of before k
 
-abbrev pub responses_of : List Happening → ℕ → ℕ
+abbrev pub responses_of : List Occurrence → ℕ → ℕ
 responses_of [] k = 0
 responses_of (x ∷ before) k = if opens x.event k then 0 else responses x k + responses_of before k
 
+-- each response answers a capsule, and each command that waits for its data came in one
 pub record ResponsesAnswerCapsules : Type 0 where
-  pub answer : (happened : List Happening) (k : ℕ) → responses_of happened k ≤ capsules_of happened k
+  pub answer : (disks : Opening) (events : List Event) (k : ℕ)
+      → responses_of (happened disks events) k + count_of (part_of (happened disks events) k) ≤ capsules_of (happened disks events) k
 
 abbrev pub is_edit : Event → Bool
 is_edit (edited edit) = true
 is_edit _ = false
 
 pub record PagesChangeByEdits : Type 0 where
-  pub stays : (disks : Opening) (x : Happening) (before : List Happening) (host : List ℕ) → is_edit x.event ≡ false
+  pub stays : (disks : Opening) (x : Occurrence) (before : List Occurrence) (host : List ℕ) → is_edit x.event ≡ false
       → page_of disks (x ∷ before) host ≡ page_of disks before host
-  pub lists : (disks : Opening) (x : Happening) (before : List Happening) (subsystem : List ℕ) (above : ℕ) → is_edit x.event ≡ false
+  pub lists : (disks : Opening) (x : Occurrence) (before : List Occurrence) (subsystem : List ℕ) (above : ℕ) → is_edit x.event ≡ false
       → active_of disks (x ∷ before) subsystem above ≡ active_of disks before subsystem above
 
 -- the size of the queue that a Connect made, and 0 where there is none
@@ -94,8 +97,8 @@ sqsize_of (Some a) = a.sqsize
 -- each response carries the number of responses since the Connect, itself included, round the queue's
 -- size; on a connection without a queue that is 0
 pub record HeadsCountResponses : Type 0 where
-  pub counts : (x : Happening) (before : List Happening) (k : ℕ) (r : Reply)
-      → x.conversation k ≡ conversation_of before k → decided x k ≡ Some (decision.Reply r)
+  pub counts : (x : Occurrence) (before : List Occurrence) (k : ℕ) (r : Reply)
+      → x.connection k ≡ connection_of before k → decided x k ≡ Some (decision.Reply r)
       → r.sqhd ≡ responses_since (x ∷ before) k % (sqsize_of (admission_of (x ∷ before) k) + 1)
 
 -- ---- what one connection owes another
@@ -105,7 +108,7 @@ abbrev pub is_of : Event → ℕ → Bool
 is_of event k = opens event k || (steps event k || gives_up event k)
 
 -- what happened to connection k itself, the newest first
-abbrev pub own : List Happening → ℕ → List Happening
+abbrev pub own : List Occurrence → ℕ → List Occurrence
 own [] k = []
 own (x ∷ before) k = if is_of x.event k then x ∷ own before k else own before k
 
@@ -171,7 +174,7 @@ SessionAlike v w port front Initialized = is_connect front ≡ true → ConnectA
 SessionAlike v w port front (Connected role queue) = RoleAlike v w role
 SessionAlike v w port front Ended = Unit {0}
 
-abbrev pub WorldAlike : World → World → Front → Option Conversation → Type 0
+abbrev pub WorldAlike : World → World → Front → Option ConnectionState → Type 0
 WorldAlike v w front None = Unit {0}
 WorldAlike v w front (Some c) = SessionAlike v w c.port front c.session
 
@@ -182,13 +185,14 @@ DiskAlike (Some op) b c = b (disk_of op) ≡ c (disk_of op)
 
 -- the same event twice, which met connection k as the same, and where it is its step in worlds that showed it
 -- the same, with the same blocks on the disk of its operation
-pub record SameFor (k : ℕ) (x y : Happening) : Type 0 where
+pub record SameFor (k : ℕ) (x y : Occurrence) : Type 0 where
   pub event : y.event ≡ x.event
-  pub conversation : x.conversation k ≡ y.conversation k
-  pub world : steps x.event k ≡ true → WorldAlike x.world y.world (front_in x.event) (x.conversation k)
+  pub connection : x.connection k ≡ y.connection k
+  pub parts : x.parts k ≡ y.parts k
+  pub world : steps x.event k ≡ true → WorldAlike x.world y.world (front_in x.event) (x.connection k)
   pub disk : DiskAlike (operation_decided (decided x k)) x.blocks y.blocks
 
-abbrev pub HappenedAlike : List Happening → List Happening → ℕ → Type 0
+abbrev pub HappenedAlike : List Occurrence → List Occurrence → ℕ → Type 0
 HappenedAlike [] [] k = Unit {0}
 HappenedAlike [] (y ∷ ys) k = ⊥
 HappenedAlike (x ∷ xs) [] k = ⊥
@@ -197,7 +201,7 @@ HappenedAlike (x ∷ xs) (y ∷ ys) k = SameFor k x y × HappenedAlike xs ys k
 -- a connection to which the same happened, and whose worlds showed it the same of its own controller and its disks,
 -- is sent the same, whatever happens to other connections, controllers and disks
 pub record SentByOwnAlone : Type 0 where
-  pub same : (g h : List Happening) (k : ℕ) → HappenedAlike (own g k) (own h k) k → sent g k ≡ sent h k
+  pub same : (g h : List Occurrence) (k : ℕ) → HappenedAlike (own g k) (own h k) k → sent g k ≡ sent h k
 
 -- ---- what ends connections and controllers
 
@@ -213,10 +217,10 @@ is_io_queue_of c _ = false
 -- a Property Set that resets a controller ends the I/O queues of that controller, no other connection, and no
 -- controller
 pub record ResetsEndTheirQueuesAlone : Type 0 where
-  pub connections : (x : Happening) (d : ℕ) (s : ConfigurationSet) (k : ℕ) (v : Conversation)
+  pub connections : (x : Occurrence) (d : ℕ) (s : ConfigurationSet) (k : ℕ) (v : ConnectionState)
       → consequence_of x ≡ consequence.Update d (update.Configuration s) → s.change ≡ change.Reset
-      → x.conversation k ≡ Some v → ends x k ≡ is_io_queue_of d v.session
-  pub controllers : (x : Happening) (d : ℕ) (s : ConfigurationSet) (c : ℕ)
+      → x.connection k ≡ Some v → ends x k ≡ is_io_queue_of d v.session
+  pub controllers : (x : Occurrence) (d : ℕ) (s : ConfigurationSet) (c : ℕ)
       → consequence_of x ≡ consequence.Update d (update.Configuration s) → s.change ≡ change.Reset → ends_live x c ≡ false
 
 -- whether an edit deletes this port
@@ -245,10 +249,10 @@ pub record PermittedOutliveEdits : Type 0 where
       → row_of (happened disks (edited edit ∷ events)) c ≡ Some row
   pub controller : (disks : Opening) (events : List Event) (edit : Edit) (c : ℕ) (row : Row) → StaysPermitted disks events edit c row
       → controller_of (happened disks (edited edit ∷ events)) c ≡ controller_of (happened disks events) c
-  pub connections : (disks : Opening) (events : List Event) (edit : Edit) (c : ℕ) (row : Row) (k : ℕ) (v : Conversation)
-      → StaysPermitted disks events edit c row → conversation_of (happened disks events) k ≡ Some v
+  pub connections : (disks : Opening) (events : List Event) (edit : Edit) (c : ℕ) (row : Row) (k : ℕ) (v : ConnectionState)
+      → StaysPermitted disks events edit c row → connection_of (happened disks events) k ≡ Some v
       → is_queue_of c v.session ≡ true → deletes edit v.port ≡ false
-      → conversation_of (happened disks (edited edit ∷ events)) k ≡ Some v
+      → connection_of (happened disks (edited edit ∷ events)) k ≡ Some v
 
 -- an edit that deletes the port of a controller ends it, and so does any edit after which its host may not use its
 -- subsystem through its port
@@ -278,17 +282,17 @@ pub record NothingExpiresWithoutTicks : Type 0 where
   pub clock : (disks : Opening) (events : List Event) → has_ticks events ≡ false → clock_of (happened disks events) ≡ 0
   pub mark : (disks : Opening) (events : List Event) (c : ℕ) → has_ticks events ≡ false → mark_of (happened disks events) c ≡ 0
   pub timers : (disks : Opening) (events : List Event) (event : Event) (controller : Option Controller) → has_ticks (event ∷ events) ≡ false
-      → ends_timer (ending_of (meets_after disks (happened disks events) event)) controller ≡ false
+      → ends_timer (cause_of (meets_after disks (happened disks events) event)) controller ≡ false
 
 -- ---- queues, over all that happened
 
 -- which queue a connection is, where it is known and not ended
-abbrev pub role_at : Option Conversation → Option Role
+abbrev pub role_at : Option ConnectionState → Option Role
 role_at None = None
 role_at (Some v) = role_in v.session
 
-abbrev pub role_of : List Happening → ℕ → Option Role
-role_of happened k = role_at (conversation_of happened k)
+abbrev pub role_of : List Occurrence → ℕ → Option Role
+role_of happened k = role_at (connection_of happened k)
 
 -- no two connections are one queue: not the admin queue of one controller, nor its I/O queues of one
 -- identifier
@@ -311,7 +315,7 @@ pub record ControllersLiveByTheirAdmins : Type 0 where
 
 -- a controller that lives is on the port of each of its connections
 pub record QueuesAreOnTheirPort : Type 0 where
-  pub port : (disks : Opening) (events : List Event) (k c : ℕ) (v : Conversation) → conversation_of (happened disks events) k ≡ Some v
+  pub port : (disks : Opening) (events : List Event) (k c : ℕ) (v : ConnectionState) → connection_of (happened disks events) k ≡ Some v
       → is_queue_of c v.session ≡ true → IsSomeAnd (row_of (happened disks events) c) (λ row. row.port ≡ v.port)
 
 -- a controller has an I/O queue of an identifier exactly as long as it lives and a connection is that queue

@@ -1,7 +1,7 @@
-pub mod Ending
+pub mod EndCause
 pub mod Event
-pub mod Happening
 pub mod History
 pub mod Identifiers
 pub mod Laws
+pub mod Occurrence
 pub mod Terminations

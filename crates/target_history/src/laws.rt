@@ -21,7 +21,8 @@ pub fn deleted_ports_end()
     ensures { DeletedPortsEnd }
 {}
 
-/// A connection is sent no more responses than it sent capsules.
+/// A connection is sent no more responses than it sent capsules, less those whose commands wait for their
+/// data.
 #[tactic(auto, using(crate::proofs::Histories::responses_answer_capsules))]
 pub fn responses_answer_capsules()
     ensures { ResponsesAnswerCapsules }

@@ -3,8 +3,8 @@
 //! type that the target's code shares.
 #![tactic(auto)]
 
-mod ending;
+mod end_cause;
 pub mod laws;
 pub mod own_laws;
 
-pub use ending::Ending;
+pub use end_cause::EndCause;

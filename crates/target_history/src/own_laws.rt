@@ -1,14 +1,20 @@
-//! Laws of histories, in the words of the subject: what a connection's own steps end of it, and what
-//! identifier a controller's own row has. Each of these functions does nothing: its contract is the
+//! Laws of histories, in the words of the subject: what a connection's own steps end of it, what ends with
+//! it, and what identifier a controller's own row has. Each of these functions does nothing: its contract is the
 //! law, for whatever happened.
 ghost use Rattle.target_history.specs.Identifiers.{RowsHaveTheirIdentifiers};
-ghost use Rattle.target_history.specs.Terminations.{StepsEndTheirOwn};
+ghost use Rattle.target_history.specs.Terminations.{EndedHaveNoTransfers, StepsEndTheirOwn};
 
 /// A connection whose own step ends it was not ended before that step, and is after it; another step
 /// of it leaves it as it was. So what else ends it is no step of it.
 #[tactic(auto, using(crate::proofs::Terminations::steps_end_their_own))]
 pub fn steps_end_their_own()
     ensures { StepsEndTheirOwn }
+{}
+
+/// A connection that is ended has no transfer: no command of it waits for data.
+#[tactic(auto, using(crate::proofs::Terminations::ended_have_no_transfers))]
+pub fn ended_have_no_transfers()
+    ensures { EndedHaveNoTransfers }
 {}
 
 /// The row of a controller that lives has the identifier under which the controller lives.

@@ -9,7 +9,7 @@ use Rattle.config_rules.specs.Configuration.{Configuration, disks_alone}
 use Rattle.config_edits.specs.declared.fault.EditFault.{EditFault}
 use Rattle.target_views.specs.Views.{ShowAfter, ShowFirst, ShowHistory, ShowNext, ViewsShown, pages_shown}
 use Rattle.target_history.specs.Event.{Event, edited, opened, stepped, given_up, ticked}
-use Rattle.target_history.specs.Happening.{Happening, config_after}
+use Rattle.target_history.specs.Occurrence.{Occurrence, config_after}
 use Rattle.target_history.specs.History.{Opening, active_of, config_of, generation_of, page_of, pages_of}
 
 -- what was planned is what the edit makes
@@ -22,13 +22,13 @@ both : (a b : List ℕ → List ℕ) (c d : List ℕ → ℕ → List ℕ) → a
 both a b c d h k = rw (h, k) refl
 
 -- the pages of views that show a history
-pub pages_agree : (v : ViewsShown) (disks : Opening) (before : List Happening) → ShowHistory v disks before → pages_shown v ≡ pages_of disks before
+pub pages_agree : (v : ViewsShown) (disks : Opening) (before : List Occurrence) → ShowHistory v disks before → pages_shown v ≡ pages_of disks before
 pages_agree v disks before show =
     both (page_in v.discovery) (page_of disks before) (active_page v.active) (active_of disks before)
     (fun_ext (λ host. rw (show.counts host, show.records host) refl))
     (fun_ext (λ subsystem. fun_ext (λ above. rw (show.nsids subsystem) refl)))
 
-stays : (old new : ViewsShown) (disks : Opening) (before after : List Happening) → config_of disks after ≡ config_of disks before
+stays : (old new : ViewsShown) (disks : Opening) (before after : List Occurrence) → config_of disks after ≡ config_of disks before
     → generation_of disks after ≡ generation_of disks before → new ≡ old → ShowHistory old disks before → ShowHistory new disks after
 stays old new disks before after config generation same show =
     rw same (record {
@@ -38,11 +38,11 @@ stays old new disks before after config generation same show =
     })
 
 -- what an event would have been
-abbrev over : Happening → Event → Happening
-over x event = record { event = event; world = x.world; conversation = x.conversation; clock = x.clock; blocks = x.blocks }
+abbrev over : Occurrence → Event → Occurrence
+over x event = record { event = event; world = x.world; connection = x.connection; parts = x.parts; clock = x.clock; blocks = x.blocks }
 
 -- one more event
-pub views_step : (x : Happening) (old new : ViewsShown) (disks : Opening) (before : List Happening)
+pub views_step : (x : Occurrence) (old new : ViewsShown) (disks : Opening) (before : List Occurrence)
     → ShowAfter x.event (config_of disks (x ∷ before)) old new → ShowHistory old disks before → ShowHistory new disks (x ∷ before)
 views_step x old new disks before after show = by x.event after where
   by : (event : Event) → ShowAfter event (config_after event (config_of disks before)) old new

@@ -7,7 +7,7 @@ use Rattle.discovery_view.specs.Records.{records_of}
 use Rattle.discovery_view.specs.View.{Shown, ShowsFirst, ShowsNext, count_in, page_in, records_in}
 use Rattle.config_rules.specs.Configuration.{Configuration}
 use Rattle.target_history.specs.Event.{Event, edited, opened, stepped, given_up, ticked}
-use Rattle.target_history.specs.Happening.{Happening}
+use Rattle.target_history.specs.Occurrence.{Occurrence}
 use Rattle.target_history.specs.History.{Opening, config_of, generation_of}
 
 -- what each view shows; a further log page is a field more, here and below
@@ -44,7 +44,7 @@ ShowAfter (ticked now) c old new = new ≡ old
 
 -- they show what a history says: the discovery view each host the records of the configuration, and the
 -- number of the edits that changed them; the list of active namespaces those of the configuration
-pub record ShowHistory (v : ViewsShown) (disks : Opening) (happened : List Happening) : Type 0 where
+pub record ShowHistory (v : ViewsShown) (disks : Opening) (happened : List Occurrence) : Type 0 where
   pub records : (host : List ℕ) → records_in v.discovery host ≡ records_of (config_of disks happened) host
   pub counts : (host : List ℕ) → count_in v.discovery host ≡ generation_of disks happened host % 2 ^ 64
   pub nsids : (subsystem : List ℕ) → nsids_in v.active subsystem ≡ active_nsids (config_of disks happened).namespaces subsystem

@@ -7,4 +7,4 @@ use Rattle.controller_tables.proofs.controllers.gone.Given as goal
 abbrev pub invariant-loop-cntlid : goal.invariant-loop-cntlid
 invariant-loop-cntlid l =
     let t : TablesState = record { rows = l.rows; own = l.own } in
-    (length l.gone ≡ 33) × ((d : ℕ) → is_gone l.gone d ≡ found_below l.ending l.config t l.cntlid d)
+    (length l.gone ≡ 33) × ((d : ℕ) → is_gone l.gone d ≡ found_below l.cause l.config t l.cntlid d)

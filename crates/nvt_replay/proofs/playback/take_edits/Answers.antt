@@ -1,7 +1,7 @@
 use Rattle.std.proofs.Common.{◌≡◌, ◌∷◌, drop, subst, ◌∙◌, arith}
 use Rattle.std.proofs.lemmas.Result.{err_from_is_err_and}
 use Rattle.line_words.specs.Lines.{lines_of}
-use Rattle.nvt_replay.specs.Replay.{Configures, MovesByLines}
+use Rattle.nvt_replay.specs.Replay.{Configures, TransitionsByLines}
 use Rattle.nvt_replay.proofs.Playing.{moved_more}
 use Rattle.line_words.proofs.LineLemmas.{length-lines_of}
 use Rattle.nvt_replay.proofs.ReplayLemmas.{IsNext, all_taken, before_more, next_line, refused_at}
@@ -21,7 +21,7 @@ loop-line-preserved c =
       rest = next.after;
       counted = omega (arith, next.below);
       before = before_more (lines_of c.args.edits.now) c.loop-line.number c.in-Some.line.now c.next.new.self _ _ _ left c.loop-line.invariant.before c.in_ok-take_edit.ensures.takes;
-      moves = moved_more (lines_of c.args.edits.now) c.loop-line.number c.in-Some.line.now c.next.new.self _ _ _ left c.loop-line.invariant.moves c.in_ok-take_edit.ensures.moves;
+      transition = moved_more (lines_of c.args.edits.now) c.loop-line.number c.in-Some.line.now c.next.new.self _ _ _ left c.loop-line.invariant.transition c.in_ok-take_edit.ensures.transition;
     }
 
 pub returns-in_err-take_edit-clause-fault : goal.returns-in_err-take_edit-clause-fault
@@ -35,7 +35,7 @@ returns-clause-ok c =
     let all = all_taken (lines_of c.args.edits.now) c.loop-line.number (c.loop-line.invariant.rest ∙ c.in-None.ensures.steps.0) in
     subst (λ lines. Configures lines c.args.connections.now.config c.loop-line.connections.config) all c.loop-line.invariant.before
 
-pub returns-clause-moves : goal.returns-clause-moves
-returns-clause-moves c =
+pub returns-clause-transition : goal.returns-clause-transition
+returns-clause-transition c =
     let all = all_taken (lines_of c.args.edits.now) c.loop-line.number (c.loop-line.invariant.rest ∙ c.in-None.ensures.steps.0) in
-    subst (λ lines. MovesByLines lines c.args.connections.now c.loop-line.connections) all c.loop-line.invariant.moves
+    subst (λ lines. TransitionsByLines lines c.args.connections.now c.loop-line.connections) all c.loop-line.invariant.transition

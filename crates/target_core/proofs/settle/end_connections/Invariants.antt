@@ -6,4 +6,4 @@ use Rattle.target_core.proofs.settle.end_connections.Given as goal
 
 -- the connections below k are settled
 abbrev pub invariant-loop-k : goal.invariant-loop-k
-invariant-loop-k l = l.connections ≡ mapped_below (settled l.ending (is_gone l.gone)) l.k l.fn.connections
+invariant-loop-k l = l.connections ≡ mapped_below (settled l.cause (is_gone l.gone)) l.k l.fn.connections

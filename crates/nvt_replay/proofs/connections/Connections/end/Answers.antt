@@ -3,4 +3,4 @@ use Rattle.nvt_replay.proofs.connections.Connections.end.Goals as goal
 
 pub invariant_of-self : goal.invariant_of-self
 invariant_of-self c =
-    rw c.mark.ensures (ended_marked c.self.inside.target c.end.new.self c.args.k c.self.inside.marks c.end.ensures.moves c.self.invariant)
+    rw c.mark.ensures (ended_marked c.self.inside.target c.end.new.self c.args.k c.self.inside.marks c.end.ensures.transition c.self.invariant)

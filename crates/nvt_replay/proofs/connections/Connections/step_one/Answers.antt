@@ -9,7 +9,7 @@ pub loop-preserved-in-One-1 : goal.loop-preserved-in-One-1
 loop-preserved-in-One-1 c =
     let step = one_steps c.args.k c.loop.self-inside.target c.step.new.self (rw c.in-Ok-One.field-0-is at c.in-Ok-One.ensures.steps) in
     record {
-      marks = stepped_marked c.loop.self-inside.target c.step.new.self c.args.k _ _ c.loop.self-inside.marks c.loop.invariant.marks step.step.moves;
+      marks = stepped_marked c.loop.self-inside.target c.step.new.self c.args.k _ _ c.loop.self-inside.marks c.loop.invariant.marks step.step.transition;
       behind = λ last more. c.loop.invariant.behind last (steps_more c.args.k c.loop.self-inside.target c.step.new.self last step.step more);
     }
 
@@ -20,6 +20,6 @@ pub loop-preserved : goal.loop-preserved
 loop-preserved c =
     let step = ended_steps c.args.k c.loop.self-inside.target c.step.new.self (rw c.in-Ok-Ended.field-0-is at c.in-Ok-Ended.ensures.steps) in
     record {
-      marks = stepped_marked c.loop.self-inside.target c.step.new.self c.args.k _ _ c.loop.self-inside.marks c.loop.invariant.marks step.step.moves;
+      marks = stepped_marked c.loop.self-inside.target c.step.new.self c.args.k _ _ c.loop.self-inside.marks c.loop.invariant.marks step.step.transition;
       behind = λ last more. c.loop.invariant.behind last (steps_more c.args.k c.loop.self-inside.target c.step.new.self last step.step more);
     }

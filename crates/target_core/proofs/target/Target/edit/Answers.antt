@@ -2,4 +2,4 @@ use Rattle.target_core.proofs.Calls.{edit_keeps}
 use Rattle.target_core.proofs.target.Target.edit.Goals as goal
 
 pub returns-clause-agrees : goal.returns-clause-agrees
-returns-clause-agrees g c = edit_keeps _ _ _ _ c.make_edit.ensures.moves c.make_edit.ensures.err
+returns-clause-agrees g c = edit_keeps _ _ _ _ c.make_edit.ensures.transition c.make_edit.ensures.err

@@ -10,9 +10,9 @@ invariant_of-self-2 g c = record {
   units = edit_keeps_units c.self.inside.config c.edit.new.config c.args.edit.now c.in_ok-edit.ensures.ok ∙ c.self.invariant.units;
 }
 
-pub returns-clause-moves : goal.returns-clause-moves
-returns-clause-moves g c =
+pub returns-clause-transition : goal.returns-clause-transition
+returns-clause-transition g c =
     rw (← c.self.view_is)
     (edit_moves _ _ c.args.edit.now c.in_ok-edit.ensures.ok refl c.in_ok-edit.ensures.shown refl
     (rw c.of_edit.ensures at c.settle.ensures.connections) (λ n. rw c.of_edit.ensures at (c.settle.ensures.rows n))
-    (λ n. rw c.of_edit.ensures at (c.settle.ensures.own n)) refl)
+    (λ n. rw c.of_edit.ensures at (c.settle.ensures.own n)) (λ k t. rw c.of_edit.ensures at (c.settle.ensures.parts k t)) refl)

@@ -12,5 +12,5 @@ returns-in-Ok-clause-opened g c =
       free,
       open_moves _ _ c.args.port k free (stream_free _ _ _ c.self.invariant.tables free).1 refl refl refl
           (c.put.ensures ∙ ap (with_value c.self.inside.streams k) c.in-Ok.ensures)
-          (c.put-in-Ok.ensures ∙ ap (with_value c.self.inside.connections k) c.new-in-Ok.ensures) refl refl refl,
+          (c.put-in-Ok.ensures ∙ ap (with_value c.self.inside.connections k) c.new-in-Ok.ensures) refl refl c.drop_queue.ensures refl,
     )

@@ -1,43 +1,38 @@
 use Rattle.std.proofs.Common.{refl, ap, sym, ◌∙◌}
 use Rattle.std.specs.Option.{option_copied}
 use Rattle.controller_tables.proofs.Changing.{can_follow}
-use Rattle.target_core.proofs.Stepping.{acted_known, acts_known, row_known, step_done, step_is_target}
-use Rattle.target_decision.specs.World.{World}
+use Rattle.target_core.proofs.Stepping.{acted_known, acts_known, carried_known, step_done, step_is_target}
 use Rattle.target_core.proofs.target.Target.step_on.Goals as goal
 
 pub invariant_of-self : goal.invariant_of-self
 invariant_of-self g c =
     let stream = sym c.get.ensures ∙ ap option_copied c.in-Some.is in
     let known = sym c.get-2.ensures ∙ ap option_copied c.in-Some-get.is in
-    let acts = acts_known _ _ _ _ _ _ _ _ _ _ known c.in-Ok.ensures.acts in
+    let acts = acts_known _ _ _ _ _ _ _ _ _ _ _ known c.in-Ok-act.ensures.acts in
     record {
       tables = rw (acted_known _ _ _ _ _ _ stream c.consume.ensures, c.settle.ensures.connections, acts.placed)
           (step_is_target _ _ _ _ _ _ _ _ c.self.invariant.tables stream known);
       units = c.self.invariant.units ∙ sym acts.acts.sizes;
     }
 
-pub returns-in-Ok : goal.returns-in-Ok
-returns-in-Ok g c =
+pub returns-in-Ok-act : goal.returns-in-Ok-act
+returns-in-Ok-act g c =
     let stream = sym c.get.ensures ∙ ap option_copied c.in-Some.is in
     let known = sym c.get-2.ensures ∙ ap option_copied c.in-Some-get.is in
     let lasts = sym c.is_ended.ensures ∙ c.if-is_ended.false in
     let complete = sym c.is_incomplete.ensures ∙ c.if-is_incomplete.false in
     rw (← c.self.view_is, stream, known)
     (step_done _ _ _ _ _ _ _ _ _ _ _ _ stream known lasts c.peek-front.ensures.front complete
-    (rw (c.world-world.ensures, c.pages-pages.ensures, c.conversation.ensures) at c.decide-decision.ensures.decision)
-    (rw c.conversation.ensures at c.of_decision.ensures) c.consequence_of.ensures (row_known _ _ _ _ _ known c.in-Ok.ensures.row)
+    (rw (c.world-world.ensures, c.pages-pages.ensures, c.state.ensures) at c.decide-decision.ensures.decision)
+    (rw c.state.ensures at c.of_decision.ensures) c.consequence_of.ensures (rw c.state.ensures at c.in-Ok.ensures)
     refl refl refl
-    (acts_known _ _ _ _ _ _ _ _ _ _ known (rw (c.world-world.ensures, c.pages-pages.ensures) at c.in-Ok.ensures.acts)) c.settle.ensures.connections
+    (acts_known _ _ _ _ _ _ _ _ _ _ _ known (rw (c.world-world.ensures, c.pages-pages.ensures) at c.in-Ok-act.ensures.acts)) c.settle.ensures.connections
     (rw c.consumed_of-len.ensures at (acted_known _ _ _ _ _ _ stream c.consume.ensures))
     (λ n. rw (c.settle.ensures.rows n, c.settle.ensures.own n) at (c.change.ensures.rows n))
-    (λ n. rw (c.settle.ensures.own n) at (c.change.ensures.own n)) c.stepped.ensures)
+    (λ n. rw (c.settle.ensures.own n) at (c.change.ensures.own n))
+    c.act.new.transfers (carried_known _ _ _ _ known c.in-Ok-act.ensures.parts) c.settle.ensures.parts c.stepped.ensures)
 
 pub change-requires : goal.change-requires
 change-requires g c =
-    let known = sym c.get-2.ensures ∙ ap option_copied c.in-Some-get.is in
-    can_follow _ _ _ _ _ _ _ _ _ c.consequence_of.ensures (row_known _ _ _ _ _ known c.in-Ok.ensures.row)
+    can_follow _ _ _ _ _ _ _ _ _ c.consequence_of.ensures c.in-Ok.ensures
     (rw c.world-world.ensures at c.decide-decision.ensures.begins) c.settle.ensures.rows
-
-pub act-requires-clause-within : goal.act-requires-clause-within
-act-requires-clause-within g c =
-    rw (← c.self.invariant.units) (rw (ap (λ (w : World). w.config.units) c.world-world.ensures) at c.decide-decision.ensures.within)
