@@ -6,6 +6,7 @@ use Rattle.config_rules.specs.Configuration.{Configuration}
 use Rattle.nvt_fields.specs.Window.{window}
 use Rattle.nvt_fields.specs.declared.status.Status.{Status}
 use Rattle.nvt_fields.specs.Status.{data_sgl_length_invalid, sgl_type_invalid}
+use Rattle.pdu_codec.specs.declared.command.GetLogPage.{GetLogPage}
 use Rattle.pdu_codec.specs.declared.command.Identify.{Identify}
 use Rattle.pdu_codec.specs.Sqe.{feature_of, get_log_page_of, identify_of, opcode_of, sgl1_of}
 use Rattle.admin_queue.specs.declared.outcome.Effect.TheVariants.{Nothing}
@@ -25,10 +26,10 @@ use Rattle.admin_queue.specs.Payload.{namespace_in, payload_bytes, payload_len, 
 
 -- ---- the world
 
-read_alike : (c : AdminController) (p q : Pages) (d e : Configuration) (entry : List ℕ) (page : Option LogPage) → ToldAlike c p q d e
-    → read_known page p c entry ≡ read_known page q c entry
-read_alike c p q d e entry None h = refl
-read_alike c p q d e entry (Some page) h = ap (λ (bytes : List ℕ). read_page page bytes entry) (h.log_pages page)
+read_alike : (c : AdminController) (p q : Pages) (d e : Configuration) (request : GetLogPage) (entry : List ℕ) (page : Option LogPage) → ToldAlike c p q d e
+    → read_known page p c request entry ≡ read_known page q c request entry
+read_alike c p q d e request entry None h = refl
+read_alike c p q d e request entry (Some page) h = ap (λ (bytes : List ℕ). read_page page bytes request entry) (h.log_pages page)
 
 structure_alike : (subsystem : Option (List ℕ)) (d e : Configuration) (cns nsid : ℕ)
     → is_some (namespace_in subsystem d nsid) ≡ is_some (namespace_in subsystem e nsid)
@@ -44,7 +45,7 @@ identify_alike c p q d e entry h =
 outcome_alike : (c : AdminController) (p q : Pages) (d e : Configuration) (entry : List ℕ) → ToldAlike c p q d e
     → admin p d c entry ≡ admin q e c entry
 outcome_alike c p q d e entry h =
-    rw (read_alike c p q d e entry (page_of_lid c.subsystem (get_log_page_of entry).lid) h, identify_alike c p q d e entry h) refl
+    rw (read_alike c p q d e (get_log_page_of entry) entry (page_of_lid c.subsystem (get_log_page_of entry).lid) h, identify_alike c p q d e entry h) refl
 
 payload_alike : (c : AdminController) (p q : Pages) (d e : Configuration) (r : Payload) → ToldAlike c p q d e
     → payload_bytes r p d c ≡ payload_bytes r q e c
@@ -74,9 +75,9 @@ returned_by entry r false false is = tt
 returned_asked : (entry : List ℕ) (r : Payload) → Asked entry (returned r entry)
 returned_asked entry r = returned_by entry r (not (is_transport (sgl1_of entry).sgl_type)) ((sgl1_of entry).len == payload_len r) refl
 
-read_asked : (entry : List ℕ) (p : Pages) (c : AdminController) (page : Option LogPage) → Asked entry (read_known page p c entry)
-read_asked entry p c None = tt
-read_asked entry p c (Some page) = search (either_asked, returned_asked)
+read_asked : (request : GetLogPage) (entry : List ℕ) (p : Pages) (c : AdminController) (page : Option LogPage) → Asked entry (read_known page p c request entry)
+read_asked request entry p c None = tt
+read_asked request entry p c (Some page) = search (either_asked, returned_asked)
 
 identified_asked : (entry : List ℕ) (s : Result Structure Status) → Asked entry (identified s entry)
 identified_asked entry (Ok s) = returned_asked entry (payload.Identify s)

@@ -1,3 +1,4 @@
 pub mod Asking
+pub mod Bounds
 pub mod Parts
 pub mod Serials

@@ -1,6 +1,8 @@
 -- Laws of the admin commands, in the words of the subject.
-use Rattle.std.specs.Prelude.{◌≡◌, ℕ, List, Some, is_some, IfOk, IfSome}
+use Rattle.std.specs.Prelude.{◌≡◌, ◌≤◌, ℕ, List, Some, is_some, IfOk, IfSome, slice_get}
 use Rattle.config_rules.specs.Configuration.{Configuration}
+use Rattle.data_transfer.specs.declared.piece.Piece.{Piece}
+use Rattle.data_transfer.specs.Pieces.{pieces}
 use Rattle.pdu_codec.specs.Sqe.{sgl1_of}
 use Rattle.admin_queue.specs.declared.payload.LogPage.{LogPage}
 use Rattle.admin_queue.specs.declared.payload.Payload.{Payload}
@@ -8,7 +10,7 @@ use Rattle.admin_queue.specs.declared.payload.Structure.{Structure}
 use Rattle.admin_queue.specs.Commands.{admin}
 use Rattle.admin_queue.specs.Controller.{AdminController}
 use Rattle.admin_queue.specs.Pages.{Pages, log_page_bytes}
-use Rattle.admin_queue.specs.Payload.{namespace_in, payload_bytes, payload_len, structure_bytes}
+use Rattle.admin_queue.specs.Payload.{IsPart, namespace_in, payload_bytes, payload_len, structure_bytes}
 
 -- Two worlds tell the same of a controller: each log page and each structure, and which namespaces of its subsystem
 -- are active.
@@ -28,3 +30,13 @@ pub record AnsweredByOwnAlone : Type 0 where
 pub record AsMuchAsAsked : Type 0 where
   pub len : (p : Pages) (d : Configuration) (c : AdminController) (entry : List ℕ)
       → IfOk (admin p d c entry) (λ s. IfSome s.payload (λ r. payload_len r ≡ (sgl1_of entry).len))
+
+-- .. and at most 131,072
+pub record AtMostMdts : Type 0 where
+  pub len : (p : Pages) (d : Configuration) (c : AdminController) (entry : List ℕ)
+      → IfOk (admin p d c entry) (λ s. IfSome s.payload (λ r. payload_len r ≤ 131072))
+
+-- each of the pieces in which data go to the host is a part that is written at once
+abbrev pub PiecesAreParts : Type 0
+PiecesAreParts =
+    (r : Payload) (number : ℕ) (piece : Piece) → slice_get (pieces (payload_len r)) number ≡ Some piece → IsPart r piece.offset piece.len

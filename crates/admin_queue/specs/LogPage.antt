@@ -1,6 +1,7 @@
 -- Get Log Page (Base 2.0, section 5.16).
 use Rattle.std.specs.Prelude.{ℕ, ◌+◌, ◌*◌, ◌%◌, not, ◌==◌, ◌||◌, nat_lt, List, length, Option, Some, None, Err, if◌then◌else◌}
 use Rattle.nvt_fields.specs.Status.{invalid_field, invalid_log_page}
+use Rattle.pdu_codec.specs.declared.command.GetLogPage.{GetLogPage}
 use Rattle.pdu_codec.specs.Sqe.{get_log_page_of}
 use Rattle.admin_queue.specs.declared.payload.LogPage.{LogPage}
 use Rattle.admin_queue.specs.declared.payload.LogPage.TheVariants.{Discovery}
@@ -16,17 +17,18 @@ page_of_lid None lid = if lid == 0x70 then Some Discovery else None
 page_of_lid (Some subsystem) lid = None
 
 -- what a read of this page comes to, where these are its bytes: it may begin up to the page's end
-abbrev pub read_page : LogPage → List ℕ → List ℕ → Outcome
-read_page page bytes entry =
-    let request = get_log_page_of entry in
+abbrev pub read_page : LogPage → List ℕ → GetLogPage → List ℕ → Outcome
+read_page page bytes request entry =
     let dwords = request.numd + 1 in
-    refuse (nat_lt 32768 (4 * dwords) || (not (request.offset % 4 == 0) || nat_lt (length bytes) request.offset)) invalid_field
+    refuse (nat_lt 131072 (4 * dwords) || (not (request.offset % 4 == 0) || nat_lt (length bytes) request.offset)) invalid_field
     (returned (payload.LogPage (record { page = page; offset = request.offset; dwords = dwords })) entry)
 
-abbrev pub read_known : Option LogPage → Pages → AdminController → List ℕ → Outcome
-read_known None pages c entry = Err invalid_log_page
-read_known (Some page) pages c entry = read_page page (log_page_bytes page pages c) entry
+abbrev pub read_known : Option LogPage → Pages → AdminController → GetLogPage → List ℕ → Outcome
+read_known None pages c request entry = Err invalid_log_page
+read_known (Some page) pages c request entry = read_page page (log_page_bytes page pages c) request entry
 
 -- what a read of a log page of this controller comes to
 abbrev pub get_log_page : Pages → AdminController → List ℕ → Outcome
-get_log_page pages c entry = read_known (page_of_lid c.subsystem (get_log_page_of entry).lid) pages c entry
+get_log_page pages c entry =
+    let request = get_log_page_of entry in
+    read_known (page_of_lid c.subsystem request.lid) pages c request entry

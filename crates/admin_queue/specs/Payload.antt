@@ -1,5 +1,5 @@
 -- The data that a command returns, by where its bytes come from.
-use Rattle.std.specs.Prelude.{ℕ, ◌*◌, List, [], Option, Some, None, find, replicate}
+use Rattle.std.specs.Prelude.{◌≡◌, ◌≤◌, ℕ, ◌+◌, ◌*◌, List, [], Option, Some, None, find, replicate}
 use Rattle.std.specs.Str.{bytes_eq}
 use Rattle.config_lists.specs.declared.namespace.Namespace.{Namespace}
 use Rattle.config_lists.specs.declared.subsystem.Subsystem.{Subsystem}
@@ -20,6 +20,12 @@ use Rattle.admin_queue.specs.Pages.{Pages, log_page_bytes}
 abbrev pub payload_len : Payload → ℕ
 payload_len (LogPage part) = 4 * part.dwords
 payload_len (Identify s) = 4096
+
+-- so many bytes from an offset on are a part that is written at once: any within a log page's, and of what an
+-- Identify returns all
+abbrev pub IsPart : Payload → ℕ → ℕ → Type 0
+IsPart (LogPage part) offset len = offset + len ≤ 4 * part.dwords
+IsPart (Identify s) offset len = (offset ≡ 0) × (len ≡ 4096)
 
 -- ---- what an Identify returns (Base 2.0, section 5.17.2)
 

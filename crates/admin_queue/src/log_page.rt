@@ -13,15 +13,16 @@ use pdu_codec::{GetLogPage, Sqe};
 
 const DISCOVERY: u8 = 0x70;
 
-/// The most bytes of one read, until replies are split.
-const READ_MAX: u64 = 32_768;
+/// The most bytes of one read (MDTS; Base 2.0, section 5.17.2.1).
+const READ_MAX: u64 = 131_072;
 
 pub(crate) fn command(pages: &Pages<'_>, controller: &AdminController<'_>, sqe: &Sqe<'_>) -> Outcome
     ensures { result ≡ get_log_page (pages_in pages.now) (controller_in controller.now)
         sqe.now.entry.now }
 {
-    match page_of_lid(controller.subsystem, GetLogPage::read(sqe).lid) {
-        Some(page) => read_page(page, pages, controller, sqe),
+    let request = GetLogPage::read(sqe);
+    match page_of_lid(controller.subsystem, request.lid) {
+        Some(page) => read_page(page, &request, pages, controller, sqe),
         None => Err(Status::INVALID_LOG_PAGE),
     }
 }
@@ -39,14 +40,14 @@ fn page_of_lid(subsystem: &Option<Nqn>, lid: u8) -> Option<LogPage>
 
 fn read_page(
     page: LogPage,
+    request: &GetLogPage,
     pages: &Pages<'_>,
     controller: &AdminController<'_>,
     sqe: &Sqe<'_>,
 ) -> Outcome
     ensures { let bytes = log_page_bytes page (pages_in pages.now) (controller_in controller.now) in
-        result ≡ read_page page bytes sqe.now.entry.now }
+        result ≡ read_page page bytes request.now sqe.now.entry.now }
 {
-    let request = GetLogPage::read(sqe);
     let dwords = u64::from(request.numd) + 1;
     if 4 * dwords > READ_MAX
         || request.offset % 4 != 0

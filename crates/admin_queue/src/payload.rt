@@ -1,10 +1,10 @@
 //! The data that a command returns, by where its bytes come from. They are written straight into the
 //! room that a reply has for them.
-ghost use Rattle.std.specs.Prelude.{◌≡◌, ◌≤◌, ◌<◌, ◌^◌, length, replicate};
+ghost use Rattle.std.specs.Prelude.{◌≡◌, ◌≤◌, ◌<◌, ◌+◌, ◌^◌, length, replicate, slice_range};
 ghost use Rattle.std.specs.Option.{option_copied};
 ghost use Rattle.admin_queue.specs.Controller.{controller_in};
 ghost use Rattle.admin_queue.specs.Pages.{log_page_bytes, pages_in};
-ghost use Rattle.admin_queue.specs.Payload.{active_in, identity_of, namespace_in, payload_bytes, payload_len, serial_in, structure_bytes};
+ghost use Rattle.admin_queue.specs.Payload.{IsPart, active_in, identity_of, namespace_in, payload_bytes, payload_len, serial_in, structure_bytes};
 ghost use Rattle.identify_data.specs.Controller.{controller_data};
 ghost use Rattle.nvt_fields.specs.Window.{window};
 
@@ -50,8 +50,29 @@ impl Payload {
         ensures { out.new ≡ payload_bytes self.now (pages_in pages.now) config.now
             (controller_in controller.now) }
     {
+        self.write_part(0, pages, config, controller, out);
+    }
+
+    /// Writes the bytes from an offset on into room for a part of them, whatever stood there. What an
+    /// Identify asks for is written as a whole.
+    pub fn write_part(
+        &self,
+        offset: u32,
+        pages: &Pages<'_>,
+        config: &Config,
+        controller: &AdminController<'_>,
+        out: &mut [u8],
+    )
+        requires { IsPart self.now offset (length out.old) }
+        ensures part { let bytes = payload_bytes self.now (pages_in pages.now) config.now
+            (controller_in controller.now) in
+            out.new ≡ slice_range bytes offset (offset + length out.old) }
+        ensures len { let bytes = payload_bytes self.now (pages_in pages.now) config.now
+            (controller_in controller.now) in
+            length bytes ≡ payload_len self.now }
+    {
         match self {
-            Payload::LogPage(part) => part.write(pages, controller, out),
+            Payload::LogPage(part) => part.write(offset, pages, controller, out),
             Payload::Identify(structure) => structure.write(pages, config, controller, out),
         }
     }
@@ -62,6 +83,30 @@ impl Payload {
 pub enum LogPage {
     /// The discovery log page of the controller's host.
     Discovery,
+}
+
+impl LogPage {
+    // From an offset on, as much as there is room for.
+    fn write(self, offset: u64, pages: &Pages<'_>, controller: &AdminController<'_>, out: &mut [u8])
+        ensures { let page = log_page_bytes self (pages_in pages.now) (controller_in controller.now) in
+            out.new ≡ window page offset (length out.old) }
+    {
+        match self {
+            LogPage::Discovery => pages
+                .discovery
+                .window(controller.host.as_bytes(), offset, out),
+        }
+    }
+
+    // In bytes.
+    fn len(self, pages: &Pages<'_>, controller: &AdminController<'_>) -> u64
+        ensures { let page = log_page_bytes self (pages_in pages.now) (controller_in controller.now) in
+            result ≡ length page }
+    {
+        match self {
+            LogPage::Discovery => pages.discovery.len(controller.host.as_bytes()),
+        }
+    }
 }
 
 /// A part of a log page. Past the page's end it is zeros.
@@ -75,15 +120,25 @@ pub struct LogPagePart {
 }
 
 impl LogPagePart {
-    fn write(&self, pages: &Pages<'_>, controller: &AdminController<'_>, out: &mut [u8])
+    // From an offset of the part on, as much as there is room for.
+    fn write(
+        &self,
+        offset: u32,
+        pages: &Pages<'_>,
+        controller: &AdminController<'_>,
+        out: &mut [u8],
+    )
         ensures { let page = log_page_bytes self.now.page (pages_in pages.now)
             (controller_in controller.now) in
-            out.new ≡ window page self.now.offset (length out.old) }
+            out.new ≡ window page (self.now.offset + offset) (length out.old) }
     {
-        match self.page {
-            LogPage::Discovery => pages
-                .discovery
-                .window(controller.host.as_bytes(), self.offset, out),
+        match self.offset.checked_add(u64::from(offset)) {
+            Some(at) => self.page.write(at, pages, controller, out),
+            None => {
+                // prover: no page has as many as 2^64 bytes
+                self.page.len(pages, controller);
+                write_zeros(out);
+            }
         }
     }
 }
@@ -189,8 +244,7 @@ fn write_active(pages: &Pages<'_>, controller: &AdminController<'_>, above: u32,
 }
 
 fn write_zeros(out: &mut [u8])
-    requires { length out.old ≡ 4096 }
-    ensures { out.new ≡ replicate 4096 0 }
+    ensures { out.new ≡ replicate (length out.old) 0 }
 {
     out.fill(0);
 }

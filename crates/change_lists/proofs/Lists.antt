@@ -14,7 +14,6 @@ use Rattle.config_lists.specs.Namespace.{is_named}
 use Rattle.config_lists.proofs.Names.{bytes_eq-same, same_name}
 use Rattle.config_rules.specs.Configuration.{Configuration}
 use Rattle.config_rules.specs.Valid.{IsNamespace, IsValid}
-use Rattle.config_words.specs.declared.numbers.Numbered.TheVariants.{Namespaces}
 use Rattle.config_words.specs.Numbered.{active_nsids, is_there, numbers_from}
 use Rattle.change_lists.specs.ActiveList.{IsActive, IsActiveList, NsidsAreListed, nsids_above}
 use Rattle.change_lists.specs.ActiveView.{Shown, ShowsActive, nsids_in}
@@ -45,12 +44,12 @@ kept_where test xs k =
     any-filter_same (nat_eq k) test (test k) (λ j same. ap test (grind (arith, nat_tests, same))) xs
 
 -- a subsystem has a namespace of an identifier
-active_there : (c : Configuration) (subsystem : List ℕ) (k : ℕ) → IsActive c subsystem k → is_there Namespaces c.namespaces subsystem k ≡ true
+active_there : (c : Configuration) (subsystem : List ℕ) (k : ℕ) → IsActive c subsystem k → is_there c.namespaces subsystem k ≡ true
 active_there c subsystem k (n, (at, below, is), named, numbered) =
     list_any-from_Any (is_named subsystem k) c.namespaces
     (at, n, below, is, and_from (bytes_eq n.subsystem subsystem) (n.nsid == k) (bytes_eq-same n.subsystem subsystem named) (grind (arith, nat_tests, numbered)))
 
-there_active : (c : Configuration) (subsystem : List ℕ) (k : ℕ) → is_there Namespaces c.namespaces subsystem k ≡ true → IsActive c subsystem k
+there_active : (c : Configuration) (subsystem : List ℕ) (k : ℕ) → is_there c.namespaces subsystem k ≡ true → IsActive c subsystem k
 there_active c subsystem k there =
     let (at, n, below, is, named) = Any-from_list_any (is_named subsystem k) c.namespaces there in
     let parts = and_parts (bytes_eq n.subsystem subsystem) (n.nsid == k) named in
@@ -63,12 +62,12 @@ AreWithin first n namespaces = All (λ m. (first ≤ m.nsid) × (m.nsid < first 
 -- what a list has is listed, and the other way round
 abbrev Has : Configuration → List ℕ → ℕ → ℕ → ℕ → ℕ → Type 0
 Has c subsystem above first n k =
-    (nat_lt above k && (is_there Namespaces c.namespaces subsystem k && (nat_lt k (first + n) && not (nat_lt k first)))) ≡ true
+    (nat_lt above k && (is_there c.namespaces subsystem k && (nat_lt k (first + n) && not (nat_lt k first)))) ≡ true
 
 is_listed : (c : Configuration) (subsystem : List ℕ) (above first n k : ℕ) → Has c subsystem above first n k → (above < k) × IsActive c subsystem k
 is_listed c subsystem above first n k has =
     let parts = and_parts (nat_lt above k) _ has in
-    let there = and_parts (is_there Namespaces c.namespaces subsystem k) _ parts.1 in
+    let there = and_parts (is_there c.namespaces subsystem k) _ parts.1 in
     (ltb-true above k parts.0, there_active c subsystem k there.0)
 
 has_listed : (c : Configuration) (subsystem : List ℕ) (above first n k : ℕ) → AreWithin first n c.namespaces → (above < k) × IsActive c subsystem k → Has c subsystem above first n k
@@ -76,11 +75,11 @@ has_listed c subsystem above first n k within (over, (m, found, named, numbered)
     let between = All-contains (λ m. (first ≤ m.nsid) × (m.nsid < first + n)) c.namespaces m within found in
     let there = active_there c subsystem k (m, found, named, numbered) in
     let range : (nat_lt k (first + n) && not (nat_lt k first)) ≡ true = grind (arith, nat_tests, between.0, between.1, numbered) in
-    and_from (nat_lt above k) _ (lt-ltb above k over) (and_from (is_there Namespaces c.namespaces subsystem k) _ there range)
+    and_from (nat_lt above k) _ (lt-ltb above k over) (and_from (is_there c.namespaces subsystem k) _ there range)
 
-listed_from : (c : Configuration) (subsystem : List ℕ) (above first n : ℕ) → n ≤ 1024 → AreWithin first n c.namespaces → IsActiveList c subsystem above (nsids_above above (filter (is_there Namespaces c.namespaces subsystem) (numbers_from first n)))
+listed_from : (c : Configuration) (subsystem : List ℕ) (above first n : ℕ) → n ≤ 1024 → AreWithin first n c.namespaces → IsActiveList c subsystem above (nsids_above above (filter (is_there c.namespaces subsystem) (numbers_from first n)))
 listed_from c subsystem above first n few within =
-    let there : ℕ → Bool = is_there Namespaces c.namespaces subsystem in
+    let there : ℕ → Bool = is_there c.namespaces subsystem in
     let numbers : List ℕ = numbers_from first n in
     let all : List ℕ = filter there numbers in
     let over : ℕ → Bool = λ k. nat_lt above k in

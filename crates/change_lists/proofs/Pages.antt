@@ -7,7 +7,6 @@ use Rattle.std.proofs.lemmas.List.Elements.{filter-append}
 use Rattle.std.proofs.lemmas.List.Filters.{length-filter_both}
 use Rattle.std.specs.Int.{w32, to_le_bytes}
 use Rattle.config_lists.specs.declared.namespace.Namespace.{Namespace}
-use Rattle.config_words.specs.declared.numbers.Numbered.TheVariants.{Namespaces}
 use Rattle.config_words.specs.Numbered.{active_nsids, is_there, numbers_from}
 use Rattle.change_lists.specs.ActiveList.{list_page, nsids_above}
 
@@ -25,9 +24,9 @@ pub length-numbers : (first n : ℕ) → length (numbers_from first n) ≡ n
 length-numbers first zero = refl
 length-numbers first (suc n) = ap suc (length-numbers (suc first) n)
 
-pub few_from : (namespaces : List Namespace) (subsystem : List ℕ) (first n : ℕ) → length (filter (is_there Namespaces namespaces subsystem) (numbers_from first n)) ≤ n
+pub few_from : (namespaces : List Namespace) (subsystem : List ℕ) (first n : ℕ) → length (filter (is_there namespaces subsystem) (numbers_from first n)) ≤ n
 few_from namespaces subsystem first n =
-    omega (arith, length-kept (is_there Namespaces namespaces subsystem) (numbers_from first n), length-numbers first n)
+    omega (arith, length-kept (is_there namespaces subsystem) (numbers_from first n), length-numbers first n)
 
 pub nsids_are_few : (namespaces : List Namespace) (subsystem : List ℕ) → length (active_nsids namespaces subsystem) ≤ 1024
 unfolding active_nsids

@@ -1,5 +1,5 @@
 //! A namespace: blocks that hosts read and write.
-ghost use Rattle.std.specs.Prelude.{◌≡◌, ◌==◌, ◌&&◌, find};
+ghost use Rattle.std.specs.Prelude.{◌≡◌, ◌==◌, find};
 ghost use Rattle.std.specs.List.{list_any};
 ghost use Rattle.std.specs.Option.{option_copied};
 ghost use Rattle.std.specs.Str.{bytes_eq};
@@ -143,14 +143,6 @@ pub fn has_namespaces(namespaces: &[Namespace], subsystem: &[u8]) -> bool
     namespaces
         .iter()
         .any(|n| n.subsystem.as_bytes() == subsystem)
-}
-
-/// Whether the subsystem of that name has a namespace in that ANA group.
-pub fn has_group(namespaces: &[Namespace], subsystem: &[u8], group: u64) -> bool
-    ensures { result ≡ list_any
-        (λ n. bytes_eq n.subsystem subsystem.now && n.group == group) namespaces.now }
-{
-    namespaces.iter().any(|n| n.subsystem.as_bytes() == subsystem && u64::from(n.group) == group)
 }
 
 /// Whether a namespace has that UUID.

@@ -3,4 +3,4 @@
 
 pub mod numbers;
 
-pub use numbers::{Numbers, active_nsids, groups};
+pub use numbers::{Numbers, active_nsids};

@@ -1,28 +1,16 @@
-//! The identifiers of a subsystem's namespaces, and the ANA groups that hold one.
+//! The identifiers of a subsystem's namespaces.
 ghost use Rattle.std.specs.Prelude.{◌≡◌};
 ghost use Rattle.std.specs.Iterator.{YieldsFirst, item_count};
-ghost use Rattle.config_words.specs.Numbered.{active_nsids, groups, is_there};
+ghost use Rattle.config_words.specs.Numbered.{active_nsids, is_there};
 
-use config_lists::namespace::{Namespace, has_group, has_namespace};
+use config_lists::namespace::{Namespace, has_namespace};
 use std::marker::Model;
 
 const NSID_END: u32 = 1_025;
 
-const GROUP_END: u32 = 33;
-
-/// What is numbered.
-#[derive(Clone, Copy)]
-pub enum Numbered {
-    /// The namespaces of a subsystem, by their identifiers.
-    Namespaces,
-    /// The ANA groups that hold a namespace of a subsystem.
-    Groups,
-}
-
 /// The numbers that are left, rising. A contract sees them as a list.
 #[derive(Drop)]
 pub struct Numbers<'a> {
-    of: Numbered,
     namespaces: &'a [Namespace],
     subsystem: &'a [u8],
     next: u32,
@@ -35,7 +23,7 @@ impl<'a> Model for Numbers<'a> {
 
     ghost Value = { List ℕ };
 
-    ghost view = { λ n. filter (is_there n.of n.namespaces.now n.subsystem.now)
+    ghost view = { λ n. filter (is_there n.namespaces.now n.subsystem.now)
         (numbers_from n.next (n.end - n.next)) };
 
     ghost invariant = { λ n. n.next ≤ n.end };
@@ -47,25 +35,10 @@ pub fn active_nsids<'a>(namespaces: &'a [Namespace], subsystem: &'a [u8]) -> Num
     ensures { result ≡ active_nsids namespaces.now subsystem.now }
 {
     Numbers {
-        of: Numbered::Namespaces,
         namespaces,
         subsystem,
         next: 1,
         end: NSID_END,
-    }
-}
-
-/// The ANA groups that hold a namespace of a subsystem (Base 2.0, section 8.1), rising.
-#[tactic(auto, unfolding(crate::specs::Numbered::groups))]
-pub fn groups<'a>(namespaces: &'a [Namespace], subsystem: &'a [u8]) -> Numbers<'a>
-    ensures { result ≡ groups namespaces.now subsystem.now }
-{
-    Numbers {
-        of: Numbered::Groups,
-        namespaces,
-        subsystem,
-        next: 1,
-        end: GROUP_END,
     }
 }
 
@@ -80,7 +53,7 @@ impl<'a> Iterator for Numbers<'a> {
         while self.next < self.end {
             let number = self.next;
             self.next += 1;
-            if is_there(self.of, self.namespaces, self.subsystem, number) {
+            if is_there(self.namespaces, self.subsystem, number) {
                 return Some(number);
             }
         }
@@ -88,11 +61,8 @@ impl<'a> Iterator for Numbers<'a> {
     }
 }
 
-fn is_there(of: Numbered, namespaces: &[Namespace], subsystem: &[u8], number: u32) -> bool
-    ensures { result ≡ is_there of namespaces.now subsystem.now number }
+fn is_there(namespaces: &[Namespace], subsystem: &[u8], nsid: u32) -> bool
+    ensures { result ≡ is_there namespaces.now subsystem.now nsid }
 {
-    match of {
-        Numbered::Namespaces => has_namespace(namespaces, subsystem, u64::from(number)),
-        Numbered::Groups => has_group(namespaces, subsystem, u64::from(number)),
-    }
+    has_namespace(namespaces, subsystem, u64::from(nsid))
 }

@@ -50,7 +50,7 @@ pieces_join bytes =
     ∙ let all : 0 + length bytes - 0 ≡ length bytes = omega arith in rw all (take-length bytes)
 
 -- a piece by its number
-at_number : (len number : ℕ) (piece : Piece) → slice_get (pieces len) number ≡ Some piece → (number < piece_count len) × (piece ≡ piece_at 0 len number)
+pub at_number : (len number : ℕ) (piece : Piece) → slice_get (pieces len) number ≡ Some piece → (number < piece_count len) × (piece ≡ piece_at 0 len number)
 unfolding pieces_from
 at_number len number piece found =
     let within : number < length (pieces len) = slice_get_within (pieces len) number piece found in

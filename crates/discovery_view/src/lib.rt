@@ -7,7 +7,6 @@ pub mod laws;
 mod listing;
 mod order;
 mod page;
-pub mod plain;
 mod record;
 mod served;
 pub mod view;

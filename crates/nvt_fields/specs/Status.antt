@@ -43,6 +43,9 @@ sgl_offset_invalid = generic 0x16
 abbrev pub lba_out_of_range : Status
 lba_out_of_range = generic 0x80
 
+abbrev pub asynchronous_event_request_limit_exceeded : Status
+asynchronous_event_request_limit_exceeded = command_specific 0x05
+
 abbrev pub invalid_log_page : Status
 invalid_log_page = command_specific 0x09
 

@@ -76,6 +76,13 @@ impl Status {
         dnr: true,
     };
 
+    /// As many event requests wait as may.
+    pub const ASYNCHRONOUS_EVENT_REQUEST_LIMIT_EXCEEDED: Status = Status {
+        sct: 1,
+        sc: 0x05,
+        dnr: true,
+    };
+
     pub const INVALID_LOG_PAGE: Status = Status {
         sct: 1,
         sc: 0x09,

@@ -1,4 +1,4 @@
-//! Tests of the discovery view while edits are made, through its public calls, beside the plain
+//! Tests of the discovery view while edits are made, through its public calls, beside a plain
 //! count of its changes. The expected bytes are typed from the standards' tables.
 #![tactic(auto)]
 
@@ -8,5 +8,7 @@ mod counts;
 mod followed;
 #[cfg(test)]
 mod pages;
+#[cfg(test)]
+mod plain;
 #[cfg(test)]
 mod random;

@@ -1,6 +1,6 @@
 //! The view beside the plain count, on random lists of edits.
 use super::followed::{Followed, UNITS, follow, page, start};
-use discovery_view::plain;
+use super::plain;
 use nvt_config::{Access, AnaState, Edit, Family};
 use rand_core::utils::NextWord;
 use rand_pcg::Pcg32;

@@ -1,7 +1,6 @@
 //! What is printed of each error.
 use block_store::DiskFault;
 use config_edits::{EditFault, Item};
-use discovery_view::plain::PlainFault;
 use line_words::{LineFault, LineFaultKind};
 use nvt_config::NewFault;
 use nvt_fields::NqnFault;
@@ -39,9 +38,7 @@ fn disks(rt: HostRuntime) -> Outcome {
     let alloc = rt.alloc();
     pass!(says(alloc, &DiskFault, "disk fault").in_row(0));
     pass!(says(alloc, &NewFault::Disks, DISKS).in_row(1));
-    pass!(says(alloc, &NewFault::Memory, "memory").in_row(2));
-    pass!(says(alloc, &PlainFault::Disks, DISKS).in_row(3));
-    says(alloc, &PlainFault::Memory, "memory").in_row(4)
+    says(alloc, &NewFault::Memory, "memory").in_row(2)
 }
 
 #[test]

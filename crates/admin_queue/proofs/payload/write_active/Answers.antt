@@ -1,6 +1,6 @@
 use Rattle.std.proofs.Common.{length}
 use Rattle.change_lists.specs.ActiveView.{active_page}
-use Rattle.admin_queue.proofs.Parts.{window_of}
+use Rattle.admin_queue.proofs.Parts.{window_of, zeros_of}
 use Rattle.admin_queue.proofs.payload.write_active.Goals as goal
 
 pub returns-in-Some : goal.returns-in-Some
@@ -9,4 +9,4 @@ returns-in-Some c =
     (rw c.as_bytes.ensures at c.window.ensures) c.requires)
 
 pub returns-in-None : goal.returns-in-None
-returns-in-None c = rw c.in-None.is c.write_zeros.ensures
+returns-in-None c = rw c.in-None.is (zeros_of c.write_zeros.new.out (length c.args.out.now) 4096 c.write_zeros.ensures c.requires)

@@ -3,7 +3,6 @@
 
 use nvt_config::{Access, Config, Edit, EditFault, Family, Link, NewFault, Port};
 use std::alloc::{AllocError, Global};
-use thiserror::Error;
 
 // SUBTYPE of a record.
 const REFERRAL: u8 = 1;
@@ -12,30 +11,6 @@ const NVM_SUBSYSTEM: u8 = 2;
 
 const DISCOVERY_NQN: &[u8] = b"nqn.2014-08.org.nvmexpress.discovery";
 
-/// Why there is no count.
-#[derive(Clone, Copy, Debug, PartialEq, Eq, Error)]
-pub enum PlainFault {
-    #[error("more than 256 disks, or a disk of more than 2^40 units")]
-    Disks,
-    #[error("memory")]
-    Memory,
-}
-
-impl From<NewFault> for PlainFault {
-    fn from(fault: NewFault) -> PlainFault {
-        match fault {
-            NewFault::Disks => PlainFault::Disks,
-            NewFault::Memory => PlainFault::Memory,
-        }
-    }
-}
-
-impl From<AllocError> for PlainFault {
-    fn from(_: AllocError) -> PlainFault {
-        PlainFault::Memory
-    }
-}
-
 /// How many of the edits changed the host's records, from a configuration that holds disks of these
 /// sizes alone. An edit that the configuration refuses changes nothing.
 pub fn generation(
@@ -43,7 +18,7 @@ pub fn generation(
     units: &[u64],
     edits: &[Edit],
     host: &[u8],
-) -> Result<u64, PlainFault> {
+) -> Result<u64, NewFault> {
     let mut generation: u64 = 0;
     let mut before = records_after(alloc, units, &[], host)?;
     for len in 1..=edits.len() {
@@ -61,16 +36,21 @@ fn records_after(
     units: &[u64],
     edits: &[Edit],
     host: &[u8],
-) -> Result<Vec<u8>, PlainFault> {
+) -> Result<Vec<u8>, NewFault> {
     let config = config_after(alloc, units, edits)?;
-    records(alloc, &config, host)
+    match records(alloc, &config, host) {
+        Ok(records) => Ok(records),
+        Err(AllocError) => Err(NewFault::Memory),
+    }
 }
 
-/// The configuration that these edits make of one that holds disks of these sizes alone.
-pub fn config_after(alloc: Global, units: &[u64], edits: &[Edit]) -> Result<Config, PlainFault> {
+// The configuration that these edits make of one that holds disks of these sizes alone.
+fn config_after(alloc: Global, units: &[u64], edits: &[Edit]) -> Result<Config, NewFault> {
     let mut config = Config::new(alloc, units)?;
-    apply_all(&mut config, edits)?;
-    Ok(config)
+    match apply_all(&mut config, edits) {
+        Ok(()) => Ok(config),
+        Err(AllocError) => Err(NewFault::Memory),
+    }
 }
 
 // Makes those of the edits that the configuration accepts.
@@ -86,7 +66,7 @@ fn apply_all(config: &mut Config, edits: &[Edit]) -> Result<(), AllocError> {
 /// The bytes of the records that a configuration shows to a host: one for each link of a subsystem
 /// that is open or allows the host, of which the least that is left comes next, and then one for each
 /// referral, likewise.
-pub fn records(alloc: Global, config: &Config, host: &[u8]) -> Result<Vec<u8>, PlainFault> {
+pub fn records(alloc: Global, config: &Config, host: &[u8]) -> Result<Vec<u8>, AllocError> {
     let mut bytes = Vec::new(alloc);
     push_links(alloc, &mut bytes, config, host)?;
     push_referrals(alloc, &mut bytes, config)?;
