@@ -3,4 +3,5 @@ pub mod Deciding
 pub mod Executions
 pub mod Pieces
 pub mod Reading
+pub mod Sending
 pub mod Within

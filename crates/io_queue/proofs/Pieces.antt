@@ -1,8 +1,7 @@
 -- The pieces of what a Read returns: each has the bytes of its units, and they are appended one after another.
-use Rattle.std.proofs.Common.{◌≡◌, ◌≢◌, ◌≤◌, ℕ, zero, suc, ◌+◌, ◌-◌, ◌*◌, ◌/◌, ◌%◌, ◌==◌, min, Bool, List, [], ◌∷◌, ◌++◌, length, replicate, take, drop, refl, sym, ap, ◌∙◌, append_assoc, append-nil, arith}
-use Rattle.std.specs.List.{All, AllByRecursion, flat_map, slice_range}
+use Rattle.std.proofs.Common.{◌≡◌, ◌≤◌, ℕ, zero, suc, ◌+◌, ◌-◌, ◌*◌, ◌/◌, ◌%◌, List, [], ◌∷◌, ◌++◌, length, replicate, take, drop, refl, sym, ap, ◌∙◌, arith}
+use Rattle.std.specs.List.{All, AllByRecursion, slice_range}
 use Rattle.std.proofs.lemmas.List.{drop-drop, drop_at, length-append, length-drop, length-replicate, length-take-le, take_at}
-use Rattle.std.proofs.lemmas.List.Concat.{flat_map-cons}
 use Rattle.std.proofs.lemmas.List.Elements.{All-drop, All-take, recursion_from_All}
 use Rattle.std.proofs.Math.Seq.{take-add}
 use borrow.Rule.Slice.PartMut.{put_mid}
@@ -10,8 +9,7 @@ use Rattle.block_store.specs.Range.{bytes_of, units_at}
 use Rattle.block_store.specs.Unit.{IsUnit}
 use Rattle.block_store.proofs.Cuts.{length-bytes_of}
 use Rattle.data_transfer.specs.declared.piece.Piece.{Piece}
-use Rattle.data_transfer.specs.Pieces.{piece_count, pieces, pieces_from}
-use Rattle.data_transfer.proofs.Splits.{pieces_from-next, pieces_from-zero}
+use Rattle.data_transfer.specs.Pieces.{pieces}
 use Rattle.block_store.specs.Stored.{Stored}
 use Rattle.nvt_fields.proofs.Windows.{put_at_end}
 use Rattle.nvt_fields.specs.declared.pdu_type.PduType.TheVariants as types
@@ -20,7 +18,8 @@ use Rattle.pdu_codec.specs.CommonHeader.{common_header}
 use Rattle.io_queue.specs.declared.operation.Extent.{Extent}
 use Rattle.io_queue.specs.declared.reply.DataFormat.{DataFormat}
 use Rattle.io_queue.specs.Act.{extent_bytes}
-use Rattle.io_queue.specs.Reply.{part_of, piece_pdu}
+use Rattle.io_queue.specs.Reply.{part_of}
+use Rattle.io_queue.proofs.Sending.{Sending, begins_sending, next_is}
 
 -- ---- the bytes of a piece
 
@@ -91,60 +90,13 @@ extent_len contents first count all within =
 
 -- ---- one piece after another
 
--- the room for so many bytes in pieces
-abbrev pub room_of : ℕ → ℕ
-room_of left = 128 * piece_count left + left
-
--- These pieces of an extent of so many units are still to be appended, where the output was this and had so much spare
--- room; `bytes` are the bytes of the extent.
-pub record Going (format : DataFormat) (bytes : List ℕ) (units : ℕ) (old new : List ℕ) (old_spare new_spare : ℕ) (rest : List Piece) : Type 0 where
-  pub offset : ℕ
-  pub left : ℕ
-  pub is : rest ≡ pieces_from offset left
-  pub whole : offset + left ≡ units * 512
-  pub aligned : 1 ≤ left → offset % 32768 ≡ 0
-  pub sends : new ++ flat_map (piece_pdu format bytes) rest ≡ old ++ flat_map (piece_pdu format bytes) (pieces (units * 512))
-  pub done : List ℕ
-  pub behind : new ≡ old ++ done
-  pub room : room_of left ≤ new_spare
-  pub spare : old_spare + room_of left ≤ new_spare + room_of (units * 512)
+-- these pieces of an extent of so many units are still to be appended
+abbrev pub Going : DataFormat → List ℕ → ℕ → List ℕ → List ℕ → ℕ → ℕ → List Piece → Type 0
+Going format bytes units old new old_spare new_spare rest = Sending format bytes (units * 512) old new old_spare new_spare rest
 
 pub begins : (format : DataFormat) (bytes : List ℕ) (units : ℕ) (output : List ℕ) (spare : ℕ) → units ≤ 256 → 512 + 512 * units ≤ spare
     → Going format bytes units output output spare spare (pieces (units * 512))
-begins format bytes units output spare few room = record {
-  offset = 0;
-  left = units * 512;
-  is = refl;
-  whole = omega arith;
-  aligned = λ some. refl;
-  sends = refl;
-  done = [];
-  behind = sym (append-nil output);
-  room = omega (arith, few, room);
-  spare = omega arith;
-}
-
--- a piece that comes next
-pub record IsNext (offset left : ℕ) (piece : Piece) (rest : List Piece) : Type 0 where
-  pub some : 1 ≤ left
-  pub at : piece.offset ≡ offset
-  pub long : piece.len ≡ min left 32768
-  pub is : rest ≡ pieces_from (offset + min left 32768) (left - min left 32768)
-
-head_is : (a b : Piece) (k l : List Piece) → a ∷ k ≡ b ∷ l → (a ≡ b) × (k ≡ l)
-head_is a b k l h = (cc, cc)
-
-pub next_is : (offset left : ℕ) (piece : Piece) (rest : List Piece) → piece ∷ rest ≡ pieces_from offset left → IsNext offset left piece rest
-next_is offset zero piece rest is = let clash = is ∙ pieces_from-zero offset in cc
-next_is offset (suc n) piece rest is =
-    let left = suc n in
-    let parts = head_is _ _ _ _ (is ∙ pieces_from-next offset left (omega arith)) in
-    record {
-      some = omega arith;
-      at = ap (λ (p : Piece). p.offset) parts.0;
-      long = ap (λ (p : Piece). p.len) parts.0;
-      is = parts.1;
-    }
+begins format bytes units output spare few room = begins_sending format bytes (units * 512) output spare (omega (arith, few, room))
 
 -- it has a whole number of the units of the extent, and there is room for it
 pub record IsPart (units : ℕ) (piece : Piece) (spare : ℕ) : Type 0 where
@@ -173,36 +125,7 @@ part_bytes e disk piece spare all h =
     ∙ ap (λ (k : ℕ). slice_range (extent_bytes e disk) k (k + piece.len / 512 * 512)) (sym h.begins)
     ∙ ap (λ (n : ℕ). slice_range (extent_bytes e disk) piece.offset (piece.offset + n)) (sym h.long)
 
--- .. and once it is appended, the others are to be
-pub goes_on : (format : DataFormat) (bytes : List ℕ) (units : ℕ) (old new after : List ℕ) (old_spare new_spare after_spare : ℕ) (piece : Piece) (rest : List Piece)
-    → Going format bytes units old new old_spare new_spare (piece ∷ rest) → after ≡ new ++ piece_pdu format bytes piece
-    → new_spare ≤ after_spare + 128 + piece.len → Going format bytes units old after old_spare after_spare rest
-goes_on format bytes units old new after old_spare new_spare after_spare piece rest h sends spare =
-    let next = next_is h.offset h.left piece rest h.is in
-    let now = min h.left 32768 in
-    let pdu = piece_pdu format bytes piece in
-    let others = flat_map (piece_pdu format bytes) rest in
-    let aligned : h.offset % 32768 ≡ 0 = h.aligned next.some in
-    let counted : piece_count h.left ≡ piece_count (h.left - now) + 1 = omega (arith, next.some) in
-    record {
-      offset = h.offset + now;
-      left = h.left - now;
-      is = next.is;
-      whole = omega (arith, h.whole);
-      aligned = λ some. omega (arith, some, aligned);
-      sends = ap (λ (l : List ℕ). l ++ others) sends ∙ append_assoc new pdu others
-          ∙ ap (λ (l : List ℕ). new ++ l) (sym (flat_map-cons (piece_pdu format bytes) piece rest)) ∙ h.sends;
-      done = h.done ++ pdu;
-      behind = sends ∙ ap (λ (l : List ℕ). l ++ pdu) h.behind ∙ append_assoc old h.done pdu;
-      room = omega (arith, next.long, spare, h.room, counted);
-      spare = omega (arith, next.long, spare, h.spare, counted);
-    }
-
 -- ---- the end
-
-pub all_sent : (format : DataFormat) (bytes : List ℕ) (units : ℕ) (old new : List ℕ) (old_spare new_spare : ℕ)
-    → Going format bytes units old new old_spare new_spare [] → new ≡ old ++ flat_map (piece_pdu format bytes) (pieces (units * 512))
-all_sent format bytes units old new old_spare new_spare h = sym (append-nil new) ∙ h.sends
 
 pub spare_left : (format : DataFormat) (bytes : List ℕ) (units : ℕ) (old new : List ℕ) (old_spare new_spare : ℕ) (rest : List Piece) → units ≤ 256
     → Going format bytes units old new old_spare new_spare rest → old_spare ≤ new_spare + 512 + 512 * units

@@ -1,9 +1,9 @@
 -- A reply's data, in the pieces in which they go to the host (TCP Transport 1.0, section 3.3).
-use Rattle.std.specs.Prelude.{◌≡◌, ℕ, ◌+◌, ◌/◌, List, [], ◌++◌, length, slice_range, Option, Some, None, if◌then◌else◌}
+use Rattle.std.specs.Prelude.{◌≡◌, ℕ, ◌+◌, ◌*◌, ◌/◌, List, [], ◌++◌, length, slice_range, Option, Some, None, if◌then◌else◌}
 use Rattle.std.specs.List.{flat_map}
 use Rattle.block_store.specs.Stored.{Stored}
 use Rattle.data_transfer.specs.declared.piece.Piece.{Piece}
-use Rattle.data_transfer.specs.Pieces.{pieces}
+use Rattle.data_transfer.specs.Pieces.{piece_count, pieces}
 use Rattle.nvt_fields.specs.declared.status.Status.{Status}
 use Rattle.pdu_codec.specs.C2hData.{c2h_data}
 use Rattle.io_queue.specs.declared.operation.Extent.{Extent}
@@ -27,6 +27,10 @@ data_pdus format bytes = flat_map (piece_pdu format bytes) (pieces (length bytes
 abbrev pub returned_pdus : DataFormat → Option (List ℕ) → List ℕ
 returned_pdus format None = []
 returned_pdus format (Some bytes) = data_pdus format bytes
+
+-- the room for so many bytes of data in pieces, with a head of at most 128 bytes before each
+abbrev pub data_room : ℕ → ℕ
+data_room len = 128 * piece_count len + len
 
 -- the data that a Read returns: none where the disk failed
 abbrev pub read_by : DiskOutcome → List ℕ → Option (List ℕ)

@@ -2,4 +2,5 @@ pub mod Begins
 pub mod Carrying
 pub mod Deciding
 pub mod Performing
+pub mod Pieces
 pub mod Within

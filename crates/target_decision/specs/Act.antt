@@ -5,6 +5,7 @@ use Rattle.io_queue.specs.declared.operation.Operation.{Operation}
 use Rattle.io_queue.specs.Act.{DiskOutcome}
 use Rattle.io_queue.specs.Execution.{DisksDid, contents_at, sizes as sizes_of, write_on, written}
 use Rattle.io_queue.specs.Operation.{room_for as room_for_operation}
+use Rattle.io_queue.specs.Reply.{data_room}
 use Rattle.pdu_cut.specs.Front.{Front}
 use Rattle.target_decision.specs.declared.decision.Decision.{Decision}
 use Rattle.target_decision.specs.Data.{data_len}
@@ -30,7 +31,6 @@ room_in (Some op) = room_for_operation op
 abbrev pub room_of : Decision → ℕ
 room_of d = room_in (operation_of d)
 
--- .. and in all, in this session: a head of at most 128 bytes before data, a response of 24, what a termination returns, and
--- data
+-- .. and in all, in this session: an ICResp or a response, what a termination returns, and data in pieces
 abbrev pub room_for : World → Session → Decision → Front → ℕ
-room_for w session d front = 152 + length (head_of front) + data_len w session d + room_of d
+room_for w session d front = 152 + length (head_of front) + data_room (data_len w session d) + room_of d

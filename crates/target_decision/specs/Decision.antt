@@ -13,7 +13,7 @@ use Rattle.io_queue.specs.Act.{DiskOutcome}
 use Rattle.io_queue.specs.Execution.{Act, act_of, returned, status_by}
 use Rattle.io_queue.specs.Operation.{IsWithin, disk_of}
 use Rattle.io_queue.specs.declared.reply.DataFormat.{DataFormat}
-use Rattle.io_queue.specs.Reply.{pdu_with, returned_pdus}
+use Rattle.io_queue.specs.Reply.{returned_pdus}
 use Rattle.nvt_fields.specs.FatalErrorStatus.{fatal_code_of}
 use Rattle.nvt_fields.specs.declared.status.Status.{Status}
 use Rattle.nvt_fields.specs.declared.pdu_type.PduType.{PduType}
@@ -160,11 +160,6 @@ response_of r status result = capsule_resp (record { result = result; sqhd = r.s
 abbrev pub format_of : Reply → ℕ → DataFormat
 format_of r alignment = record { cid = r.cid; hpda = alignment }
 
--- what is returned of a controller goes in one C2HData
-abbrev pub whole_pdu : DataFormat → Option (List ℕ) → List ℕ
-whole_pdu format None = []
-whole_pdu format (Some bytes) = pdu_with format (record { offset = 0; len = length bytes; last = true }) bytes
-
 -- the data, where there are any, and then the response
 abbrev pub reply_wire : Reply → Said → List ℕ
 reply_wire r said = said.data_pdus ++ response_of r said.status said.result
@@ -191,7 +186,7 @@ bytes_at (faulty fault head) = []
 -- what an answer says, with the data that it returns of its controller, where it returns any
 abbrev pub said_by : DataFormat → Answer → Option (List ℕ) → List ℕ → (ℕ → List (List ℕ)) → DiskOutcome → Said
 said_by format (answer.Given g) payload bytes contents m =
-    record { status = g.status; result = g.result; data_pdus = whole_pdu format payload }
+    record { status = g.status; result = g.result; data_pdus = returned_pdus format payload }
 said_by format (answer.Performed op) payload bytes contents m = record {
   status = status_by op bytes (contents (disk_of op)) m;
   result = 0;

@@ -20,7 +20,7 @@ use crate::data::{Data, len_in};
 use crate::decision::{Answer, Decision, Reply};
 use crate::session::{ConnectionState, Session};
 use crate::transfer::WaitingCommand;
-use crate::wire::{self, WIRE_MAX, head_of};
+use crate::wire::{self, WIRE_MAX, data_room, head_of};
 use crate::world::World;
 use block_store::{Disk, Store};
 use bytes::BytesMut;
@@ -55,7 +55,8 @@ pub fn prepare(
     ensures err { OnErr result (transfers.new ≡ transfers.old) }
 {
     let data = Data::of(world, session, decision);
-    output.reserve(WIRE_MAX + head_of(front).len() + len_in(&data) + room_of(decision))?;
+    let returned = data_room(len_in(&data));
+    output.reserve(WIRE_MAX + head_of(front).len() + returned + room_of(decision))?;
     carry(transfers, connection, decision, front)
 }
 

@@ -1,6 +1,6 @@
 //! The data of a reply, and where their bytes come from.
-ghost use Rattle.std.specs.Prelude.{◌≡◌, ◌<◌, ◌≤◌, ◌^◌, length};
-ghost use Rattle.admin_queue.specs.Payload.{payload_len};
+ghost use Rattle.std.specs.Prelude.{◌≡◌, ◌<◌, ◌+◌, ◌^◌, length, slice_range};
+ghost use Rattle.admin_queue.specs.Payload.{IsPart, payload_len};
 ghost use Rattle.target_decision.specs.Data.{bytes_in, bytes_of, data_len, len_in};
 ghost use Rattle.target_decision.specs.Decision.{data_of, payload_of};
 ghost use Rattle.target_decision.specs.World.{world_in};
@@ -45,14 +45,15 @@ impl<'a> Data<'a> {
         self.payload.len()
     }
 
-    /// Writes the bytes into room for as many.
-    pub(crate) fn write(&self, out: &mut [u8])
-        requires { length out.old ≡ payload_len self.now.payload }
-        ensures { out.new ≡ bytes_of self.now }
+    /// Writes the bytes from an offset on into room for a part of them.
+    pub(crate) fn write_part(&self, offset: u32, out: &mut [u8])
+        requires { IsPart self.now.payload offset (length out.old) }
+        ensures part { out.new ≡ slice_range (bytes_of self.now) offset (offset + length out.old) }
+        ensures len { length (bytes_of self.now) ≡ payload_len self.now.payload }
     {
         let world = self.world;
         self.payload
-            .write(world.pages, world.config, &self.controller, out);
+            .write_part(offset, world.pages, world.config, &self.controller, out);
     }
 }
 

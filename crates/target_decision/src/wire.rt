@@ -1,12 +1,13 @@
 //! The PDUs of a decision, written into room that is there.
-ghost use Rattle.std.specs.Prelude.{◌≡◌, ◌+◌, ◌≤◌, ◌++◌, Some, length};
-ghost use Rattle.admin_queue.specs.Payload.{payload_len};
+ghost use Rattle.std.specs.Prelude.{◌≡◌, ◌+◌, ◌≤◌, ◌<◌, ◌^◌, ◌++◌, length};
+ghost use Rattle.admin_queue.specs.Payload.{IsPart, payload_len};
 ghost use Rattle.target_decision.specs.Data.{bytes_in, bytes_of, len_in};
 ghost use Rattle.io_queue.specs.Execution.{sizes};
+ghost use Rattle.io_queue.specs.Reply.{data_pdus, data_room, piece_pdu, returned_pdus};
 ghost use Rattle.pdu_cut.specs.Cut.{front_shown};
 ghost use Rattle.target_decision.specs.Act.{Does, room_in, room_of};
 ghost use Rattle.target_decision.specs.Carry.{brought_in};
-ghost use Rattle.target_decision.specs.Decision.{PerformsWithin, WithinIn, bytes_at, format_of, head_of, operation_in, response_of, whole_pdu};
+ghost use Rattle.target_decision.specs.Decision.{PerformsWithin, WithinIn, bytes_at, format_of, head_of, operation_in, response_of};
 ghost use Rattle.nvt_fields.specs.FatalErrorStatus.{fatal_code_of};
 ghost use Rattle.pdu_codec.specs.Initialize.{ic_resp};
 ghost use Rattle.pdu_codec.specs.R2t.{r2t};
@@ -18,14 +19,14 @@ use crate::data::Data;
 use crate::decision::{Answer, DataRequest, Decision, Reply, Termination};
 use block_store::{Disk, Store};
 use bytes::BytesMut;
-use data_transfer::MAX_H2C_DATA;
+use data_transfer::{MAX_H2C_DATA, PIECE_LEN, Piece, pieces};
 use io_queue::{DataFormat, perform};
 use nvt_fields::Status;
 use pdu_codec::{C2hHead, CapsuleResp, IcResp, R2t, TermReq};
 use pdu_cut::Cut;
 
-/// The most bytes that a decision sends beside its data and the header in error: what stands before the
-/// data of a C2HData, and a response.
+/// The most bytes that a decision sends beside its data and the header in error: an ICResp and a
+/// response are within it.
 pub(crate) const WIRE_MAX: usize = 128 + 24;
 
 /// Performs the operation of a decision on this front, with what was carried for it, and appends its PDUs,
@@ -40,7 +41,7 @@ pub(crate) fn write<D: Disk>(
     returned: &Option<Data<'_>>,
 )
     requires room { let head = head_of (front_shown front.now) in
-        WIRE_MAX + length head + len_in returned.now + room_of decision.now ≤ output.old.spare }
+        WIRE_MAX + length head + data_room (len_in returned.now) + room_of decision.now ≤ output.old.spare }
     requires head { length (head_of (front_shown front.now)) ≤ 128 }
     requires within { PerformsWithin (sizes stores.old) decision.now (brought_in carried.now (front_shown front.now)) }
     ensures { let brought = brought_in carried.now (front_shown front.now) in
@@ -70,7 +71,7 @@ fn write_reply<D: Disk>(
     carried: &Carried,
     returned: &Option<Data<'_>>,
 )
-    requires room { 152 + len_in returned.now + room_in (operation_in reply.now.answer) ≤ output.old.spare }
+    requires room { 152 + data_room (len_in returned.now) + room_in (operation_in reply.now.answer) ≤ output.old.spare }
     requires within { let brought = brought_in carried.now (front_shown front.now) in
         WithinIn (sizes stores.old) (operation_in reply.now.answer) brought.bytes }
     ensures { let brought = brought_in carried.now (front_shown front.now) in
@@ -120,35 +121,58 @@ fn write_initialized(output: &mut BytesMut)
     response.write(output).unwrap();
 }
 
-// The data of a reply, if there are any, written straight into their place in the output.
+// The data of a reply, if there are any, in pieces.
 fn write_data(output: &mut BytesMut, format: DataFormat, returned: &Option<Data<'_>>)
-    requires room { 128 + len_in returned.now ≤ output.old.spare }
+    requires room { data_room (len_in returned.now) ≤ output.old.spare }
     requires alignment { format.hpda ≤ 31 }
-    ensures items { output.new.items ≡ output.old.items ++ whole_pdu format (bytes_in returned.now) }
-    ensures spare { output.old.spare ≤ output.new.spare + 128 + len_in returned.now }
+    ensures items { output.new.items ≡ output.old.items ++ returned_pdus format (bytes_in returned.now) }
+    ensures spare { output.old.spare ≤ output.new.spare + data_room (len_in returned.now) }
 {
     if let Some(payload) = returned {
-        write_payload(output, format, payload);
+        write_pieces(output, format, payload);
     }
 }
 
-fn write_payload(output: &mut BytesMut, format: DataFormat, payload: &Data<'_>)
-    requires room { 128 + payload_len payload.now.payload ≤ output.old.spare }
+fn write_pieces(output: &mut BytesMut, format: DataFormat, payload: &Data<'_>)
+    requires room { data_room (payload_len payload.now.payload) ≤ output.old.spare }
     requires alignment { format.hpda ≤ 31 }
-    ensures items { output.new.items ≡ output.old.items ++ whole_pdu format (Some (bytes_of payload.now)) }
-    ensures spare { output.old.spare ≤ output.new.spare + 128 + payload_len payload.now.payload }
+    ensures items { output.new.items ≡ output.old.items ++ data_pdus format (bytes_of payload.now) }
+    ensures spare { output.old.spare ≤ output.new.spare + data_room (payload_len payload.now.payload) }
 {
-    let len = payload.len();
+    for piece in pieces(payload.len() as u32) {
+        write_piece(output, format, payload, &piece);
+    }
+}
+
+// A piece, written straight into its place in the output.
+fn write_piece(output: &mut BytesMut, format: DataFormat, payload: &Data<'_>, piece: &Piece)
+    requires part { IsPart payload.now.payload piece.now.offset piece.now.len }
+    requires room { 128 + piece.now.len ≤ output.old.spare }
+    requires bound { piece.now.len ≤ 32768 }
+    requires alignment { format.hpda ≤ 31 }
+    ensures items { output.new.items ≡ output.old.items ++ piece_pdu format (bytes_of payload.now) piece.now }
+    ensures spare { output.old.spare ≤ output.new.spare + 128 + piece.now.len }
+    ensures len { length (bytes_of payload.now) ≡ payload_len payload.now.payload }
+{
     let head = C2hHead {
         cid: format.cid,
-        offset: 0,
-        last: true,
+        offset: piece.offset,
+        last: piece.last,
         hpda: format.hpda,
-        len: len as u32,
+        len: piece.len,
     };
     head.write(output).unwrap();
-    let start = output.len() - len;
-    payload.write(&mut output.as_mut_slice()[start..]);
+    let start = output.len() - piece.len as usize;
+    payload.write_part(piece.offset, &mut output.as_mut_slice()[start..]);
+}
+
+/// The room that so many bytes of data take in pieces, with a head of at most 128 bytes before each.
+pub(crate) fn data_room(len: usize) -> usize
+    requires { len < 2 ^ 18 }
+    ensures { result ≡ data_room len }
+{
+    let piece = PIECE_LEN as usize;
+    128 * ((len + piece - 1) / piece) + len
 }
 
 fn write_response(output: &mut BytesMut, reply: &Reply, status: Status, value: u64)

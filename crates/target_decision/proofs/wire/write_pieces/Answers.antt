@@ -1,0 +1,21 @@
+use Rattle.std.proofs.Common.{◌≡◌, ◌∙◌, ◌∷◌, inl, inr, refl, arith}
+use Rattle.io_queue.proofs.Sending.{begins_sending, goes_on, room_left}
+use Rattle.target_decision.specs.Data.{bytes_of}
+use Rattle.target_decision.proofs.Pieces.{given_done, is_long, next_part}
+use Rattle.target_decision.proofs.wire.write_pieces.Goals as goal
+
+pub write_piece-requires-clause-part : goal.write_piece-requires-clause-part
+write_piece-requires-clause-part c = (next_part _ _ _ _ _ _ _ _ _ (rw c.in-Some.ensures.steps at c.loop-piece.invariant.sending)).part
+
+pub write_piece-requires-clause-room : goal.write_piece-requires-clause-room
+write_piece-requires-clause-room c = (next_part _ _ _ _ _ _ _ _ _ (rw c.in-Some.ensures.steps at c.loop-piece.invariant.sending)).room
+
+pub write_piece-requires-clause-bound : goal.write_piece-requires-clause-bound
+write_piece-requires-clause-bound c = (next_part _ _ _ _ _ _ _ _ _ (rw c.in-Some.ensures.steps at c.loop-piece.invariant.sending)).bound
+
+pub loop-piece-preserved : goal.loop-piece-preserved
+loop-piece-preserved c =
+    record {
+      sending = goes_on _ _ _ _ _ _ _ _ _ _ _ (rw c.in-Some.ensures.steps at c.loop-piece.invariant.sending) c.write_piece.ensures.items c.write_piece.ensures.spare;
+      long = inr c.write_piece.ensures.len;
+    }
