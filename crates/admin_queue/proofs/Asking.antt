@@ -3,24 +3,30 @@ use Rattle.std.proofs.Common.{◌≡◌, ◌==◌, ◌*◌, ◌||◌, ℕ, Bool,
 use Rattle.std.proofs.lemmas.Bool.{eqb-true}
 use Rattle.std.specs.Prelude.{if◌then◌else◌, nat_lt, length}
 use Rattle.config_rules.specs.Configuration.{Configuration}
+use Rattle.event_queue.specs.declared.completion.Completion.{Completion}
+use Rattle.event_queue.specs.declared.events.LimitExceeded.{LimitExceeded}
 use Rattle.nvt_fields.specs.Window.{window}
 use Rattle.nvt_fields.specs.declared.status.Status.{Status}
 use Rattle.nvt_fields.specs.Status.{data_sgl_length_invalid, sgl_type_invalid}
 use Rattle.pdu_codec.specs.declared.command.GetLogPage.{GetLogPage}
 use Rattle.pdu_codec.specs.declared.command.Identify.{Identify}
 use Rattle.pdu_codec.specs.Sqe.{feature_of, get_log_page_of, identify_of, opcode_of, sgl1_of}
-use Rattle.admin_queue.specs.declared.outcome.Effect.TheVariants.{Nothing}
-use Rattle.admin_queue.specs.declared.payload.LogPage.{LogPage}
+use Rattle.admin_queue.specs.declared.outcome.Accepted.TheVariants.{Answered}
+use Rattle.admin_queue.specs.declared.outcome.Effect.{Effect}
+use Rattle.admin_queue.specs.declared.outcome.Effect.TheVariants as effect
+use Rattle.admin_queue.specs.declared.log.LogPage.{LogPage}
 use Rattle.admin_queue.specs.declared.payload.Payload.{Payload}
 use Rattle.admin_queue.specs.declared.payload.Payload.TheVariants as payload
 use Rattle.admin_queue.specs.declared.payload.Structure.{Structure}
 use Rattle.admin_queue.specs.Commands.{admin}
 use Rattle.admin_queue.specs.Controller.{AdminController}
+use Rattle.admin_queue.specs.EventRequest.{request_by}
 use Rattle.admin_queue.specs.Features.{get_features, queues_on, set_features}
 use Rattle.admin_queue.specs.Identify.{given_where, identified, identify, structure_asked, structure_in, structure_of}
 use Rattle.admin_queue.specs.Laws.{AnsweredByOwnAlone, AsMuchAsAsked, ToldAlike}
-use Rattle.admin_queue.specs.LogPage.{get_log_page, page_of_lid, read_known, read_page}
-use Rattle.admin_queue.specs.Outcome.{Outcome, is_transport, returned}
+use Rattle.admin_queue.specs.Log.{page_of_lid}
+use Rattle.admin_queue.specs.LogPage.{get_log_page, read_known, read_page}
+use Rattle.admin_queue.specs.Outcome.{IfAnswered, Outcome, is_transport, returned}
 use Rattle.admin_queue.specs.Pages.{Pages, log_page_bytes}
 use Rattle.admin_queue.specs.Payload.{namespace_in, payload_bytes, payload_len, structure_bytes}
 
@@ -45,7 +51,7 @@ identify_alike c p q d e entry h =
 outcome_alike : (c : AdminController) (p q : Pages) (d e : Configuration) (entry : List ℕ) → ToldAlike c p q d e
     → admin p d c entry ≡ admin q e c entry
 outcome_alike c p q d e entry h =
-    rw (read_alike c p q d e (get_log_page_of entry) entry (page_of_lid c.subsystem (get_log_page_of entry).lid) h, identify_alike c p q d e entry h) refl
+    rw (read_alike c p q d e (get_log_page_of entry) entry (page_of_lid c.subsystem (get_log_page_of entry).lid (get_log_page_of entry).lsp) h, identify_alike c p q d e entry h) refl
 
 payload_alike : (c : AdminController) (p q : Pages) (d e : Configuration) (r : Payload) → ToldAlike c p q d e
     → payload_bytes r p d c ≡ payload_bytes r q e c
@@ -59,28 +65,28 @@ answered_alike = record { outcome = outcome_alike; payload = payload_alike }
 -- ---- the length
 
 abbrev Asked : List ℕ → Outcome → Type 0
-Asked entry o = IfOk o (λ s. IfSome s.payload (λ r. payload_len r ≡ (sgl1_of entry).len))
+Asked entry o = IfOk o (IfAnswered (λ s. IfSome s.payload (λ r. payload_len r ≡ (sgl1_of entry).len)))
 
 either_asked : (entry : List ℕ) (test : Bool) (o r : Outcome) → Asked entry o → Asked entry r → Asked entry (if test then o else r)
 either_asked entry true o r h k = h
 either_asked entry false o r h k = k
 
-returned_by : (entry : List ℕ) (r : Payload) (other same : Bool) → ((sgl1_of entry).len == payload_len r) ≡ same
+returned_by : (entry : List ℕ) (r : Payload) (e : Effect) (other same : Bool) → ((sgl1_of entry).len == payload_len r) ≡ same
     → Asked entry (if other then Err sgl_type_invalid else if not same then Err data_sgl_length_invalid else
-    Ok (record { result = 0; payload = Some r; effect = Nothing }))
-returned_by entry r true same is = tt
-returned_by entry r false true is = sym (eqb-true (sgl1_of entry).len (payload_len r) is)
-returned_by entry r false false is = tt
+    Ok (Answered (record { result = 0; payload = Some r; effect = e })))
+returned_by entry r e true same is = tt
+returned_by entry r e false true is = sym (eqb-true (sgl1_of entry).len (payload_len r) is)
+returned_by entry r e false false is = tt
 
-returned_asked : (entry : List ℕ) (r : Payload) → Asked entry (returned r entry)
-returned_asked entry r = returned_by entry r (not (is_transport (sgl1_of entry).sgl_type)) ((sgl1_of entry).len == payload_len r) refl
+returned_asked : (entry : List ℕ) (r : Payload) (e : Effect) → Asked entry (returned r e entry)
+returned_asked entry r e = returned_by entry r e (not (is_transport (sgl1_of entry).sgl_type)) ((sgl1_of entry).len == payload_len r) refl
 
 read_asked : (request : GetLogPage) (entry : List ℕ) (p : Pages) (c : AdminController) (page : Option LogPage) → Asked entry (read_known page p c request entry)
 read_asked request entry p c None = tt
 read_asked request entry p c (Some page) = search (either_asked, returned_asked)
 
 identified_asked : (entry : List ℕ) (s : Result Structure Status) → Asked entry (identified s entry)
-identified_asked entry (Ok s) = returned_asked entry (payload.Identify s)
+identified_asked entry (Ok s) = returned_asked entry (payload.Identify s) effect.Nothing
 identified_asked entry (Err status) = tt
 
 queues_asked : (entry : List ℕ) (subsystem : Option (List ℕ)) → Asked entry (queues_on subsystem)
@@ -93,8 +99,13 @@ set_asked entry c = search (either_asked, queues_asked) depth 10
 get_asked : (entry : List ℕ) (c : AdminController) → Asked entry (get_features c entry)
 get_asked entry c = search (either_asked, queues_asked) depth 10
 
+request_asked : (entry : List ℕ) (cid : ℕ) (answer : Result (Option Completion) LimitExceeded) → Asked entry (request_by answer cid)
+request_asked entry cid (Ok (Some completion)) = tt
+request_asked entry cid (Ok None) = tt
+request_asked entry cid (Err e) = tt
+
 admin_asked : (p : Pages) (d : Configuration) (c : AdminController) (entry : List ℕ) → Asked entry (admin p d c entry)
-admin_asked p d c entry = search (either_asked, read_asked, identified_asked, set_asked, get_asked) depth 10
+admin_asked p d c entry = search (either_asked, read_asked, identified_asked, set_asked, get_asked, request_asked) depth 12
 
 pub asked : AsMuchAsAsked
 asked = record { len = admin_asked }

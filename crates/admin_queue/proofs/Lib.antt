@@ -2,3 +2,4 @@ pub mod Asking
 pub mod Bounds
 pub mod Parts
 pub mod Serials
+pub mod Waiting

@@ -5,6 +5,7 @@ use Rattle.nvt_fields.specs.Status.{invalid_opcode}
 use Rattle.pdu_codec.specs.Sqe.{opcode_of}
 use Rattle.admin_queue.specs.declared.outcome.Effect.TheVariants as effect
 use Rattle.admin_queue.specs.Controller.{AdminController}
+use Rattle.admin_queue.specs.EventRequest.{event_request}
 use Rattle.admin_queue.specs.Features.{get_features, set_features}
 use Rattle.admin_queue.specs.Identify.{identify}
 use Rattle.admin_queue.specs.LogPage.{get_log_page}
@@ -20,5 +21,6 @@ admin pages config c entry =
     if opcode_of entry == 0x08 then done 1 effect.Nothing else
     if opcode_of entry == 0x09 then set_features c entry else
     if opcode_of entry == 0x0A then get_features c entry else
+    if opcode_of entry == 0x0C then event_request c entry else
     if opcode_of entry == 0x18 then done 0 effect.KeepAlive else
     Err invalid_opcode

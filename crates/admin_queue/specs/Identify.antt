@@ -6,6 +6,7 @@ use Rattle.nvt_fields.specs.declared.status.Status.{Status}
 use Rattle.nvt_fields.specs.Status.{invalid_field, invalid_namespace_or_format}
 use Rattle.pdu_codec.specs.declared.command.Identify.{Identify}
 use Rattle.pdu_codec.specs.Sqe.{identify_of}
+use Rattle.admin_queue.specs.declared.outcome.Effect.TheVariants as effect
 use Rattle.admin_queue.specs.declared.payload.Payload.TheVariants as payload
 use Rattle.admin_queue.specs.declared.payload.Structure.{Structure}
 use Rattle.admin_queue.specs.declared.payload.Structure.TheVariants as structure
@@ -34,7 +35,7 @@ structure_asked config c request =
     if request.cns == 0x01 then Ok structure.Controller else structure_in c.subsystem config request.cns request.nsid
 
 abbrev pub identified : Result Structure Status → List ℕ → Outcome
-identified (Ok s) entry = returned (payload.Identify s) entry
+identified (Ok s) entry = returned (payload.Identify s) effect.Nothing entry
 identified (Err status) entry = Err status
 
 abbrev pub identify : Configuration → AdminController → List ℕ → Outcome

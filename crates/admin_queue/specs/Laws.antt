@@ -1,14 +1,21 @@
 -- Laws of the admin commands, in the words of the subject.
-use Rattle.std.specs.Prelude.{◌≡◌, ◌≤◌, ℕ, List, Some, is_some, IfOk, IfSome, slice_get}
+use Rattle.std.specs.Prelude.{◌≡◌, ◌≤◌, ℕ, List, [], ◌∷◌, ◌++◌, Some, is_some, IfOk, IfSome, slice_get}
 use Rattle.config_rules.specs.Configuration.{Configuration}
 use Rattle.data_transfer.specs.declared.piece.Piece.{Piece}
 use Rattle.data_transfer.specs.Pieces.{pieces}
-use Rattle.pdu_codec.specs.Sqe.{sgl1_of}
-use Rattle.admin_queue.specs.declared.payload.LogPage.{LogPage}
+use Rattle.notices.specs.declared.update.NoticeUpdate.TheVariants as update
+use Rattle.notices.specs.Notices.{NoticeState, updated}
+use Rattle.pdu_codec.specs.Sqe.{cid_of, sgl1_of}
+use Rattle.admin_queue.specs.declared.log.LogPage.{LogPage}
+use Rattle.admin_queue.specs.declared.outcome.Accepted.{Accepted}
+use Rattle.admin_queue.specs.declared.outcome.Accepted.TheVariants.{Answered, Waits}
+use Rattle.admin_queue.specs.declared.outcome.Effect.{Effect}
+use Rattle.admin_queue.specs.declared.outcome.Effect.TheVariants as effect
 use Rattle.admin_queue.specs.declared.payload.Payload.{Payload}
 use Rattle.admin_queue.specs.declared.payload.Structure.{Structure}
 use Rattle.admin_queue.specs.Commands.{admin}
 use Rattle.admin_queue.specs.Controller.{AdminController}
+use Rattle.admin_queue.specs.Outcome.{IfAnswered}
 use Rattle.admin_queue.specs.Pages.{Pages, log_page_bytes}
 use Rattle.admin_queue.specs.Payload.{IsPart, namespace_in, payload_bytes, payload_len, structure_bytes}
 
@@ -29,12 +36,25 @@ pub record AnsweredByOwnAlone : Type 0 where
 -- a command that returns data returns as many bytes as its descriptor asks for
 pub record AsMuchAsAsked : Type 0 where
   pub len : (p : Pages) (d : Configuration) (c : AdminController) (entry : List ℕ)
-      → IfOk (admin p d c entry) (λ s. IfSome s.payload (λ r. payload_len r ≡ (sgl1_of entry).len))
+      → IfOk (admin p d c entry) (IfAnswered (λ s. IfSome s.payload (λ r. payload_len r ≡ (sgl1_of entry).len)))
 
 -- .. and at most 131,072
 pub record AtMostMdts : Type 0 where
   pub len : (p : Pages) (d : Configuration) (c : AdminController) (entry : List ℕ)
-      → IfOk (admin p d c entry) (λ s. IfSome s.payload (λ r. payload_len r ≤ 131072))
+      → IfOk (admin p d c entry) (IfAnswered (λ s. IfSome s.payload (λ r. payload_len r ≤ 131072)))
+
+-- What a command does to what its host is to be told: one that is answered leaves the requests that wait as they are, and one
+-- that waits is the youngest of them. So no request is completed twice.
+abbrev pub waiting_after : Effect → NoticeState → List ℕ
+waiting_after (effect.Notices u) s = (updated s u).events.waiting
+waiting_after _ s = s.events.waiting
+
+abbrev pub LeavesWaiting : NoticeState → ℕ → Accepted → Type 0
+LeavesWaiting s cid (Answered success) = waiting_after success.effect s ≡ s.events.waiting
+LeavesWaiting s cid Waits = (updated s (update.Requested cid)).events.waiting ≡ s.events.waiting ++ cid ∷ []
+
+abbrev pub AnsweredOnce : Type 0
+AnsweredOnce = (p : Pages) (d : Configuration) (c : AdminController) (entry : List ℕ) → IfOk (admin p d c entry) (LeavesWaiting c.notices (cid_of entry))
 
 -- each of the pieces in which data go to the host is a part that is written at once
 abbrev pub PiecesAreParts : Type 0

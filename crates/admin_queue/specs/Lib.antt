@@ -1,8 +1,10 @@
 pub mod Commands
 pub mod Controller
+pub mod EventRequest
 pub mod Features
 pub mod Identify
 pub mod Laws
+pub mod Log
 pub mod LogPage
 pub mod Outcome
 pub mod Pages

@@ -7,7 +7,7 @@ ghost use Rattle.admin_queue.specs.Pages.{pages_in};
 use crate::controller::AdminController;
 use crate::outcome::{Effect, Outcome, done};
 use crate::pages::Pages;
-use crate::{features, identify, log_page};
+use crate::{event_request, features, identify, log_page};
 use nvt_config::Config;
 use nvt_fields::Status;
 use pdu_codec::Sqe;
@@ -21,6 +21,8 @@ const ABORT: u8 = 0x08;
 const SET_FEATURES: u8 = 0x09;
 
 const GET_FEATURES: u8 = 0x0A;
+
+const EVENT_REQUEST: u8 = 0x0C;
 
 const KEEP_ALIVE: u8 = 0x18;
 
@@ -43,6 +45,7 @@ pub fn admin(
         ABORT => done(NOT_ABORTED, Effect::Nothing),
         SET_FEATURES => features::set(controller, sqe),
         GET_FEATURES => features::get(controller, sqe),
+        EVENT_REQUEST => event_request::command(controller, sqe),
         KEEP_ALIVE => done(0, Effect::KeepAlive),
         _ => Err(Status::INVALID_OPCODE),
     }

@@ -1,14 +1,17 @@
 //! Get Features and Set Features (Base 2.0, sections 5.15 and 5.27).
 ghost use Rattle.std.specs.Prelude.{◌≡◌};
 ghost use Rattle.admin_queue.specs.Controller.{controller_in};
-ghost use Rattle.admin_queue.specs.Features.{are_queues, get_features, get_queues, set_features, set_queues};
+ghost use Rattle.admin_queue.specs.Features.{are_queues, configured, get_features, get_queues, set_features, set_queues};
 
 use crate::controller::AdminController;
 use crate::outcome::{Effect, Outcome, done};
+use notices::NoticeUpdate;
 use nvt_fields::Status;
 use pdu_codec::{Feature, Sqe};
 
 const NUMBER_OF_QUEUES: u8 = 0x07;
+
+const EVENT_CONFIGURATION: u8 = 0x0B;
 
 const KEEP_ALIVE_TIMER: u8 = 0x0F;
 
@@ -25,6 +28,7 @@ pub(crate) fn set(controller: &AdminController<'_>, sqe: &Sqe<'_>) -> Outcome
     }
     match feature.fid {
         NUMBER_OF_QUEUES => set_queues(controller, feature.value),
+        EVENT_CONFIGURATION => done(0, configured(feature.value)),
         KEEP_ALIVE_TIMER => done(0, Effect::KeepAliveTimeout(feature.value)),
         _ => Err(Status::INVALID_FIELD),
     }
@@ -35,9 +39,19 @@ pub(crate) fn get(controller: &AdminController<'_>, sqe: &Sqe<'_>) -> Outcome
 {
     match Feature::read(sqe).fid {
         NUMBER_OF_QUEUES => get_queues(controller),
+        EVENT_CONFIGURATION => {
+            let mask = controller.notices.events().mask();
+            done(u64::from(mask), Effect::Nothing)
+        }
         KEEP_ALIVE_TIMER => done(u64::from(controller.kato), Effect::Nothing),
         _ => Err(Status::INVALID_FIELD),
     }
+}
+
+fn configured(mask: u32) -> Effect
+    ensures { result ≡ configured mask }
+{
+    Effect::Notices(NoticeUpdate::Configured { mask })
 }
 
 // Whatever number is asked for, the answer is how many there are.

@@ -4,7 +4,7 @@ ghost use Rattle.admin_queue.specs.Controller.{controller_in};
 ghost use Rattle.admin_queue.specs.Identify.{identify, structure_asked, structure_of};
 
 use crate::controller::AdminController;
-use crate::outcome::{Outcome, returned};
+use crate::outcome::{Effect, Outcome, returned};
 use crate::payload::{Payload, Structure};
 use config_lists::namespace::is_nsid;
 use nvt_config::Config;
@@ -27,7 +27,7 @@ pub(crate) fn command(config: &Config, controller: &AdminController<'_>, sqe: &S
     ensures { result ≡ identify config.now (controller_in controller.now) sqe.now.entry.now }
 {
     let structure = structure_asked(config, controller, &Identify::read(sqe))?;
-    returned(Payload::Identify(structure), sqe)
+    returned(Payload::Identify(structure), Effect::Nothing, sqe)
 }
 
 fn structure_asked(

@@ -1,5 +1,5 @@
 //! Laws of the admin commands. Each is a fact of the definitions; a call does nothing.
-ghost use Rattle.admin_queue.specs.Laws.{AnsweredByOwnAlone, AsMuchAsAsked, AtMostMdts, PiecesAreParts};
+ghost use Rattle.admin_queue.specs.Laws.{AnsweredByOwnAlone, AnsweredOnce, AsMuchAsAsked, AtMostMdts, PiecesAreParts};
 
 /// What a command comes to, and the data that it returns, depend on the pages of its controller's
 /// host, on the namespaces of its controller's subsystem, and on nothing else of the target.
@@ -18,6 +18,13 @@ pub fn as_much_as_asked()
 #[tactic(auto, using(crate::proofs::Bounds::at_most_mdts))]
 pub fn at_most_mdts()
     ensures { AtMostMdts }
+{}
+
+/// A command that is answered leaves the event requests that wait as they are; a request that waits is
+/// the youngest of them.
+#[tactic(auto, using(crate::proofs::Waiting::answered_once))]
+pub fn answered_once()
+    ensures { AnsweredOnce }
 {}
 
 /// Each of the pieces in which data go to the host is a part of them that is written at once.

@@ -5,9 +5,11 @@
 
 pub mod commands;
 pub mod controller;
+mod event_request;
 mod features;
 mod identify;
 pub mod laws;
+pub mod log;
 mod log_page;
 pub mod outcome;
 pub mod pages;
@@ -15,6 +17,7 @@ pub mod payload;
 
 pub use commands::admin;
 pub use controller::AdminController;
-pub use outcome::{Effect, Outcome, Success};
+pub use log::LogPage;
+pub use outcome::{Accepted, Effect, Outcome, Success};
 pub use pages::Pages;
-pub use payload::{LogPage, LogPagePart, Payload, Structure};
+pub use payload::{LogPagePart, Payload, Structure};

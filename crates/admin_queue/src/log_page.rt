@@ -1,17 +1,17 @@
 //! Get Log Page (Base 2.0, section 5.16).
-ghost use Rattle.std.specs.Prelude.{◌≡◌, nat_lt, length};
+ghost use Rattle.std.specs.Prelude.{◌≡◌};
 ghost use Rattle.admin_queue.specs.Controller.{controller_in};
-ghost use Rattle.admin_queue.specs.LogPage.{get_log_page, page_of_lid, read_page};
+ghost use Rattle.admin_queue.specs.LogPage.{get_log_page, read_page, read_update};
 ghost use Rattle.admin_queue.specs.Pages.{log_page_bytes, pages_in};
 
 use crate::controller::AdminController;
-use crate::outcome::{Outcome, returned};
+use crate::log::LogPage;
+use crate::outcome::{Effect, Outcome, returned};
 use crate::pages::Pages;
-use crate::payload::{LogPage, LogPagePart, Payload};
-use nvt_fields::{Nqn, Status};
+use crate::payload::{LogPagePart, Payload};
+use notices::NoticeUpdate;
+use nvt_fields::Status;
 use pdu_codec::{GetLogPage, Sqe};
-
-const DISCOVERY: u8 = 0x70;
 
 /// The most bytes of one read (MDTS; Base 2.0, section 5.17.2.1).
 const READ_MAX: u64 = 131_072;
@@ -21,20 +21,9 @@ pub(crate) fn command(pages: &Pages<'_>, controller: &AdminController<'_>, sqe: 
         sqe.now.entry.now }
 {
     let request = GetLogPage::read(sqe);
-    match page_of_lid(controller.subsystem, request.lid) {
+    match LogPage::of_lid(controller.subsystem, request.lid, request.lsp) {
         Some(page) => read_page(page, &request, pages, controller, sqe),
         None => Err(Status::INVALID_LOG_PAGE),
-    }
-}
-
-// The page that a log identifier names on a controller, which has no subsystem where it is a
-// discovery controller.
-fn page_of_lid(subsystem: &Option<Nqn>, lid: u8) -> Option<LogPage>
-    ensures { result ≡ page_of_lid subsystem.now lid }
-{
-    match (subsystem, lid) {
-        (None, DISCOVERY) => Some(LogPage::Discovery),
-        _ => None,
     }
 }
 
@@ -51,7 +40,7 @@ fn read_page(
     let dwords = u64::from(request.numd) + 1;
     if 4 * dwords > READ_MAX
         || request.offset % 4 != 0
-        || is_past_end(page, pages, controller, request.offset)
+        || page.is_past_end(pages, controller, request.offset)
     {
         return Err(Status::INVALID_FIELD);
     }
@@ -60,22 +49,18 @@ fn read_page(
         offset: request.offset,
         dwords: dwords as u16,
     };
-    returned(Payload::LogPage(part), sqe)
+    let update = read_update(page, request);
+    returned(Payload::LogPage(part), Effect::Notices(update), sqe)
 }
 
-// Whether an offset lies behind the page's last byte.
-fn is_past_end(
-    page: LogPage,
-    pages: &Pages<'_>,
-    controller: &AdminController<'_>,
-    offset: u64,
-) -> bool
-    ensures { let bytes = log_page_bytes page (pages_in pages.now) (controller_in controller.now) in
-        result ≡ nat_lt (length bytes) offset }
+// What a read of the page makes of what its host is to be told.
+fn read_update(page: LogPage, request: &GetLogPage) -> NoticeUpdate
+    ensures { result ≡ read_update page request.now }
 {
-    match page {
-        LogPage::Discovery => pages
-            .discovery
-            .is_past_end(controller.host.as_bytes(), offset),
+    let len = 4 * (u64::from(request.numd) + 1);
+    NoticeUpdate::Read {
+        kind: page.kind(),
+        retain: request.rae,
+        whole: page.is_whole(request.offset, len),
     }
 }

@@ -4,12 +4,20 @@ ghost use Rattle.admin_queue.specs.Outcome.{done, returned};
 ghost use Rattle.admin_queue.specs.Payload.{payload_len};
 
 use crate::payload::Payload;
+use notices::NoticeUpdate;
 use nvt_fields::Status;
 use pdu_codec::{SglType, Sqe};
 
-/// A command's result, the data that it returns and what it does to the controller, or the status
-/// that it is refused with.
-pub type Outcome = Result<Success, Status>;
+/// What is done about a command, or the status that it is refused with.
+pub type Outcome = Result<Accepted, Status>;
+
+/// What is done about a command that is not refused.
+#[derive(Clone, Copy)]
+pub enum Accepted {
+    Answered(Success),
+    /// An event request waits until there is something to tell.
+    Waits,
+}
 
 /// What a command that succeeds gives.
 #[derive(Clone, Copy)]
@@ -27,23 +35,25 @@ pub enum Effect {
     KeepAlive,
     /// It sets the keep alive timeout, in ms, and starts the timer again.
     KeepAliveTimeout(u32),
+    /// It changes what its host is to be told.
+    Notices(NoticeUpdate),
 }
 
 // Without data.
 pub(crate) fn done(value: u64, effect: Effect) -> Outcome
     ensures { result ≡ done value effect }
 {
-    Ok(Success {
+    Ok(Accepted::Answered(Success {
         result: value,
         payload: None,
         effect,
-    })
+    }))
 }
 
 // The data goes to the host as a whole: the descriptor has to ask for all of it, in a transport data
 // block (Base 2.0, section 4.1.1).
-pub(crate) fn returned(payload: Payload, sqe: &Sqe<'_>) -> Outcome
-    ensures { result ≡ returned payload sqe.now.entry.now }
+pub(crate) fn returned(payload: Payload, effect: Effect, sqe: &Sqe<'_>) -> Outcome
+    ensures { result ≡ returned payload effect sqe.now.entry.now }
 {
     let sgl = sqe.sgl1();
     if sgl.sgl_type != SglType::Transport {
@@ -52,9 +62,9 @@ pub(crate) fn returned(payload: Payload, sqe: &Sqe<'_>) -> Outcome
     if sgl.len as usize != payload.len() {
         return Err(Status::DATA_SGL_LENGTH_INVALID);
     }
-    Ok(Success {
+    Ok(Accepted::Answered(Success {
         result: 0,
         payload: Some(payload),
-        effect: Effect::Nothing,
-    })
+        effect,
+    }))
 }

@@ -1,5 +1,6 @@
 //! The views that log pages and lists are written from.
 
+use ana_view::AnaView;
 use change_lists::ActiveView;
 use discovery_view::DiscoveryView;
 
@@ -8,4 +9,5 @@ use discovery_view::DiscoveryView;
 pub struct Pages<'a> {
     pub discovery: &'a DiscoveryView,
     pub active: &'a ActiveView,
+    pub ana: &'a AnaView,
 }

@@ -9,6 +9,7 @@ ghost use Rattle.identify_data.specs.Controller.{controller_data};
 ghost use Rattle.nvt_fields.specs.Window.{window};
 
 use crate::controller::AdminController;
+use crate::log::{LogPage, write_zeros};
 use crate::pages::Pages;
 use config_lists::Namespace;
 use identify_data::ControllerIdentity;
@@ -74,37 +75,6 @@ impl Payload {
         match self {
             Payload::LogPage(part) => part.write(offset, pages, controller, out),
             Payload::Identify(structure) => structure.write(pages, config, controller, out),
-        }
-    }
-}
-
-/// A log page (Base 2.0, section 5.16.1).
-#[derive(Clone, Copy)]
-pub enum LogPage {
-    /// The discovery log page of the controller's host.
-    Discovery,
-}
-
-impl LogPage {
-    // From an offset on, as much as there is room for.
-    fn write(self, offset: u64, pages: &Pages<'_>, controller: &AdminController<'_>, out: &mut [u8])
-        ensures { let page = log_page_bytes self (pages_in pages.now) (controller_in controller.now) in
-            out.new ≡ window page offset (length out.old) }
-    {
-        match self {
-            LogPage::Discovery => pages
-                .discovery
-                .window(controller.host.as_bytes(), offset, out),
-        }
-    }
-
-    // In bytes.
-    fn len(self, pages: &Pages<'_>, controller: &AdminController<'_>) -> u64
-        ensures { let page = log_page_bytes self (pages_in pages.now) (controller_in controller.now) in
-            result ≡ length page }
-    {
-        match self {
-            LogPage::Discovery => pages.discovery.len(controller.host.as_bytes()),
         }
     }
 }
@@ -241,10 +211,4 @@ fn write_active(pages: &Pages<'_>, controller: &AdminController<'_>, above: u32,
         Some(nqn) => pages.active.window(nqn.as_bytes(), above, out),
         None => write_zeros(out),
     }
-}
-
-fn write_zeros(out: &mut [u8])
-    ensures { out.new ≡ replicate (length out.old) 0 }
-{
-    out.fill(0);
 }

@@ -11,7 +11,7 @@ use Rattle.target_decision.specs.declared.decision.Decision.{Decision}
 use Rattle.target_decision.specs.Data.{data_len}
 use Rattle.target_decision.specs.Decision.{Brought, act_by, head_of, operation_of, wire_of}
 use Rattle.target_decision.specs.World.{World}
-use Rattle.target_decision.specs.declared.session.Session.{Session}
+use Rattle.target_decision.specs.declared.session.ConnectionState.{ConnectionState}
 
 -- On this front, to a host with this alignment of data, with what is brought for it and the data that it returns of its
 -- controller: what it sends stands behind the output, what it writes is on its disk, as far as the disks did it, and they did
@@ -31,6 +31,6 @@ room_in (Some op) = room_for_operation op
 abbrev pub room_of : Decision → ℕ
 room_of d = room_in (operation_of d)
 
--- .. and in all, in this session: an ICResp or a response, what a termination returns, and data in pieces
-abbrev pub room_for : World → Session → Decision → Front → ℕ
-room_for w session d front = 152 + length (head_of front) + data_room (data_len w session d) + room_of d
+-- .. and in all, on this connection: an ICResp or a response, what a termination returns, and data in pieces
+abbrev pub room_for : World → ConnectionState → Decision → Front → ℕ
+room_for w v d front = 152 + length (head_of front) + data_room (data_len w v d) + room_of d

@@ -1,6 +1,7 @@
 -- A command capsule, by its submission queue entry and the data that it brings (Base 2.0, sections 5
 -- and 6).
-use Rattle.std.specs.Prelude.{ℕ, nat_le, min, Bool, false, not, ◌==◌, ◌&&◌, List, length, Option, Some, None, Result, Ok, Err, if◌then◌else◌}
+use Rattle.std.specs.Prelude.{ℕ, ◌+◌, nat_le, min, Bool, false, not, ◌==◌, ◌&&◌, ◌||◌, List, length, Option, Some, None, Result, Ok, Err, if◌then◌else◌}
+use Rattle.admin_queue.specs.declared.outcome.Accepted.TheVariants as accepted
 use Rattle.admin_queue.specs.Commands.{admin}
 use Rattle.admin_queue.specs.Controller.{AdminController}
 use Rattle.admin_queue.specs.Outcome.{Outcome as AdminOutcome}
@@ -11,6 +12,8 @@ use Rattle.io_queue.specs.declared.beginning.Begun.TheVariants.{Perform, Receive
 use Rattle.io_queue.specs.declared.operation.Operation.{Operation}
 use Rattle.io_queue.specs.Beginning.{begin as io_begin}
 use Rattle.io_queue.specs.Finishing.{finish as io_finish}
+use Rattle.event_queue.specs.Events.{is_waiting}
+use Rattle.notices.specs.Notices.{NoticeState}
 use Rattle.nvt_fields.specs.declared.status.Status.{Status}
 use Rattle.nvt_fields.specs.Status.{command_id_conflict, command_sequence_error, invalid_field}
 use Rattle.pdu_codec.specs.declared.command.Property.{Property}
@@ -18,7 +21,7 @@ use Rattle.pdu_codec.specs.Sqe.{cid_of, opcode_of, fuse_of, fctype_of, property_
 use Rattle.property_regs.specs.declared.regs.InvalidField.{InvalidField}
 use Rattle.property_regs.specs.declared.regs.Regs.{Regs}
 use Rattle.property_regs.specs.Regs.{change_by, configuration_set, property_get}
-use Rattle.target_decision.specs.declared.capsule.Served.TheVariants.{Answered, Asked}
+use Rattle.target_decision.specs.declared.capsule.Served.TheVariants.{Answered, Asked, Waits}
 use Rattle.target_decision.specs.declared.capsule.Refusal.{Refusal}
 use Rattle.target_decision.specs.declared.capsule.Success.{Success}
 use Rattle.target_decision.specs.declared.decision.Answer.TheVariants as answer
@@ -35,7 +38,7 @@ use Rattle.target_decision.specs.declared.session.Session.{Session}
 use Rattle.target_decision.specs.declared.session.Session.TheVariants.{Opened, Initialized, Connected, Ended}
 use Rattle.target_decision.specs.Connect.{connect_on}
 use Rattle.target_decision.specs.Controller.{registers_at}
-use Rattle.target_decision.specs.Outcome.{Outcome, asked, done, given, performed, refuse, refused}
+use Rattle.target_decision.specs.Outcome.{Outcome, asked, done, given, performed, refuse, refused, waits}
 use Rattle.target_decision.specs.Queue.{next_head, next_head_of}
 use Rattle.target_decision.specs.Transfer.{Tags}
 use Rattle.target_decision.specs.World.{World, admin_controller}
@@ -87,7 +90,8 @@ fabrics_command registers cntlid entry =
     refused invalid_field
 
 abbrev pub admin_answered : ℕ → AdminOutcome → Outcome
-admin_answered cntlid (Ok s) = given s.result s.payload (consequence.Update cntlid (update.Command s.effect))
+admin_answered cntlid (Ok accepted.Waits) = waits
+admin_answered cntlid (Ok (accepted.Answered s)) = given s.result s.payload (consequence.Update cntlid (update.Command s.effect))
 admin_answered cntlid (Err status) = refused status
 
 -- an admin command of a controller that is ready, or not
@@ -96,14 +100,14 @@ admin_by ready None w cntlid entry = refused command_sequence_error
 admin_by ready (Some c) w cntlid entry =
     refuse (not ready) command_sequence_error (admin_answered cntlid (admin w.pages w.config c entry))
 
--- .. of the controller of this identifier
-abbrev pub admin_at : World → ℕ → List ℕ → Outcome
-admin_at w cntlid entry = admin_by (is_ready_at (w.row cntlid)) (admin_controller w cntlid) w cntlid entry
+-- .. of the controller of this identifier, with what its host is to be told
+abbrev pub admin_at : World → NoticeState → ℕ → List ℕ → Outcome
+admin_at w notices cntlid entry = admin_by (is_ready_at (w.row cntlid)) (admin_controller w notices cntlid) w cntlid entry
 
-abbrev pub on_admin_queue : World → ℕ → List ℕ → Outcome
-on_admin_queue w cntlid entry =
+abbrev pub on_admin_queue : World → NoticeState → ℕ → List ℕ → Outcome
+on_admin_queue w notices cntlid entry =
     if opcode_of entry == fabrics_opcode then fabrics_command (registers_at (w.controller cntlid)) cntlid entry else
-    admin_at w cntlid entry
+    admin_at w notices cntlid entry
 
 -- ---- on an I/O queue
 
@@ -162,30 +166,41 @@ first_command w port entry bytes =
     if (opcode_of entry == fabrics_opcode) && (fctype_of entry == connect_type)
     then connect_on w port entry bytes else refused command_sequence_error
 
-abbrev pub queue_command : World → Role → List ℕ → List ℕ → Outcome
-queue_command w (Admin cntlid) entry bytes = on_admin_queue w cntlid entry
-queue_command w (Io cntlid qid) entry bytes = on_io_queue w cntlid entry bytes
+abbrev pub queue_command : World → NoticeState → Role → List ℕ → List ℕ → Outcome
+queue_command w notices (Admin cntlid) entry bytes = on_admin_queue w notices cntlid entry
+queue_command w notices (Io cntlid qid) entry bytes = on_io_queue w cntlid entry bytes
 
-abbrev pub command_in : World → ℕ → Session → List ℕ → List ℕ → Outcome
-command_in w port (Connected role queue) entry bytes = queue_command w role entry bytes
-command_in w port Opened entry bytes = first_command w port entry bytes
-command_in w port Initialized entry bytes = first_command w port entry bytes
-command_in w port Ended entry bytes = first_command w port entry bytes
+abbrev pub command_in : World → ConnectionState → Session → List ℕ → List ℕ → Outcome
+command_in w v (Connected role queue) entry bytes = queue_command w v.notices role entry bytes
+command_in w v Opened entry bytes = first_command w v.port entry bytes
+command_in w v Initialized entry bytes = first_command w v.port entry bytes
+command_in w v Ended entry bytes = first_command w v.port entry bytes
 
 -- .. that is not fused with another
 abbrev pub command_on : World → ConnectionState → List ℕ → List ℕ → Outcome
-command_on w v entry bytes = refuse (not (fuse_of entry == 0)) invalid_field (command_in w v.port v.session entry bytes)
+command_on w v entry bytes = refuse (not (fuse_of entry == 0)) invalid_field (command_in w v v.session entry bytes)
+
+-- the commands that are outstanding on a connection: those with a transfer, and the event requests that wait
+abbrev pub outstanding : ConnectionState → Tags → ℕ
+outstanding v tags = count_of tags + length v.notices.events.waiting
+
+-- .. whether one of them has this identifier
+abbrev pub is_outstanding : ConnectionState → Tags → ℕ → Bool
+is_outstanding v tags cid = has_command tags cid || is_waiting v.notices.events cid
 
 -- what a command comes to, by its entry and the data in its capsule: its identifier may be that of none that is
 -- outstanding
 abbrev pub command : World → ConnectionState → Tags → List ℕ → List ℕ → Outcome
-command w v tags entry bytes = refuse (has_command tags (cid_of entry)) command_id_conflict (command_on w v entry bytes)
+command w v tags entry bytes = refuse (is_outstanding v tags (cid_of entry)) command_id_conflict (command_on w v entry bytes)
+
+abbrev pub full_by : Session → ℕ → Bool
+full_by (Connected role queue) count = nat_le (min queue.sqsize 63) count
+full_by _ count = false
 
 -- whether as many commands are outstanding on a queue as it has entries beside one (SQSIZE, 0's based), of which there are
 -- at most 63
-abbrev pub is_full : Session → Tags → Bool
-is_full (Connected role queue) tags = nat_le (min queue.sqsize 63) (count_of tags)
-is_full _ tags = false
+abbrev pub is_full : ConnectionState → Tags → Bool
+is_full v tags = full_by v.session (outstanding v tags)
 
 abbrev pub head_counted : Session → ℕ
 head_counted Opened = 0
@@ -223,4 +238,5 @@ refused_with session cid transfer r = record {
 abbrev pub owed : Session → ℕ → Option ℕ → Outcome → Decision
 owed session cid transfer (Ok (Answered s)) = decision.Reply (answered_with session cid transfer s)
 owed session cid transfer (Ok (Asked len)) = decision.Request (record { cid = cid; len = len })
+owed session cid transfer (Ok Waits) = decision.Wait cid
 owed session cid transfer (Err r) = decision.Reply (refused_with session cid transfer r)

@@ -33,6 +33,7 @@ tags_after (decision.Request q) front tags t =
 tags_after (decision.Receive ttag) front tags t = if t == ttag then data_after (tags ttag) (h2c_at front) else tags t
 tags_after (decision.Reply r) front tags t = if is_tag r.transfer t then None else tags t
 tags_after (decision.Initialize alignment) front tags t = tags t
+tags_after (decision.Wait cid) front tags t = tags t
 tags_after (decision.Terminate u) front tags t = None
 tags_after decision.Close front tags t = None
 

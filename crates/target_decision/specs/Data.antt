@@ -7,7 +7,7 @@ use Rattle.target_decision.specs.declared.data.Data.{Data}
 use Rattle.admin_queue.specs.declared.payload.Payload.{Payload}
 use Rattle.admin_queue.specs.Controller.{AdminController}
 use Rattle.target_decision.specs.declared.decision.Decision.{Decision}
-use Rattle.target_decision.specs.declared.session.Session.{Session}
+use Rattle.target_decision.specs.declared.session.ConnectionState.{ConnectionState}
 use Rattle.target_decision.specs.Decision.{payload_of}
 use Rattle.target_decision.specs.World.{World, admin_controller_in, world_in}
 
@@ -22,11 +22,11 @@ abbrev pub len_in : Option Data → ℕ
 len_in None = 0
 len_in (Some d) = payload_len d.payload
 
--- .. by what is decided in a session
+-- .. by what is decided on a connection
 abbrev pub payload_len_at : Option AdminController → Option Payload → ℕ
 payload_len_at c None = 0
 payload_len_at None (Some payload) = 0
 payload_len_at (Some c) (Some payload) = payload_len payload
 
-abbrev pub data_len : World → Session → Decision → ℕ
-data_len w session d = payload_len_at (admin_controller_in w session) (payload_of d)
+abbrev pub data_len : World → ConnectionState → Decision → ℕ
+data_len w v d = payload_len_at (admin_controller_in w v) (payload_of d)

@@ -75,7 +75,7 @@ waiting_in pdu = record { entry = entry_of pdu }
 abbrev pub capsule : World → ConnectionState → Tags → Pdu → Decision
 capsule w v tags pdu =
     if nat_lt 8192 (length (data_part pdu)) then terminate LimitExceeded 0 else
-    if is_full v.session tags then terminate SequenceError 0 else
+    if is_full v tags then terminate SequenceError 0 else
     owed v.session (cid_of (entry_of pdu)) None (command w v tags (entry_of pdu) (data_part pdu))
 
 -- the last data of a transfer: its command is finished with all that came, up to the end of these
@@ -123,6 +123,7 @@ is_end (decision.Initialize alignment) = false
 is_end (decision.Reply r) = false
 is_end (decision.Request q) = false
 is_end (decision.Receive ttag) = false
+is_end (decision.Wait cid) = false
 is_end (decision.Terminate t) = true
 is_end decision.Close = true
 
@@ -143,9 +144,9 @@ abbrev pub payload_of : Decision → Option Payload
 payload_of (decision.Reply r) = payload_in r.answer
 payload_of _ = None
 
--- the bytes of it, in a session: commands on admin queues alone return any
-abbrev pub data_of : World → Session → Decision → Option (List ℕ)
-data_of w session d = payload_at w (admin_controller_in w session) (payload_of d)
+-- the bytes of it, on a connection: commands on admin queues alone return any
+abbrev pub data_of : World → ConnectionState → Decision → Option (List ℕ)
+data_of w v d = payload_at w (admin_controller_in w v) (payload_of d)
 
 -- what a reply says, and the C2HData of what it returns
 pub record Said : Type 0 where
@@ -203,12 +204,13 @@ wire_of alignment (decision.Reply r) front b payload contents m =
 wire_of alignment (decision.Request q) front b payload contents m =
     r2t (record { cccid = q.cid; ttag = b.ttag; r2to = 0; r2tl = q.len })
 wire_of alignment (decision.Receive ttag) front b payload contents m = []
+wire_of alignment (decision.Wait cid) front b payload contents m = []
 wire_of alignment (decision.Terminate t) front b payload contents m = c2h_term_req (fatal_code_of t.fes) t.fei (head_of front)
 wire_of alignment decision.Close front b payload contents m = []
 
 -- .. on a connection
 abbrev pub sent_by : World → (ℕ → List (List ℕ)) → DiskOutcome → ConnectionState → Decision → Front → Brought → List ℕ
-sent_by w contents m v d front b = wire_of v.alignment d front b (data_of w v.session d) contents m
+sent_by w contents m v d front b = wire_of v.alignment d front b (data_of w v d) contents m
 
 abbrev pub operation_in : Answer → Option Operation
 operation_in (answer.Given g) = None

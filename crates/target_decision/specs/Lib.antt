@@ -8,8 +8,10 @@ pub mod Consequence
 pub mod Controller
 pub mod Data
 pub mod Decision
+pub mod Notice
 pub mod Outcome
 pub mod Queue
 pub mod Session
+pub mod Tell
 pub mod Transfer
 pub mod World

@@ -5,7 +5,7 @@ use Rattle.nvt_fields.specs.declared.status.Status.{Status}
 use Rattle.nvt_fields.specs.Status.{success}
 use Rattle.io_queue.specs.declared.operation.Operation.{Operation}
 use Rattle.target_decision.specs.declared.capsule.Served.{Served}
-use Rattle.target_decision.specs.declared.capsule.Served.TheVariants.{Answered, Asked}
+use Rattle.target_decision.specs.declared.capsule.Served.TheVariants.{Answered, Asked, Waits}
 use Rattle.target_decision.specs.declared.capsule.Refusal.{Refusal}
 use Rattle.target_decision.specs.declared.decision.Answer.TheVariants.{Given, Performed}
 use Rattle.target_decision.specs.declared.consequence.Consequence.{Consequence}
@@ -27,6 +27,10 @@ performed op = Ok (Answered (record { answer = Performed op; consequence = conse
 
 abbrev pub done : ℕ → Consequence → Outcome
 done value follows = given value None follows
+
+-- it waits until there is something to tell
+abbrev pub waits : Outcome
+waits = Ok Waits
 
 -- so many bytes of data are asked for
 abbrev pub asked : ℕ → Outcome

@@ -1,5 +1,6 @@
 -- How far target and host have come on a connection.
 use Rattle.std.specs.Prelude.{ℕ, Bool, true, false, Option, Some, None}
+use Rattle.notices.specs.Notices.{notices_at_connect}
 use Rattle.target_decision.specs.declared.session.ConnectionState.{ConnectionState}
 use Rattle.target_decision.specs.declared.session.Role.{Role}
 use Rattle.target_decision.specs.declared.session.Role.TheVariants.{Admin, Io}
@@ -9,11 +10,12 @@ use Rattle.target_decision.specs.declared.consequence.Consequence.{Consequence}
 use Rattle.target_decision.specs.declared.consequence.Consequence.TheVariants as consequence
 use Rattle.target_decision.specs.declared.decision.Decision.{Decision}
 use Rattle.target_decision.specs.declared.decision.Decision.TheVariants as decision
+use Rattle.target_decision.specs.Notice.{notices_after}
 use Rattle.target_decision.specs.Queue.{new_queue, responded}
 
 -- a connection on which nothing has come yet
 abbrev pub opened_on : ℕ → ConnectionState
-opened_on port = record { port = port; session = Opened; alignment = 0 }
+opened_on port = record { port = port; session = Opened; alignment = 0; notices = notices_at_connect }
 
 -- whether it is ended: nothing more is consumed or sent
 abbrev pub is_ended : Session → Bool
@@ -48,6 +50,7 @@ session_after session (decision.Initialize alignment) = Initialized
 session_after session (decision.Reply r) = replied r.consequence session
 session_after session (decision.Request q) = session
 session_after session (decision.Receive ttag) = session
+session_after session (decision.Wait cid) = session
 session_after session (decision.Terminate t) = Ended
 session_after session decision.Close = Ended
 
@@ -57,4 +60,8 @@ alignment_after before (decision.Initialize alignment) = alignment
 alignment_after before _ = before
 
 abbrev pub turned : ConnectionState → Decision → ConnectionState
-turned v d = record v { session = session_after v.session d; alignment = alignment_after v.alignment d }
+turned v d = record v {
+  session = session_after v.session d;
+  alignment = alignment_after v.alignment d;
+  notices = notices_after v.notices d;
+}

@@ -4,12 +4,13 @@ use Rattle.admin_queue.specs.Controller.{AdminController}
 use Rattle.admin_queue.specs.Pages.{Pages, pages_in}
 use Rattle.config_rules.specs.Configuration.{Configuration}
 use Rattle.fabrics_connect.specs.declared.row.Row.{Row}
+use Rattle.notices.specs.Notices.{NoticeState}
 use Rattle.number_table.specs.Table.{place}
 use Rattle.target_decision.specs.declared.controller.Controller.{Controller}
-use Rattle.target_decision.specs.declared.session.Role.{Role}
-use Rattle.target_decision.specs.declared.session.Role.TheVariants.{Admin, Io}
+use Rattle.target_decision.specs.declared.session.ConnectionState.{ConnectionState}
+use Rattle.target_decision.specs.declared.session.Role.TheVariants.{Admin}
 use Rattle.target_decision.specs.declared.session.Session.{Session}
-use Rattle.target_decision.specs.declared.session.Session.TheVariants.{Opened, Initialized, Connected, Ended}
+use Rattle.target_decision.specs.declared.session.Session.TheVariants.{Connected}
 use Rattle.target_decision.specs.declared.world.World.{World as WorldLent}
 
 -- the most connections at a time
@@ -35,23 +36,26 @@ world_in w = record {
 
 -- ---- a controller as its admin commands see it
 
-abbrev pub admin_controller_by : ℕ → Option Row → Option Controller → Option AdminController
-admin_controller_by cntlid None own = None
-admin_controller_by cntlid (Some row) None = None
-admin_controller_by cntlid (Some row) (Some own) =
-    Some (record { cntlid = cntlid; host = row.host; subsystem = row.subsystem; kato = own.kato })
+abbrev pub admin_controller_by : NoticeState → ℕ → Option Row → Option Controller → Option AdminController
+admin_controller_by notices cntlid None own = None
+admin_controller_by notices cntlid (Some row) None = None
+admin_controller_by notices cntlid (Some row) (Some own) = Some (record {
+  cntlid = cntlid;
+  host = row.host;
+  subsystem = row.subsystem;
+  port = row.port;
+  kato = own.kato;
+  notices = notices;
+})
 
--- the controller of this identifier
-abbrev pub admin_controller : World → ℕ → Option AdminController
-admin_controller w cntlid = admin_controller_by cntlid (w.row cntlid) (w.controller cntlid)
+-- the controller of this identifier, with what its host is to be told
+abbrev pub admin_controller : World → NoticeState → ℕ → Option AdminController
+admin_controller w notices cntlid = admin_controller_by notices cntlid (w.row cntlid) (w.controller cntlid)
 
-abbrev pub admin_controller_of : World → Role → Option AdminController
-admin_controller_of w (Admin cntlid) = admin_controller w cntlid
-admin_controller_of w (Io cntlid qid) = None
+abbrev pub admin_controller_of : World → NoticeState → Session → Option AdminController
+admin_controller_of w notices (Connected (Admin cntlid) queue) = admin_controller w notices cntlid
+admin_controller_of w notices _ = None
 
--- the controller whose admin queue a session is
-abbrev pub admin_controller_in : World → Session → Option AdminController
-admin_controller_in w Opened = None
-admin_controller_in w Initialized = None
-admin_controller_in w (Connected role queue) = admin_controller_of w role
-admin_controller_in w Ended = None
+-- the controller whose admin queue a connection is
+abbrev pub admin_controller_in : World → ConnectionState → Option AdminController
+admin_controller_in w v = admin_controller_of w v.notices v.session

@@ -18,7 +18,8 @@ use crate::carry::{Carried, carry};
 use crate::consequence::Consequence;
 use crate::data::{Data, len_in};
 use crate::decision::{Answer, Decision, Reply};
-use crate::session::{ConnectionState, Session};
+use crate::session::ConnectionState;
+use crate::tell::TOLD_ROOM;
 use crate::transfer::WaitingCommand;
 use crate::wire::{self, WIRE_MAX, data_room, head_of};
 use crate::world::World;
@@ -30,13 +31,13 @@ use pdu_codec::Sqe;
 use pdu_cut::{Cut, PduView};
 use std::alloc::{AllocError, Global};
 
-/// Makes room in the output for all that a decision on this front sends in this session, and carries on
-/// the transfer that it is about. Only here memory can be wanted, and want of it changes nothing.
+/// Makes room in the output for all that a decision on this front sends, and for the completions of as
+/// many event requests as may wait, and carries on the transfer that it is about. Only here memory can be wanted, and want of it changes nothing.
 pub fn prepare(
     world: &World<'_>,
     transfers: &mut Transfers<WaitingCommand>,
     connection: usize,
-    session: &Session,
+    state: &ConnectionState,
     output: &mut BytesMut,
     decision: &Decision,
     front: &Cut<'_>,
@@ -45,18 +46,20 @@ pub fn prepare(
     requires head { length (head_of (front_shown front.now)) ≤ 128 }
     requires small { room_of decision.now < 2 ^ 18 }
     requires well { CarriesWell (part_at transfers.old connection) decision.now (front_shown front.now) }
-    ensures room { let room = room_for (world_in world.now) session.now decision.now (front_shown front.now) in
-        OnOk result (room ≤ output.new.spare) }
+    ensures room { let room = room_for (world_in world.now) state.now decision.now (front_shown front.now) in
+        OnOk result (room + TOLD_ROOM ≤ output.new.spare) }
     ensures output { output.new.items ≡ output.old.items }
+    ensures kept { output.old.spare ≤ output.new.spare }
     ensures after { let tags = tags_after decision.now (front_shown front.now) (part_at transfers.old connection) in
         IfOk result (λ carried. Stand transfers.new (with_own (part_at transfers.old) connection tags)) }
     ensures carried { let brought = brought_by (part_at transfers.old connection) decision.now (front_shown front.now) in
         IfOk result (λ carried. brought_in carried (front_shown front.now) ≡ brought) }
     ensures err { OnErr result (transfers.new ≡ transfers.old) }
 {
-    let data = Data::of(world, session, decision);
+    let data = Data::of(world, state, decision);
     let returned = data_room(len_in(&data));
-    output.reserve(WIRE_MAX + head_of(front).len() + returned + room_of(decision))?;
+    let sent = WIRE_MAX + head_of(front).len() + returned + room_of(decision);
+    output.reserve(sent + TOLD_ROOM)?;
     carry(transfers, connection, decision, front)
 }
 
@@ -73,15 +76,17 @@ pub fn perform<D: Disk>(
 )
     requires head { length (head_of (front_shown front.now)) ≤ 128 }
     requires within { PerformsWithin (sizes stores.old) decision.now (brought_in carried.now (front_shown front.now)) }
-    requires room { let room = room_for (world_in world.now) state.old.session decision.now (front_shown front.now) in
+    requires room { let room = room_for (world_in world.now) state.old decision.now (front_shown front.now) in
         room ≤ output.old.spare }
     ensures state { state.new ≡ turned state.old decision.now }
-    ensures does { let payload = data_of (world_in world.now) state.old.session decision.now in
+    ensures does { let payload = data_of (world_in world.now) state.old decision.now in
         let brought = brought_in carried.now (front_shown front.now) in
         Does state.old.alignment decision.now (front_shown front.now) brought payload
         stores.old stores.new output.old.items output.new.items }
+    ensures spare { let room = room_for (world_in world.now) state.old decision.now (front_shown front.now) in
+        output.old.spare ≤ output.new.spare + room }
 {
-    let data = Data::of(world, &state.session, decision);
+    let data = Data::of(world, state, decision);
     wire::write(
         output,
         stores,

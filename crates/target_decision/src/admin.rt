@@ -3,18 +3,24 @@ ghost use Rattle.std.specs.Prelude.{◌≡◌};
 ghost use Rattle.target_decision.specs.Capsule.{admin_answered, admin_at};
 ghost use Rattle.target_decision.specs.World.{world_in};
 
-use crate::capsule::{Outcome, given, is_ready, refused};
+use crate::capsule::{Outcome, given, is_ready, refused, waits};
 use crate::consequence::{Consequence, Update};
 use crate::world::World;
-use admin_queue::admin;
+use admin_queue::{Accepted, admin};
+use notices::Notices;
 use nvt_fields::Status;
 use pdu_codec::Sqe;
 
 /// Answers an admin command of the controller of this identifier, which has to be ready.
-pub(crate) fn command(world: &World<'_>, cntlid: u16, sqe: &Sqe<'_>) -> Outcome
-    ensures { result ≡ admin_at (world_in world.now) cntlid sqe.now.entry.now }
+pub(crate) fn command(
+    world: &World<'_>,
+    notices: &Notices,
+    cntlid: u16,
+    sqe: &Sqe<'_>,
+) -> Outcome
+    ensures { result ≡ admin_at (world_in world.now) notices.now cntlid sqe.now.entry.now }
 {
-    match world.admin_controller(cntlid) {
+    match world.admin_controller(notices, cntlid) {
         Some(controller) if is_ready(world.rows.get(cntlid)) => {
             answered(cntlid, admin(world.pages, world.config, &controller, sqe))
         }
@@ -27,7 +33,7 @@ fn answered(cntlid: u16, outcome: admin_queue::Outcome) -> Outcome
     ensures { result ≡ admin_answered cntlid outcome }
 {
     match outcome {
-        Ok(success) => given(
+        Ok(Accepted::Answered(success)) => given(
             success.result,
             success.payload,
             Consequence::Update {
@@ -35,6 +41,7 @@ fn answered(cntlid: u16, outcome: admin_queue::Outcome) -> Outcome
                 update: Update::Command(success.effect),
             },
         ),
+        Ok(Accepted::Waits) => waits(),
         Err(status) => refused(status),
     }
 }

@@ -6,7 +6,7 @@ ghost use Rattle.target_decision.specs.Capsule.{is_ready_at, on_admin_queue, on_
 ghost use Rattle.target_decision.specs.Capsule.{answered_with, command_on, head_after, is_full, owed};
 ghost use Rattle.target_decision.specs.Capsule.{refused_with};
 ghost use Rattle.target_decision.specs.Decision.{capsule};
-ghost use Rattle.target_decision.specs.Outcome.{done, given, performed, refused};
+ghost use Rattle.target_decision.specs.Outcome.{done, given, performed, refused, waits};
 ghost use Rattle.target_decision.specs.Transfer.{tags_in};
 ghost use Rattle.target_decision.specs.World.{world_in};
 
@@ -21,6 +21,7 @@ use crate::{admin, connect, fabrics, io};
 use admin_queue::Payload;
 use fabrics_connect::Row;
 use io_queue::Operation;
+use notices::Notices;
 use nvt_fields::{FatalErrorStatus, PduType, Status};
 use pdu_codec::Sqe;
 use pdu_cut::PduView;
@@ -40,6 +41,8 @@ pub(crate) enum Served {
     Answered(Success),
     /// Its host is asked for so many bytes of data.
     Asked(u32),
+    /// It waits until there is something to tell.
+    Waits,
 }
 
 /// What a command is answered that is not refused, and what follows from it.
@@ -71,7 +74,7 @@ pub(crate) fn decide(
     if payload.len() > IN_CAPSULE_MAX {
         return terminate(FatalErrorStatus::LimitExceeded, 0);
     }
-    if is_full(&v.session, own) {
+    if is_full(v, own) {
         return terminate(FatalErrorStatus::SequenceError, 0);
     }
     let header = <&[u8; 72]>::try_from(pdu.header()).unwrap();
@@ -81,13 +84,14 @@ pub(crate) fn decide(
 }
 
 // Whether no further command may be outstanding on a queue.
-fn is_full(session: &Session, own: &OwnTransfers<'_>) -> bool
+fn is_full(v: &ConnectionState, own: &OwnTransfers<'_>) -> bool
     requires { own.now.connection < 64 }
-    ensures { result ≡ is_full session.now (tags_in own.now) }
+    ensures { result ≡ is_full v.now (tags_in own.now) }
 {
-    match session {
+    match &v.session {
         Session::Connected { queue, .. } => {
-            usize::from(queue.sqsize.min(OUTSTANDING_MAX)) <= own.count()
+            let outstanding = own.count() + v.notices.events().waiting();
+            usize::from(queue.sqsize.min(OUTSTANDING_MAX)) <= outstanding
         }
         Session::Opened | Session::Initialized | Session::Ended => false,
     }
@@ -104,7 +108,7 @@ fn command(
     ensures { let tags = tags_in own.now in
         result ≡ command (world_in world.now) v.now tags sqe.now.entry.now payload.now }
 {
-    if own.has_command(sqe.cid()) {
+    if own.has_command(sqe.cid()) || v.notices.events().waits(sqe.cid()) {
         return refused(Status::COMMAND_ID_CONFLICT);
     }
     command_on(world, v, sqe, payload)
@@ -117,7 +121,7 @@ fn command_on(world: &World<'_>, v: &ConnectionState, sqe: &Sqe<'_>, payload: &[
         return refused(Status::INVALID_FIELD);
     }
     match v.session {
-        Session::Connected { role, .. } => on_queue(world, role, sqe, payload),
+        Session::Connected { role, .. } => on_queue(world, &v.notices, role, sqe, payload),
         _ => before_connect(world, v.port, sqe, payload),
     }
 }
@@ -132,22 +136,29 @@ fn before_connect(world: &World<'_>, port: u16, sqe: &Sqe<'_>, payload: &[u8]) -
     }
 }
 
-fn on_queue(world: &World<'_>, role: Role, sqe: &Sqe<'_>, payload: &[u8]) -> Outcome
-    ensures { result ≡ queue_command (world_in world.now) role sqe.now.entry.now payload.now }
+fn on_queue(
+    world: &World<'_>,
+    notices: &Notices,
+    role: Role,
+    sqe: &Sqe<'_>,
+    payload: &[u8],
+) -> Outcome
+    ensures { let entry = sqe.now.entry.now in
+        result ≡ queue_command (world_in world.now) notices.now role entry payload.now }
 {
     match role {
-        Role::Admin { cntlid } => on_admin_queue(world, cntlid, sqe),
+        Role::Admin { cntlid } => on_admin_queue(world, notices, cntlid, sqe),
         Role::Io { cntlid, .. } => on_io_queue(world, cntlid, sqe, payload),
     }
 }
 
-fn on_admin_queue(world: &World<'_>, cntlid: u16, sqe: &Sqe<'_>) -> Outcome
-    ensures { result ≡ on_admin_queue (world_in world.now) cntlid sqe.now.entry.now }
+fn on_admin_queue(world: &World<'_>, notices: &Notices, cntlid: u16, sqe: &Sqe<'_>) -> Outcome
+    ensures { result ≡ on_admin_queue (world_in world.now) notices.now cntlid sqe.now.entry.now }
 {
     if sqe.opcode() == FABRICS {
         fabrics::command(&world.registers(cntlid), cntlid, sqe)
     } else {
-        admin::command(world, cntlid, sqe)
+        admin::command(world, notices, cntlid, sqe)
     }
 }
 
@@ -181,6 +192,7 @@ pub(crate) fn owed(session: &Session, cid: u16, transfer: Option<u16>, outcome: 
             Decision::Reply(answered_with(session, cid, transfer, success))
         }
         Ok(Served::Asked(len)) => Decision::Request(DataRequest { cid, len }),
+        Ok(Served::Waits) => Decision::Wait { cid },
         Err(refusal) => Decision::Reply(refused_with(session, cid, transfer, refusal)),
     }
 }
@@ -223,6 +235,13 @@ fn head_after(session: &Session, consequence: &Consequence) -> u16
         (Session::Connected { queue, .. }, _) => queue.next_head(),
         _ => 0,
     }
+}
+
+/// It waits until there is something to tell.
+pub(crate) fn waits() -> Outcome
+    ensures { result ≡ waits }
+{
+    Ok(Served::Waits)
 }
 
 pub(crate) fn refused(status: Status) -> Outcome

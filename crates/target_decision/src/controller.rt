@@ -42,7 +42,7 @@ impl Controller {
         ensures { self.new ≡ updated (Update.Command effect.now) now self.old }
     {
         match effect {
-            Effect::Nothing => {}
+            Effect::Nothing | Effect::Notices(_) => {}
             Effect::KeepAlive => self.mark = now,
             Effect::KeepAliveTimeout(kato) => {
                 self.kato = *kato;

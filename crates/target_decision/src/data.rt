@@ -6,7 +6,7 @@ ghost use Rattle.target_decision.specs.Decision.{data_of, payload_of};
 ghost use Rattle.target_decision.specs.World.{world_in};
 
 use crate::decision::{Answer, Decision, Reply};
-use crate::session::{Role, Session};
+use crate::session::ConnectionState;
 use crate::world::World;
 use admin_queue::{AdminController, Payload};
 
@@ -19,17 +19,17 @@ pub(crate) struct Data<'a> {
 }
 
 impl<'a> Data<'a> {
-    /// What a decision in this session returns: commands on admin queues alone return data.
+    /// What a decision on this connection returns: commands on admin queues alone return data.
     pub(crate) fn of(
         world: &'a World<'a>,
-        session: &Session,
+        v: &'a ConnectionState,
         decision: &Decision,
     ) -> Option<Data<'a>>
-        ensures bytes { bytes_in result ≡ data_of (world_in world.now) session.now decision.now }
-        ensures len { len_in result ≡ data_len (world_in world.now) session.now decision.now }
+        ensures bytes { bytes_in result ≡ data_of (world_in world.now) v.now decision.now }
+        ensures len { len_in result ≡ data_len (world_in world.now) v.now decision.now }
     {
         let payload = payload_of(decision)?;
-        let controller = world.admin_controller_in(session)?;
+        let controller = world.admin_controller_in(v)?;
         Some(Data {
             world,
             controller,

@@ -29,6 +29,8 @@ pub enum Decision {
     Reply(Reply),
     /// The host is asked for the data of a command, by an R2T.
     Request(DataRequest),
+    /// An event request of this identifier waits until there is something to tell.
+    Wait { cid: u16 },
     /// An H2CData brings data of the transfer of this tag (TTAG), and more is to come.
     Receive { ttag: u16 },
     /// The connection is ended by a C2HTermReq.

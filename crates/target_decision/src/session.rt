@@ -1,21 +1,25 @@
 //! How far target and host have come on a connection.
 ghost use Rattle.std.specs.Prelude.{◌≡◌};
 ghost use Rattle.target_decision.specs.Queue.{new_queue, responded};
-ghost use Rattle.target_decision.specs.Session.{is_ended, opened_on, replied, session_after, turned};
+ghost use Rattle.target_decision.specs.Session.{is_ended, opened_on, replied, responded_in, session_after, turned};
 
 use crate::alignment::Alignment;
 use crate::consequence::Consequence;
 use crate::decision::Decision;
+use crate::notice::note;
 use crate::queue::Queue;
+use notices::Notices;
 
 /// A connection, as far as a decision may look at it.
-#[derive(Clone, Copy)]
+#[derive(Drop)]
 pub struct ConnectionState {
     /// The port that it was opened on.
     pub port: u16,
     pub session: Session,
     /// What its ICReq asked for.
     pub alignment: Alignment,
+    /// Where it is an admin queue: what the host of its controller is to be told.
+    pub notices: Notices,
 }
 
 impl ConnectionState {
@@ -27,6 +31,7 @@ impl ConnectionState {
             port,
             session: Session::Opened,
             alignment: Alignment::none(),
+            notices: Notices::new(),
         }
     }
 
@@ -37,6 +42,7 @@ impl ConnectionState {
         if let Decision::Initialize(alignment) = decision {
             self.alignment = *alignment;
         }
+        note(&mut self.notices, decision);
         self.session.turn(decision);
     }
 }
@@ -71,7 +77,7 @@ impl Session {
         match decision {
             Decision::Initialize(_) => *self = Session::Initialized,
             Decision::Reply(reply) => self.reply(&reply.consequence),
-            Decision::Request(_) | Decision::Receive { .. } => {}
+            Decision::Request(_) | Decision::Receive { .. } | Decision::Wait { .. } => {}
             Decision::Terminate(_) | Decision::Close => *self = Session::Ended,
         }
     }
@@ -90,11 +96,16 @@ impl Session {
                 let (cntlid, qid) = (joining.cntlid, joining.qid);
                 self.connect(Role::Io { cntlid, qid }, joining.sqsize);
             }
-            Consequence::Nothing | Consequence::Update { .. } => {
-                if let Session::Connected { queue, .. } = self {
-                    queue.responded();
-                }
-            }
+            Consequence::Nothing | Consequence::Update { .. } => self.respond(),
+        }
+    }
+
+    /// Counts a response, where the connection is a queue.
+    pub(crate) fn respond(&mut self)
+        ensures { self.new ≡ responded_in self.old }
+    {
+        if let Session::Connected { queue, .. } = self {
+            queue.responded();
         }
     }
 

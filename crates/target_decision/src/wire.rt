@@ -54,7 +54,7 @@ pub(crate) fn write<D: Disk>(
             write_reply(output, stores, alignment, reply, front, carried, returned);
         }
         Decision::Request(request) => write_request(output, request, carried.ttag),
-        Decision::Receive { .. } => {}
+        Decision::Receive { .. } | Decision::Wait { .. } => {}
         Decision::Terminate(termination) => {
             write_termination(output, termination, head_of(front));
         }

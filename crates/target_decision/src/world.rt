@@ -6,9 +6,10 @@ ghost use Rattle.admin_queue.specs.Controller.{controller_in};
 ghost use Rattle.target_decision.specs.World.{admin_controller, admin_controller_in, world_in};
 
 use crate::controller::Controller;
-use crate::session::{Role, Session};
+use crate::session::{ConnectionState, Role, Session};
 use admin_queue::{AdminController, Pages};
 use fabrics_connect::Controllers;
+use notices::Notices;
 use number_table::NumberTable;
 use nvt_config::Config;
 use property_regs::{ControllerKind, Regs};
@@ -38,9 +39,15 @@ impl<'a> World<'a> {
         }
     }
 
-    /// The controller of this identifier, as its admin commands see it.
-    pub(crate) fn admin_controller(&self, cntlid: u16) -> Option<AdminController<'a>>
-        ensures { option_map controller_in result ≡ admin_controller (world_in self.now) cntlid }
+    /// The controller of this identifier, with what its host is to be told, as its admin commands see
+    /// it.
+    pub(crate) fn admin_controller<'b>(
+        &'b self,
+        notices: &'b Notices,
+        cntlid: u16,
+    ) -> Option<AdminController<'b>>
+        ensures { option_map controller_in result
+            ≡ admin_controller (world_in self.now) notices.now cntlid }
     {
         let row = self.rows.get(cntlid)?;
         let own = self.controllers.get(usize::from(cntlid))?;
@@ -48,20 +55,25 @@ impl<'a> World<'a> {
             cntlid,
             host: &row.host,
             subsystem: &row.subsystem,
+            port: row.port,
             kato: own.kato,
+            notices,
         })
     }
 
     /// The controller whose admin queue a connection is.
-    pub(crate) fn admin_controller_in(&self, session: &Session) -> Option<AdminController<'a>>
+    pub(crate) fn admin_controller_in<'b>(
+        &'b self,
+        v: &'b ConnectionState,
+    ) -> Option<AdminController<'b>>
         ensures { option_map controller_in result
-            ≡ admin_controller_in (world_in self.now) session.now }
+            ≡ admin_controller_in (world_in self.now) v.now }
     {
-        match session {
+        match v.session {
             Session::Connected {
                 role: Role::Admin { cntlid },
                 ..
-            } => self.admin_controller(*cntlid),
+            } => self.admin_controller(&v.notices, cntlid),
             _ => None,
         }
     }

@@ -1,0 +1,36 @@
+-- What an edit tells the host of a controller, on its admin queue: the completions of requests that wait.
+use Rattle.std.specs.Prelude.{ℕ, List, [], ◌∷◌, ◌++◌}
+use Rattle.config_rules.specs.Configuration.{Configuration}
+use Rattle.event_queue.specs.declared.completion.Completion.{Completion}
+use Rattle.notices.specs.Notices.{tell_answers, told}
+use Rattle.notices.specs.Viewer.{Viewer}
+use Rattle.nvt_fields.specs.Status.{success}
+use Rattle.pdu_codec.specs.CapsuleResp.{capsule_resp}
+use Rattle.target_decision.specs.declared.session.ConnectionState.{ConnectionState}
+use Rattle.target_decision.specs.declared.session.Session.{Session}
+use Rattle.target_decision.specs.Capsule.{head_counted}
+use Rattle.target_decision.specs.Session.{responded_in}
+
+-- the response that completes a request
+abbrev pub completion_pdu : Session → Completion → List ℕ
+completion_pdu session c = capsule_resp (record { result = c.result; sqhd = head_counted session; cid = c.cid; status = success })
+
+-- those that complete these, one after another, each counted
+abbrev pub completion_pdus : Session → List Completion → List ℕ
+completion_pdus session [] = []
+completion_pdus session (c ∷ rest) = completion_pdu session c ++ completion_pdus (responded_in session) rest
+
+abbrev pub completed_in : Session → List Completion → Session
+completed_in session [] = session
+completed_in session (c ∷ rest) = completed_in (responded_in session) rest
+
+-- what an edit from one configuration to another sends on the admin queue of a controller that shows this
+abbrev pub told_pdus : Configuration → Configuration → Viewer → ConnectionState → List ℕ
+told_pdus old new viewer v = completion_pdus v.session (tell_answers old new viewer v.notices)
+
+-- .. and where it leaves that
+abbrev pub told_after : Configuration → Configuration → Viewer → ConnectionState → ConnectionState
+told_after old new viewer v = record v {
+  session = completed_in v.session (tell_answers old new viewer v.notices);
+  notices = told old new viewer v.notices;
+}
