@@ -8,7 +8,8 @@ use Rattle.event_queue.specs.declared.kind.EventKind.{EventKind}
 use Rattle.event_queue.specs.declared.kind.EventKind.TheVariants.{Namespace, Ana, Discovery}
 use Rattle.event_queue.specs.Events.{EventState, after_read, first_pending, is_full, request_answer, requested}
 use Rattle.notices.specs.declared.update.NoticeUpdate.TheVariants as update
-use Rattle.notices.specs.Notices.{NoticeState, updated}
+use Rattle.notices.specs.Notices.{NoticeState}
+use Rattle.notices.specs.Update.{updated}
 use Rattle.nvt_fields.specs.declared.status.Status.{Status}
 use Rattle.nvt_fields.specs.Status.{data_sgl_length_invalid, invalid_field, sgl_type_invalid}
 use Rattle.pdu_codec.specs.declared.command.GetLogPage.{GetLogPage}

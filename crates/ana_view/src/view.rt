@@ -44,13 +44,15 @@ impl Model for Plan {
 }
 
 impl Plan {
-    pub(crate) fn old(&self) -> &Config
+    /// The configuration before the edit.
+    pub fn old(&self) -> &Config
         ensures { result.now ≡ self.now.old }
     {
         &self.before
     }
 
-    pub(crate) fn new(&self) -> &Config
+    /// The configuration after it.
+    pub fn new(&self) -> &Config
         ensures { result.now ≡ self.now.new }
     {
         &self.next

@@ -35,6 +35,10 @@ changes_namespace old new subsystem nsid = not (are_same (attributes_in old subs
 abbrev pub changes_namespaces : Configuration → Configuration → List ℕ → Bool
 changes_namespaces old new subsystem = list_any (λ _. true) (nsids_where (changes_namespace old new subsystem))
 
+-- the set after a change from one configuration to another: with each identifier of the subsystem that it changes
+abbrev pub with_changes : Configuration → Configuration → List ℕ → List ℕ → List ℕ
+with_changes old new subsystem set = nsids_where (λ n. changes_namespace old new subsystem n || list_any (nat_eq n) set)
+
 -- an edit made of one configuration another; the set was emptied, by a read of the whole list or as the controller was
 -- enabled
 pub data Occurrence : Type 0 where
@@ -65,5 +69,7 @@ pub record ChangesAreNoted : Type 0 where
   pub once_emptied : (before : List Occurrence) (subsystem : List ℕ) → changed_nsids (emptied ∷ before) subsystem ≡ []
   pub after_edit : (before : List Occurrence) (old new : Configuration) (subsystem nsids : List ℕ) → AreChangedBy old new subsystem nsids
       → changed_nsids (edited old new ∷ before) subsystem ≡ with_nsids nsids (changed_nsids before subsystem)
+  pub after_changes : (before : List Occurrence) (old new : Configuration) (subsystem : List ℕ)
+      → changed_nsids (edited old new ∷ before) subsystem ≡ with_changes old new subsystem (changed_nsids before subsystem)
   pub come_back : (before : List Occurrence) (old new : Configuration) (subsystem : List ℕ) (nsid : ℕ) → changes_namespace old new subsystem nsid ≡ true
       → is_changed (edited new old ∷ edited old new ∷ before) subsystem nsid ≡ true

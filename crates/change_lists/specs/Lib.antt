@@ -2,3 +2,4 @@ pub mod ActiveList
 pub mod ActiveView
 pub mod ChangedSet
 pub mod Changes
+pub mod Tables

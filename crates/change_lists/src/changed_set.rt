@@ -1,15 +1,17 @@
 //! The namespaces that changed since a host last read which, and the Changed Namespace List (Base 2.0,
 //! section 5.16.1.5).
-ghost use Rattle.std.specs.Prelude.{◌≡◌, [], false, length, nat_lt, slice_index_or, slice_set, true};
+ghost use Rattle.std.specs.Prelude.{◌≡◌, [], ◌||◌, false, length, nat_lt, slice_index_or, slice_set, true};
+ghost use Rattle.std.specs.List.{list_any};
 ghost use Rattle.change_lists.specs.ChangedSet.{changed_page, empties, nsids_where, with_nsid};
-ghost use Rattle.change_lists.specs.Changes.{ChangesAreNoted};
+ghost use Rattle.change_lists.specs.Changes.{ChangesAreNoted, changes_namespaces, with_changes};
+ghost use Rattle.change_lists.specs.Tables.{differs};
 ghost use Rattle.nvt_fields.specs.Window.{window};
 
+use crate::differences::is_same;
+use config_tables::{NSID_END, NamespaceTable};
+use nvt_config::Config;
 use nvt_fields::write_part;
 use std::marker::Model;
-
-// One more than the greatest identifier that a namespace may have.
-const NSID_END: u32 = 1_025;
 
 // How many bytes an identifier has.
 const NSID_LEN: u64 = 4;
@@ -51,6 +53,17 @@ impl ChangedSet {
         mark(&mut self.has, nsid);
     }
 
+    /// Notes each namespace of the subsystem whose size, block size, UUID or presence an edit changes, from
+    /// one configuration to the next; whether there is one.
+    pub fn note_changes(&mut self, old: &Config, new: &Config, subsystem: &[u8]) -> bool
+        ensures changed { result ≡ changes_namespaces old.now new.now subsystem.now }
+        ensures noted { self.new ≡ with_changes old.now new.now subsystem.now self.old }
+    {
+        let before = NamespaceTable::of(old.namespaces(), subsystem);
+        let after = NamespaceTable::of(new.namespaces(), subsystem);
+        mark_changes(&mut self.has, &before, &after)
+    }
+
     /// Fills `out` with the list from an offset on: 4,096 bytes, the identifiers rising, 4 bytes each,
     /// and zeros after them and past the end.
     pub fn page(&self, offset: u64, out: &mut [u8])
@@ -59,12 +72,19 @@ impl ChangedSet {
         write_marked(out, offset, &self.has);
     }
 
+    /// How many bytes the list has: 4,096, whatever the set has.
+    pub fn len(&self) -> u64
+        ensures { result ≡ length (changed_page self.now) }
+    {
+        let _ = &self.has;
+        PAGE_LEN
+    }
+
     /// Whether an offset is past the end of the list.
     pub fn is_past_end(&self, offset: u64) -> bool
         ensures { result ≡ nat_lt (length (changed_page self.now)) offset }
     {
-        let _ = &self.has;
-        offset > PAGE_LEN
+        offset > self.len()
     }
 
     /// Empties the set.
@@ -83,6 +103,26 @@ fn mark(has: &mut [bool], nsid: u32)
     if at < has.len() {
         has[at] = true;
     }
+}
+
+// Marks the places of the namespaces that are others after than before; whether there is one.
+fn mark_changes(
+    has: &mut [bool; NSID_END as usize],
+    before: &NamespaceTable<'_>,
+    after: &NamespaceTable<'_>,
+) -> bool
+    ensures changed { result ≡ list_any (λ _. true) (nsids_where (differs before.now after.now)) }
+    ensures marked { nsids_where (λ n. slice_index_or has.new n false)
+        ≡ nsids_where (λ n. differs before.now after.now n || slice_index_or has.old n false) }
+{
+    let mut changed = false;
+    for nsid in 1..NSID_END {
+        if !is_same(before.get(nsid), after.get(nsid)) {
+            has[nsid as usize] = true;
+            changed = true;
+        }
+    }
+    changed
 }
 
 // Fills `out` with the list of the identifiers from 1 on that are marked, from an offset on.

@@ -5,6 +5,7 @@
 pub mod active_list;
 pub mod active_view;
 pub mod changed_set;
+mod differences;
 
 pub use active_view::{ActiveView, Plan};
 pub use changed_set::{ChangedSet, empties};

@@ -1,5 +1,5 @@
 -- A discovery view, as its callers see it: the records that each host is shown, and how often they changed.
-use Rattle.std.specs.Prelude.{◌≡◌, ℕ, ◌+◌, ◌%◌, ◌^◌, List, [], ◌∷◌, if◌then◌else◌}
+use Rattle.std.specs.Prelude.{◌≡◌, ℕ, ◌+◌, ◌%◌, ◌^◌, Bool, not, List, [], ◌∷◌, if◌then◌else◌}
 use Rattle.config_rules.specs.Configuration.{Configuration}
 use Rattle.discovery_view.specs.Page.{discovery_page}
 use Rattle.discovery_view.specs.Record.{Parts, same_records}
@@ -16,7 +16,11 @@ pub record ViewState : Type 0 where
   pub shown : Shown
   pub room : ℕ
 
--- 1 where a change from one configuration to another changes the host's records
+-- whether a change from one configuration to another changes the host's records
+abbrev pub changes_discovery : Configuration → Configuration → List ℕ → Bool
+changes_discovery old new host = not (same_records (records_of old host) (records_of new host))
+
+-- 1 where it does
 abbrev pub changes_records : Configuration → Configuration → List ℕ → ℕ
 changes_records old new host = if same_records (records_of old host) (records_of new host) then 0 else 1
 

@@ -2,6 +2,7 @@
 //! edits changed them, and the page's bytes from any offset. It knows no connection and no command.
 #![tactic(auto)]
 
+pub mod changes;
 mod entry;
 pub mod laws;
 mod listing;
@@ -12,4 +13,5 @@ mod served;
 pub mod view;
 mod walk;
 
+pub use changes::changes_for;
 pub use view::{DiscoveryView, Plan};

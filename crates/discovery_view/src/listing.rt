@@ -75,7 +75,7 @@ impl<'a> Listing<'a> {
     }
 
     /// Whether the records of both tell the same.
-    fn is_same(&self, other: &Listing<'_>) -> bool
+    pub(crate) fn is_same(&self, other: &Listing<'_>) -> bool
         ensures { result ≡ same_records self.now other.now }
     {
         self.walk().eq(other.walk())

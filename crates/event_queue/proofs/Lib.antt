@@ -1,3 +1,4 @@
 pub mod Counting
+pub mod Edits
 pub mod Looking
 pub mod Steps

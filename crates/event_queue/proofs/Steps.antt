@@ -183,7 +183,7 @@ refused (read_page q rae) before full = cc
 refused (set_mask mask) before full = cc
 refused was_reset before full = cc
 
-answered_next : (before : List Happened) (o : Occurrence) → IsAnswered before → IsAnswered (happens before o)
+pub answered_next : (before : List Happened) (o : Occurrence) → IsAnswered before → IsAnswered (happens before o)
 answered_next before o all =
     elim (cases_Bool (is_accepted before o)) [
       | inl room ↦ rw room (refl, room, all)
@@ -194,7 +194,7 @@ answered_by : (calls : List Occurrence) → IsAnswered (happened_by calls)
 answered_by [] = tt
 answered_by (call ∷ before) = answered_next (happened_by before) call (answered_by before)
 
-called_next : (before : List Happened) (o : Occurrence) → IsAnswered before → events_of (happens before o) ≡ called o (events_of before)
+pub called_next : (before : List Happened) (o : Occurrence) → IsAnswered before → events_of (happens before o) ≡ called o (events_of before)
 called_next before o all =
     elim (cases_Bool (is_accepted before o)) [
       | inl room ↦ ap events_of (ap (λ (b : Bool). if b then next before o else before) room) ∙ step o before room (stands before all)

@@ -1,6 +1,7 @@
 -- The events of one controller, and what each call makes of them.
-use Rattle.std.specs.Prelude.{ℕ, ◌+◌, ◌^◌, Bool, false, List, [], ◌∷◌, ◌++◌, length, nat_le, Option, Some, None, Result, Ok, Err, if◌then◌else◌}
+use Rattle.std.specs.Prelude.{ℕ, ◌+◌, ◌^◌, Bool, false, List, [], ◌∷◌, ◌++◌, filter, length, nat_le, Option, Some, None, Result, Ok, Err, if◌then◌else◌}
 use Rattle.std.specs.Option.{option_map}
+use Rattle.event_queue.specs.declared.changes.ViewChanges.{ViewChanges}
 use Rattle.event_queue.specs.declared.completion.Completion.{Completion}
 use Rattle.event_queue.specs.declared.events.LimitExceeded.{LimitExceeded}
 use Rattle.event_queue.specs.declared.kind.EventKind.{EventKind}
@@ -8,7 +9,8 @@ use Rattle.event_queue.specs.declared.kind.EventKind.TheVariants.{Namespace, Ana
 use Rattle.event_queue.specs.declared.notice.KindState.{KindState}
 use Rattle.event_queue.specs.declared.notice.Notice.{Notice}
 use Rattle.event_queue.specs.declared.notice.Notice.TheVariants.{Quiet, Pending, Reported}
-use Rattle.event_queue.specs.Completion.{completion_of}
+use Rattle.event_queue.specs.Changes.{counts_for}
+use Rattle.event_queue.specs.Completion.{completion_of, completions_in}
 use Rattle.event_queue.specs.Kind.{bit_of, is_in_mask}
 use Rattle.event_queue.specs.Notice.{is_pending, takes_change, with_enabled, with_notice}
 
@@ -84,6 +86,28 @@ told_to (cid ∷ rest) kind s = with_notice_of kind Reported (record s { waiting
 
 abbrev pub changed : EventState → EventKind → EventState
 changed s kind = if takes_change (kind_in s kind) then told_to s.waiting kind s else s
+
+-- ---- an edit
+
+-- the kinds for which an edit that changes these views is an event, where these kinds are enabled, in their order
+abbrev pub kinds_told : (EventKind → Bool) → ViewChanges → List EventKind
+kinds_told enabled changes = filter (counts_for enabled changes) (Namespace ∷ Ana ∷ Discovery ∷ [])
+
+-- what changes of what these kinds tell make of the events, one after the other, and their completions
+abbrev pub all_changed : EventState → List EventKind → EventState
+all_changed s [] = s
+all_changed s (kind ∷ kinds) = all_changed (changed s kind) kinds
+
+abbrev pub all_answers : EventState → List EventKind → List Completion
+all_answers s [] = []
+all_answers s (kind ∷ kinds) = completions_in (change_answer s kind) ++ all_answers (changed s kind) kinds
+
+-- of an edit these kinds are those for which it is an event, by what is enabled before it
+abbrev pub edit_answers : EventState → ViewChanges → List Completion
+edit_answers s changes = all_answers s (kinds_told (λ kind. (kind_in s kind).enabled) changes)
+
+abbrev pub after_edit : EventState → ViewChanges → EventState
+after_edit s changes = all_changed s (kinds_told (λ kind. (kind_in s kind).enabled) changes)
 
 -- ---- a read of its log page
 

@@ -7,9 +7,9 @@ use Rattle.event_queue.specs.declared.kind.EventKind.{EventKind}
 use Rattle.event_queue.specs.declared.kind.EventKind.TheVariants.{Namespace, Ana}
 use Rattle.event_queue.specs.Changes.{counts_for}
 use Rattle.event_queue.specs.Completion.{tells}
-use Rattle.event_queue.specs.Events.{EventState, after_read, change_answer, changed, configured, events_at_connect, request_answer, requested}
+use Rattle.event_queue.specs.Events.{EventState, after_edit, after_read, change_answer, changed, configured, edit_answers, events_at_connect, request_answer, requested}
 use Rattle.event_queue.specs.Occurrence.{Occurrence, accepted, arose, read_page, set_mask, was_reset}
-use Rattle.event_queue.specs.Told.{Happened, IsAnswered, answer_to, events_of, is_accepted, is_told, is_to_tell, waits_of}
+use Rattle.event_queue.specs.Told.{Happened, IsAnswered, answer_to, edit_after, edit_sends, events_of, is_accepted, is_told, is_to_tell, waits_of}
 
 -- what the call of an occurrence makes of the events
 abbrev pub called : Occurrence → EventState → EventState
@@ -68,3 +68,10 @@ pub record OneChangeIsOneEvent : Type 0 where
   pub never_both : (enabled : EventKind → Bool) (x : ViewChanges) → (counts_for enabled x Namespace && counts_for enabled x Ana) ≡ false
   pub one : (enabled : EventKind → Bool) (x : ViewChanges) → x.ana ≡ true → enabled Ana ≡ true
       → (counts_for enabled x Namespace || counts_for enabled x Ana) ≡ true
+
+-- Whatever happened: an edit makes of the events, and sends, what a look-back says over an occurrence for each kind
+-- that it is an event for.
+pub record EditsAreTold : Type 0 where
+  pub answered : (before : List Happened) (x : ViewChanges) → IsAnswered before → IsAnswered (edit_after before x)
+  pub after : (before : List Happened) (x : ViewChanges) → IsAnswered before → events_of (edit_after before x) ≡ after_edit (events_of before) x
+  pub sent : (before : List Happened) (x : ViewChanges) → IsAnswered before → edit_sends before x ≡ edit_answers (events_of before) x

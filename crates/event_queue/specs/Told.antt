@@ -3,14 +3,15 @@
 -- anything.
 use Rattle.std.specs.Prelude.{◌≡◌, ℕ, ◌+◌, Bool, true, false, not, ◌||◌, ◌&&◌, List, [], ◌∷◌, ◌++◌, drop, length, nat_le, IsTrue, Option, Some, None, if◌then◌else◌}
 use Rattle.std.specs.Option.{option_map}
+use Rattle.event_queue.specs.declared.changes.ViewChanges.{ViewChanges}
 use Rattle.event_queue.specs.declared.completion.Completion.{Completion}
 use Rattle.event_queue.specs.declared.kind.EventKind.{EventKind}
 use Rattle.event_queue.specs.declared.kind.EventKind.TheVariants.{Namespace, Ana, Discovery}
 use Rattle.event_queue.specs.declared.notice.KindState.{KindState}
 use Rattle.event_queue.specs.declared.notice.Notice.{Notice}
 use Rattle.event_queue.specs.declared.notice.Notice.TheVariants.{Quiet, Pending, Reported}
-use Rattle.event_queue.specs.Completion.{completion_of, tells}
-use Rattle.event_queue.specs.Events.{EventState, first_of}
+use Rattle.event_queue.specs.Completion.{completion_of, completions_in, tells}
+use Rattle.event_queue.specs.Events.{EventState, first_of, kinds_told}
 use Rattle.event_queue.specs.Occurrence.{Occurrence, accepted, arises, arose, enables, quiets, read_page, request_in, resets, set_mask, was_reset}
 
 -- an occurrence, and the completion that was sent at it
@@ -97,6 +98,27 @@ is_accepted before was_reset = true
 abbrev pub IsAnswered : List Happened → Type 0
 IsAnswered [] = Unit {0}
 IsAnswered (x ∷ before) = (x.answer ≡ answer_to before x.occurrence) × IsTrue (is_accepted before x.occurrence) × IsAnswered before
+
+-- ---- an edit
+
+-- what happened, and then a change of what each of these kinds tells, one after the other
+abbrev pub arose_after : List Happened → List EventKind → List Happened
+arose_after before [] = before
+arose_after before (kind ∷ kinds) = arose_after (record { occurrence = arose kind; answer = answer_to before (arose kind) } ∷ before) kinds
+
+-- the completions that these send
+abbrev pub sent_after : List Happened → List EventKind → List Completion
+sent_after before [] = []
+sent_after before (kind ∷ kinds) =
+    completions_in (answer_to before (arose kind)) ++ sent_after (record { occurrence = arose kind; answer = answer_to before (arose kind) } ∷ before) kinds
+
+-- what happened, and then an edit that changes these views: it is an occurrence for each kind that it is an event for
+abbrev pub edit_after : List Happened → ViewChanges → List Happened
+edit_after before changes = arose_after before (kinds_told (is_enabled before) changes)
+
+-- the completions that it sends
+abbrev pub edit_sends : List Happened → ViewChanges → List Completion
+edit_sends before changes = sent_after before (kinds_told (is_enabled before) changes)
 
 -- ---- all of it
 

@@ -5,7 +5,7 @@ ghost use Rattle.event_queue.specs.Completion.{completion_of};
 use crate::kind::EventKind;
 
 /// That a request is completed, with success.
-#[derive(Clone, Copy, PartialEq, Eq)]
+#[derive(Clone, Copy, Default, PartialEq, Eq)]
 pub struct Completion {
     /// The command identifier of the request.
     pub cid: u16,

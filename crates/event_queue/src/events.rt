@@ -3,6 +3,7 @@ ghost use Rattle.std.specs.Prelude.{◌≡◌, drop};
 ghost use Rattle.event_queue.specs.Events.{bit_where, first_of};
 
 use crate::changes::ViewChanges;
+use crate::completing::Completing;
 use crate::completion::Completion;
 use crate::kind::EventKind;
 use crate::notice::{KindState, Notice};
@@ -42,9 +43,12 @@ impl Model for Events {
 }
 
 impl Events {
+    ghost use Rattle.std.specs.Prelude.{None, if◌then◌else◌, length, nat_eq};
+    ghost use Rattle.std.specs.List.{list_any};
     ghost use Rattle.event_queue.specs.Changes.{counts_for};
-    ghost use Rattle.event_queue.specs.Events.{after_read, change_answer, changed, configured};
-    ghost use Rattle.event_queue.specs.Events.{events_at_connect, first_pending, kind_in, mask_in};
+    ghost use Rattle.event_queue.specs.Events.{after_edit, after_read, change_answer, changed};
+    ghost use Rattle.event_queue.specs.Events.{configured, edit_answers, events_at_connect};
+    ghost use Rattle.event_queue.specs.Events.{first_pending, kind_in, mask_in};
     ghost use Rattle.event_queue.specs.Events.{request_answer, requested, with_notice_of};
 
     /// The events of a controller that a Connect has just made: no request waits, no kind is enabled,
@@ -67,19 +71,39 @@ impl Events {
         ensures result { result ≡ request_answer self.old cid }
         ensures after { self.new ≡ requested self.old cid }
     {
+        let answer = self.answer_to(cid)?;
+        match self.first_pending() {
+            Some(kind) => self.set_notice(kind, Notice::Reported),
+            None => self.waiting.push(cid),
+        }
+        Ok(answer)
+    }
+
+    /// What a request of this command identifier would be answered now (`request`). Nothing changes.
+    pub fn answer_to(&self, cid: u16) -> Result<Option<Completion>, LimitExceeded>
+        ensures { result ≡ request_answer self.now cid }
+    {
         if self.waiting.is_full() {
             return Err(LimitExceeded);
         }
-        match self.first_pending() {
-            Some(kind) => {
-                self.set_notice(kind, Notice::Reported);
-                Ok(Some(Completion::new(cid, kind)))
-            }
-            None => {
-                self.waiting.push(cid);
-                Ok(None)
-            }
-        }
+        Ok(match self.first_pending() {
+            Some(kind) => Some(Completion::new(cid, kind)),
+            None => None,
+        })
+    }
+
+    /// How many requests wait: at most 4.
+    pub fn waiting(&self) -> usize
+        ensures { result ≡ length self.now.waiting }
+    {
+        self.waiting.len()
+    }
+
+    /// Whether a request of this command identifier waits.
+    pub fn waits(&self, cid: u16) -> bool
+        ensures { result ≡ list_any (nat_eq cid) self.now.waiting }
+    {
+        self.waiting.contains(&cid)
     }
 
     /// What this kind tells has changed, by an edit that is an event for it (`counts`). A kind that is
@@ -119,6 +143,22 @@ impl Events {
         }
     }
 
+    /// An edit has changed these views. Each kind for which that is an event (`counts`) arises
+    /// (`arise`), in the order of `EventKind::ALL`. Answers the completions to send, in that order.
+    pub fn edited(&mut self, changes: ViewChanges) -> Completing
+        ensures result { result ≡ edit_answers self.old changes }
+        ensures after { self.new ≡ after_edit self.old changes }
+    {
+        // One kind's event enables no other kind, so each is asked for before the first arises.
+        let namespace = self.counts(EventKind::Namespace, changes);
+        let ana = self.counts(EventKind::Ana, changes);
+        let discovery = self.counts(EventKind::Discovery, changes);
+        let by_namespace = self.arise_where(namespace, EventKind::Namespace);
+        let by_ana = self.arise_where(ana, EventKind::Ana);
+        let by_discovery = self.arise_where(discovery, EventKind::Discovery);
+        Completing::of(by_namespace, by_ana, by_discovery)
+    }
+
     /// The kind's log page was read, with this value of RAE (Retain Asynchronous Event: Base 2.0,
     /// section 5.16): any part of it with RAE 0 makes the kind quiet, and with RAE 1 none does.
     pub fn read(&mut self, kind: EventKind, rae: bool)
@@ -153,6 +193,14 @@ impl Events {
         ensures { self.new ≡ events_at_connect }
     {
         *self = Events::new();
+    }
+
+    // The kind arises, where that is so.
+    fn arise_where(&mut self, arises: bool, kind: EventKind) -> Option<Completion>
+        ensures result { result ≡ (if arises then change_answer self.old kind else None) }
+        ensures after { self.new ≡ (if arises then changed self.old kind else self.old) }
+    {
+        if arises { self.arise(kind) } else { None }
     }
 
     // The first kind that is pending.

@@ -4,6 +4,7 @@
 #![tactic(auto)]
 
 pub mod changes;
+pub mod completing;
 pub mod completion;
 pub mod events;
 pub mod kind;
@@ -11,7 +12,10 @@ pub mod laws;
 pub mod notice;
 
 pub use changes::ViewChanges;
+pub use completing::Completing;
 pub use completion::Completion;
 pub use events::{Events, LimitExceeded};
 pub use kind::EventKind;
-pub use laws::{one_change_is_one_event, told_as_it_happened, told_once_to_the_oldest};
+pub use laws::{
+    edits_are_told, one_change_is_one_event, told_as_it_happened, told_once_to_the_oldest,
+};

@@ -1,6 +1,6 @@
 -- A command capsule, by its submission queue entry and the data that it brings (Base 2.0, sections 5
 -- and 6).
-use Rattle.std.specs.Prelude.{ℕ, ◌+◌, nat_le, min, Bool, false, not, ◌==◌, ◌&&◌, ◌||◌, List, length, Option, Some, None, Result, Ok, Err, if◌then◌else◌}
+use Rattle.std.specs.Prelude.{ℕ, ◌+◌, nat_eq, nat_le, min, Bool, false, not, ◌==◌, ◌&&◌, ◌||◌, List, length, Option, Some, None, Result, Ok, Err, if◌then◌else◌}
 use Rattle.admin_queue.specs.declared.outcome.Accepted.TheVariants as accepted
 use Rattle.admin_queue.specs.Commands.{admin}
 use Rattle.admin_queue.specs.Controller.{AdminController}
@@ -12,7 +12,7 @@ use Rattle.io_queue.specs.declared.beginning.Begun.TheVariants.{Perform, Receive
 use Rattle.io_queue.specs.declared.operation.Operation.{Operation}
 use Rattle.io_queue.specs.Beginning.{begin as io_begin}
 use Rattle.io_queue.specs.Finishing.{finish as io_finish}
-use Rattle.event_queue.specs.Events.{is_waiting}
+use Rattle.std.specs.List.{list_any}
 use Rattle.notices.specs.Notices.{NoticeState}
 use Rattle.nvt_fields.specs.declared.status.Status.{Status}
 use Rattle.nvt_fields.specs.Status.{command_id_conflict, command_sequence_error, invalid_field}
@@ -186,7 +186,7 @@ outstanding v tags = count_of tags + length v.notices.events.waiting
 
 -- .. whether one of them has this identifier
 abbrev pub is_outstanding : ConnectionState → Tags → ℕ → Bool
-is_outstanding v tags cid = has_command tags cid || is_waiting v.notices.events cid
+is_outstanding v tags cid = has_command tags cid || list_any (nat_eq cid) v.notices.events.waiting
 
 -- what a command comes to, by its entry and the data in its capsule: its identifier may be that of none that is
 -- outstanding

@@ -3,7 +3,7 @@ use Rattle.std.specs.Prelude.{ℕ, List, [], ◌∷◌, ◌++◌}
 use Rattle.config_rules.specs.Configuration.{Configuration}
 use Rattle.event_queue.specs.declared.completion.Completion.{Completion}
 use Rattle.notices.specs.Notices.{tell_answers, told}
-use Rattle.notices.specs.Viewer.{Viewer}
+use Rattle.notices.specs.Viewer.{Views}
 use Rattle.nvt_fields.specs.Status.{success}
 use Rattle.pdu_codec.specs.CapsuleResp.{capsule_resp}
 use Rattle.target_decision.specs.declared.session.ConnectionState.{ConnectionState}
@@ -25,12 +25,12 @@ completed_in session [] = session
 completed_in session (c ∷ rest) = completed_in (responded_in session) rest
 
 -- what an edit from one configuration to another sends on the admin queue of a controller that shows this
-abbrev pub told_pdus : Configuration → Configuration → Viewer → ConnectionState → List ℕ
-told_pdus old new viewer v = completion_pdus v.session (tell_answers old new viewer v.notices)
+abbrev pub told_pdus : Configuration → Configuration → Views → ConnectionState → List ℕ
+told_pdus old new views v = completion_pdus v.session (tell_answers old new views v.notices)
 
 -- .. and where it leaves that
-abbrev pub told_after : Configuration → Configuration → Viewer → ConnectionState → ConnectionState
-told_after old new viewer v = record v {
-  session = completed_in v.session (tell_answers old new viewer v.notices);
-  notices = told old new viewer v.notices;
+abbrev pub told_after : Configuration → Configuration → Views → ConnectionState → ConnectionState
+told_after old new views v = record v {
+  session = completed_in v.session (tell_answers old new views v.notices);
+  notices = told old new views v.notices;
 }

@@ -232,8 +232,7 @@ fn head_after(session: &Session, consequence: &Consequence) -> u16
     match (session, consequence) {
         (_, Consequence::Begin(beginning)) => next_head(beginning.sqsize, 0),
         (_, Consequence::Join(joining)) => next_head(joining.sqsize, 0),
-        (Session::Connected { queue, .. }, _) => queue.next_head(),
-        _ => 0,
+        _ => session.head_counted(),
     }
 }
 

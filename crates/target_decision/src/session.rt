@@ -1,5 +1,6 @@
 //! How far target and host have come on a connection.
 ghost use Rattle.std.specs.Prelude.{◌≡◌};
+ghost use Rattle.target_decision.specs.Capsule.{head_counted};
 ghost use Rattle.target_decision.specs.Queue.{new_queue, responded};
 ghost use Rattle.target_decision.specs.Session.{is_ended, opened_on, replied, responded_in, session_after, turned};
 
@@ -115,6 +116,17 @@ impl Session {
         let mut queue = Queue::new(sqsize);
         queue.responded();
         *self = Session::Connected { role, queue };
+    }
+
+    /// The submission queue head after one more response; a connection without a queue has no head, and
+    /// 0 is sent.
+    pub(crate) fn head_counted(&self) -> u16
+        ensures { result ≡ head_counted self.now }
+    {
+        match self {
+            Session::Connected { queue, .. } => queue.next_head(),
+            Session::Opened | Session::Initialized | Session::Ended => 0,
+        }
     }
 
     pub fn is_ended(&self) -> bool

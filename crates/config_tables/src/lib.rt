@@ -1,0 +1,11 @@
+//! Tables by number of what a configuration has of one subsystem: by NSID its namespaces, and by ANA
+//! group the states that were set for it on a port. Each is taken by one walk over a list of the
+//! configuration, and takes no memory.
+#![tactic(auto)]
+
+pub mod namespaces;
+mod place;
+pub mod states;
+
+pub use namespaces::{NSID_END, NamespaceTable};
+pub use states::{GROUP_END, StateTable};
