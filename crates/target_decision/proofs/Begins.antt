@@ -13,7 +13,7 @@ use Rattle.nvt_fields.specs.declared.pdu_type.PduType.TheVariants.{CapsuleCmd}
 use Rattle.pdu_cut.specs.Front.{Front, whole}
 use Rattle.pdu_cut.specs.Pdu.{Pdu, data_part}
 use Rattle.pdu_codec.specs.Sqe.{cid_of}
-use Rattle.target_decision.specs.declared.capsule.Served.TheVariants.{Answered, Asked}
+use Rattle.target_decision.specs.declared.capsule.Served.TheVariants.{Answered, Asked, Waits}
 use Rattle.target_decision.specs.declared.consequence.Consequence.{Consequence}
 use Rattle.target_decision.specs.declared.consequence.Consequence.TheVariants as consequence
 use Rattle.target_decision.specs.declared.decision.Decision.{Decision}
@@ -37,6 +37,7 @@ IsSoundBy w _ entry bytes = Unit {0}
 abbrev IsSound : World → List ℕ → List ℕ → Outcome → Type 0
 IsSound w entry bytes (Ok (Answered success)) = IsSoundBy w success.consequence entry bytes
 IsSound w entry bytes (Ok (Asked len)) = Unit {0}
+IsSound w entry bytes (Ok Waits) = Unit {0}
 IsSound w entry bytes (Err refusal) = Unit {0}
 
 answer_is : (answer : Result AdmitAs Refusal) (a : AdmitAs) → decision_of answer ≡ Admit a → answer ≡ Ok a
@@ -62,7 +63,8 @@ command_sound w v tags entry bytes = command_is w v entry bytes (IsSound w entry
   admits = λ none a is. admitted_sound w v.port entry bytes a is;
   tells = λ value. tt;
   configures = λ cntlid role s. tt;
-  administers = λ cntlid role s. tt;
+  administers = λ cntlid role c own s is. tt;
+  waits = λ cntlid role c own is. tt;
   performs = λ cntlid qid role port subsystem op is. tt;
   asks = λ cntlid qid role port subsystem len is. tt;
 }) tags
@@ -81,6 +83,7 @@ owed_founds : (w : World) (s : Session) (cid : ℕ) (transfer : Option ℕ) (o :
     → IsSound w (entry_of pdu) (data_part pdu) o → Founds w (whole pdu) (owed s cid transfer o)
 owed_founds w s cid transfer (Ok (Answered success)) pdu is h = begins_founds w success.consequence pdu is h (answered_with s cid transfer success)
 owed_founds w s cid transfer (Ok (Asked len)) pdu is h = (tt, tt)
+owed_founds w s cid transfer (Ok Waits) pdu is h = (tt, tt)
 owed_founds w s cid transfer (Err refusal) pdu is h = (tt, tt)
 
 capsule_founds : (w : World) (v : ConnectionState) (tags : Tags) (front : Front) (pdu : Pdu) → front ≡ whole pdu → pdu.kind ≡ CapsuleCmd

@@ -14,14 +14,14 @@ use Rattle.fabrics_connect.specs.declared.decision.AdmitAs.TheVariants as admit
 use Rattle.pdu_codec.specs.Sqe.{cid_of}
 use Rattle.pdu_cut.specs.Front.{Front, whole}
 use Rattle.pdu_cut.specs.Pdu.{Pdu, data_part}
-use Rattle.target_decision.specs.declared.capsule.Served.TheVariants.{Answered, Asked}
+use Rattle.target_decision.specs.declared.capsule.Served.TheVariants.{Answered, Asked, Waits}
 use Rattle.target_decision.specs.declared.session.ConnectionState.{ConnectionState}
 use Rattle.target_decision.specs.declared.session.Role.{Role}
 use Rattle.target_decision.specs.declared.session.Role.TheVariants.{Io}
 use Rattle.target_decision.specs.declared.session.Session.{Session}
 use Rattle.target_decision.specs.declared.session.Session.TheVariants.{Opened, Initialized, Connected, Ended}
 use Rattle.target_decision.specs.declared.transfer.WaitingCommand.{WaitingCommand}
-use Rattle.target_decision.specs.Capsule.{command, finished, is_full, owed}
+use Rattle.target_decision.specs.Capsule.{command, finished, full_by, is_full, owed}
 use Rattle.target_decision.specs.Carry.{BringsPart, CarriesWell, IsCapsule, bytes_in}
 use Rattle.target_decision.specs.Connect.{admitted}
 use Rattle.target_decision.specs.Decision.{decide, entry_of}
@@ -56,36 +56,39 @@ data_ends part pdu p answers =
 -- ---- what is decided
 
 -- a queue that is not full has fewer than 63 commands outstanding
-has_room : (s : Session) (tags : Tags) (role : Role) → role_in s ≡ Some role → is_full s tags ≡ false → count_of tags < 63
-has_room Opened tags role is room = cc
-has_room Initialized tags role is room = cc
-has_room (Connected r queue) tags role is room = grind (arith, nat_tests)
-has_room Ended tags role is room = cc
+has_room : (s : Session) (count waiting : ℕ) (role : Role) → role_in s ≡ Some role → full_by s (count + waiting) ≡ false → count < 63
+has_room Opened count waiting role is room = cc
+has_room Initialized count waiting role is room = cc
+has_room (Connected r queue) count waiting role is room = grind (arith, nat_tests)
+has_room Ended count waiting role is room = cc
 
 abbrev AsksWell : Tags → Outcome → Type 0
 AsksWell tags (Ok (Asked len)) = count_of tags < 63
 AsksWell tags (Ok (Answered success)) = Unit {0}
+AsksWell tags (Ok Waits) = Unit {0}
 AsksWell tags (Err refusal) = Unit {0}
 
 admitted_asks : (tags : Tags) (a : AdmitAs) (entry : List ℕ) → AsksWell tags (admitted a entry)
 admitted_asks tags (admit.Queue cntlid qid) entry = tt
 admitted_asks tags (admit.Controller new) entry = tt
 
-command_asks : (w : World) (v : ConnectionState) (tags : Tags) (entry bytes : List ℕ) → is_full v.session tags ≡ false → AsksWell tags (command w v tags entry bytes)
+command_asks : (w : World) (v : ConnectionState) (tags : Tags) (entry bytes : List ℕ) → is_full v tags ≡ false → AsksWell tags (command w v tags entry bytes)
 command_asks w v tags entry bytes room = command_is w v entry bytes (AsksWell tags) (record {
   refuses = λ r. tt;
   admits = λ none a is. admitted_asks tags a entry;
   tells = λ value. tt;
   configures = λ cntlid role s. tt;
-  administers = λ cntlid role s. tt;
+  administers = λ cntlid role c own s is. tt;
+  waits = λ cntlid role c own is. tt;
   performs = λ cntlid qid role port subsystem op is. tt;
-  asks = λ cntlid qid role port subsystem len is. has_room v.session tags (Io cntlid qid) role room;
+  asks = λ cntlid qid role port subsystem len is. has_room v.session (count_of tags) (length v.notices.events.waiting) (Io cntlid qid) role room;
 }) tags
 
 owed_carries : (s : Session) (cid : ℕ) (o : Outcome) (tags : Tags) (front : Front) → IsCapsule front → AsksWell tags o
     → CarriesWell tags (owed s cid None o) front
 owed_carries s cid (Ok (Answered success)) tags front capsule h = tt
 owed_carries s cid (Ok (Asked len)) tags front capsule h = (h, capsule)
+owed_carries s cid (Ok Waits) tags front capsule h = tt
 owed_carries s cid (Err refusal) tags front capsule h = tt
 
 brings_part : (tags : Tags) (front : Front) (pdu : Pdu) (part : Part WaitingCommand) (p : Progress) → Brings tags front pdu part p

@@ -2,6 +2,7 @@
 -- of whatever is decided: a law of decisions is shown of these cases, and knows no table of commands.
 use Rattle.std.proofs.Common.{◌≡◌, ℕ, Bool, true, false, ◌&&◌, List, Option, Some, None, Result, Ok, Err, refl, ap}
 use Rattle.std.specs.Prelude.{if◌then◌else◌, not, ◌==◌, ◌+◌, nat_lt, length}
+use Rattle.admin_queue.specs.declared.outcome.Accepted.TheVariants as accepted
 use Rattle.admin_queue.specs.declared.outcome.Success.{Success as AdminSuccess}
 use Rattle.admin_queue.specs.Commands.{admin}
 use Rattle.admin_queue.specs.Controller.{AdminController}
@@ -10,7 +11,6 @@ use Rattle.data_transfer.specs.declared.transfer.Progress.{Progress}
 use Rattle.data_transfer.specs.declared.transfer.Progress.TheVariants as progress
 use Rattle.data_transfer.specs.declared.fault.DataFault.{DataFault}
 use Rattle.data_transfer.specs.Part.{Part, data_answer}
-use Rattle.data_transfer.specs.Parts.{has_command}
 use Rattle.fabrics_connect.specs.declared.decision.AdmitAs.{AdmitAs}
 use Rattle.fabrics_connect.specs.declared.decision.Decision as connect_decision
 use Rattle.fabrics_connect.specs.declared.decision.Decision.TheVariants.{Admit, Deny}
@@ -33,7 +33,7 @@ use Rattle.pdu_cut.specs.Pdu.{Pdu, data_part, header_part}
 use Rattle.property_regs.specs.declared.regs.InvalidField.{InvalidField}
 use Rattle.property_regs.specs.declared.regs.Regs.{Regs}
 use Rattle.property_regs.specs.Regs.{configuration_set, property_get}
-use Rattle.target_decision.specs.declared.capsule.Served.TheVariants.{Answered, Asked}
+use Rattle.target_decision.specs.declared.capsule.Served.TheVariants.{Answered, Asked, Waits}
 use Rattle.target_decision.specs.declared.capsule.Refusal.{Refusal}
 use Rattle.target_decision.specs.declared.consequence.ConfigurationSet.{ConfigurationSet}
 use Rattle.target_decision.specs.declared.consequence.Consequence.TheVariants as consequence
@@ -49,11 +49,11 @@ use Rattle.target_decision.specs.declared.session.Session.{Session}
 use Rattle.target_decision.specs.declared.session.Session.TheVariants.{Opened, Initialized, Connected, Ended}
 use Rattle.target_decision.specs.declared.transfer.WaitingCommand.{WaitingCommand}
 use Rattle.target_decision.specs.Alignment.{aligned}
-use Rattle.target_decision.specs.Capsule.{admin_answered, admin_by, answered_with, command, command_in, command_on, connect_type, fabrics_command, fabrics_opcode, finished, finished_by, finished_of, first_command, given_by, head_after, io_begun, io_by, io_finished, io_of, is_full, is_ready_at, owed, property_get_of, property_get_type, property_set_of, property_set_type, queue_command, refused_with, set_by}
+use Rattle.target_decision.specs.Capsule.{admin_answered, admin_by, answered_with, command, command_in, command_on, connect_type, fabrics_command, fabrics_opcode, finished, finished_by, finished_of, first_command, given_by, head_after, io_begun, io_by, io_finished, io_of, is_full, is_outstanding, is_ready_at, owed, property_get_of, property_get_type, property_set_of, property_set_type, queue_command, refused_with, set_by}
 use Rattle.target_decision.specs.Connect.{admitted, answered, connect_on}
 use Rattle.target_decision.specs.Controller.{registers_at}
 use Rattle.target_decision.specs.Decision.{decide, decide_in, entry_of, first_by, initialize_by, next_by, received_by, terminate}
-use Rattle.target_decision.specs.Outcome.{Outcome, asked, done, given, performed, refused}
+use Rattle.target_decision.specs.Outcome.{Outcome, asked, done, given, performed, refused, waits}
 use Rattle.target_decision.specs.Session.{role_in}
 use Rattle.target_decision.specs.Transfer.{Tags, h2c_of, head_in}
 use Rattle.target_decision.specs.World.{World, admin_controller}
@@ -66,15 +66,18 @@ either P false a b h k = k
 
 -- What a command on a connection may come to, by its entry and the data in its capsule: it is refused; a Connect on a
 -- connection that is no queue yet is admitted; a Property Get tells a value; on an admin queue Controller Configuration is
--- set, or an admin command has its effect; on an I/O queue an operation is to be performed, or data are asked for.
+-- set, or an admin command has its effect, or waits; on an I/O queue an operation is to be performed, or data are asked for.
 pub record Commands (w : World) (v : ConnectionState) (entry bytes : List ℕ) (P : Outcome → Type 0) : Type 0 where
   pub refuses : (r : Refusal) → P (Err r)
   pub admits : role_in v.session ≡ None → (a : AdmitAs) → connect w.config w.row v.port entry bytes ≡ Admit a → P (admitted a entry)
   pub tells : (value : ℕ) → P (done value consequence.Nothing)
   pub configures : (cntlid : ℕ) → role_in v.session ≡ Some (Admin cntlid) → (s : ConfigurationSet)
       → P (done 0 (consequence.Update cntlid (update.Configuration s)))
-  pub administers : (cntlid : ℕ) → role_in v.session ≡ Some (Admin cntlid) → (s : AdminSuccess)
+  pub administers : (cntlid : ℕ) → role_in v.session ≡ Some (Admin cntlid) → (c : AdminController) → admin_controller w v.notices cntlid ≡ Some c
+      → (s : AdminSuccess) → admin w.pages w.config c entry ≡ Ok (accepted.Answered s)
       → P (given s.result s.payload (consequence.Update cntlid (update.Command s.effect)))
+  pub waits : (cntlid : ℕ) → role_in v.session ≡ Some (Admin cntlid) → (c : AdminController) → admin_controller w v.notices cntlid ≡ Some c
+      → admin w.pages w.config c entry ≡ Ok accepted.Waits → P waits
   pub performs : (cntlid qid : ℕ) → role_in v.session ≡ Some (Io cntlid qid) → (port : ℕ) (subsystem : List ℕ) (op : Operation)
       → io_begin w.config port subsystem entry (length bytes) ≡ Ok (Perform op) → P (performed op)
   pub asks : (cntlid qid : ℕ) → role_in v.session ≡ Some (Io cntlid qid) → (port : ℕ) (subsystem : List ℕ) (len : ℕ)
@@ -111,15 +114,19 @@ module _ (w : World) (v : ConnectionState) (entry bytes : List ℕ) (P : Outcome
       (either P (fctype_of entry == connect_type) (refused command_sequence_error) _ (refused_by command_sequence_error)
       (either P (fctype_of entry == property_get_type) (property_get_of registers p) (refused invalid_field) gets (refused_by invalid_field)))
 
-  effect_is : (cntlid : ℕ) → role_in v.session ≡ Some (Admin cntlid) → (o : AdminOutcome) → P (admin_answered cntlid o)
-  effect_is cntlid role (Ok s) = cases.administers cntlid role s
-  effect_is cntlid role (Err status) = refused_by status
+  effect_is : (cntlid : ℕ) → role_in v.session ≡ Some (Admin cntlid) → (c : AdminController) → admin_controller w v.notices cntlid ≡ Some c
+      → (o : AdminOutcome) → admin w.pages w.config c entry ≡ o → P (admin_answered cntlid o)
+  effect_is cntlid role c own (Ok (accepted.Answered s)) is = cases.administers cntlid role c own s is
+  effect_is cntlid role c own (Ok accepted.Waits) is = cases.waits cntlid role c own is
+  effect_is cntlid role c own (Err status) is = refused_by status
 
-  admin_is : (cntlid : ℕ) → role_in v.session ≡ Some (Admin cntlid) → (ready : Bool) (o : Option AdminController) → P (admin_by ready o w cntlid entry)
-  admin_is cntlid role ready None = refused_by command_sequence_error
-  admin_is cntlid role ready (Some c) =
+  admin_is : (cntlid : ℕ) → role_in v.session ≡ Some (Admin cntlid) → (ready : Bool) (o : Option AdminController) → admin_controller w v.notices cntlid ≡ o
+      → P (admin_by ready o w cntlid entry)
+  admin_is cntlid role ready None own = refused_by command_sequence_error
+  admin_is cntlid role ready (Some c) own =
       let outcome = admin w.pages w.config c entry in
-      either P (not ready) (refused command_sequence_error) (admin_answered cntlid outcome) (refused_by command_sequence_error) (effect_is cntlid role outcome)
+      either P (not ready) (refused command_sequence_error) (admin_answered cntlid outcome) (refused_by command_sequence_error)
+      (effect_is cntlid role c own outcome refl)
 
   operation_is : (cntlid qid : ℕ) → role_in v.session ≡ Some (Io cntlid qid) → (port : ℕ) (subsystem : List ℕ) (o : Result Begun Status)
       → io_begin w.config port subsystem entry (length bytes) ≡ o → P (io_begun o)
@@ -139,18 +146,18 @@ module _ (w : World) (v : ConnectionState) (entry bytes : List ℕ) (P : Outcome
       either P (not row.ready) (refused command_sequence_error) (io_of row.subsystem row.port w entry (length bytes))
       (refused_by command_sequence_error) (io_of_is cntlid qid role row.subsystem row.port)
 
-  queue_is : (role : Role) → role_in v.session ≡ Some role → P (queue_command w role entry bytes)
+  queue_is : (role : Role) → role_in v.session ≡ Some role → P (queue_command w v.notices role entry bytes)
   queue_is (Admin cntlid) is =
       either P (opcode_of entry == fabrics_opcode) (fabrics_command (registers_at (w.controller cntlid)) cntlid entry) _
       (fabrics_is cntlid is (registers_at (w.controller cntlid)))
-      (admin_is cntlid is (is_ready_at (w.row cntlid)) (admin_controller w cntlid))
+      (admin_is cntlid is (is_ready_at (w.row cntlid)) (admin_controller w v.notices cntlid) refl)
   queue_is (Io cntlid qid) is =
       either P (opcode_of entry == fabrics_opcode) _ (io_by (w.row cntlid) w entry (length bytes))
       (either P (fctype_of entry == connect_type) (refused command_sequence_error) (refused invalid_field)
       (refused_by command_sequence_error) (refused_by invalid_field))
       (io_is cntlid qid is (w.row cntlid))
 
-  in_is : (s : Session) → v.session ≡ s → P (command_in w v.port s entry bytes)
+  in_is : (s : Session) → v.session ≡ s → P (command_in w v s entry bytes)
   in_is Opened is = first_is (ap role_in is)
   in_is Initialized is = first_is (ap role_in is)
   in_is (Connected role queue) is = queue_is role (ap role_in is)
@@ -159,19 +166,20 @@ module _ (w : World) (v : ConnectionState) (entry bytes : List ℕ) (P : Outcome
   -- what a command comes to is one of these
   pub command_is : (tags : Tags) → P (command w v tags entry bytes)
   command_is tags =
-      either P (has_command tags (cid_of entry)) (refused command_id_conflict) (command_on w v entry bytes) (refused_by command_id_conflict)
-      (either P (not (fuse_of entry == 0)) (refused invalid_field) (command_in w v.port v.session entry bytes) (refused_by invalid_field)
+      either P (is_outstanding v tags (cid_of entry)) (refused command_id_conflict) (command_on w v entry bytes) (refused_by command_id_conflict)
+      (either P (not (fuse_of entry == 0)) (refused invalid_field) (command_in w v v.session entry bytes) (refused_by invalid_field)
       (in_is v.session refl))
 
 -- ---- what is owed to it
 
--- that is a reply, which carries the head of its queue and ends this transfer, or a wish for data
+-- that is a reply, which carries the head of its queue and ends this transfer, or a wish for data, or that it waits
 pub owed_is : (P : Decision → Type 0) (s : Session) (cid : ℕ) (transfer : Option ℕ)
     → ((r : Reply) → r.transfer ≡ transfer → r.sqhd ≡ head_after s r.consequence → P (decision.Reply r))
-    → ((len : ℕ) → P (decision.Request (record { cid = cid; len = len }))) → (o : Outcome) → P (owed s cid transfer o)
-owed_is P s cid transfer replies asks (Ok (Answered success)) = replies (answered_with s cid transfer success) refl refl
-owed_is P s cid transfer replies asks (Ok (Asked len)) = asks len
-owed_is P s cid transfer replies asks (Err refusal) = replies (refused_with s cid transfer refusal) refl refl
+    → ((len : ℕ) → P (decision.Request (record { cid = cid; len = len }))) → P (decision.Wait cid) → (o : Outcome) → P (owed s cid transfer o)
+owed_is P s cid transfer replies asks waiting (Ok (Answered success)) = replies (answered_with s cid transfer success) refl refl
+owed_is P s cid transfer replies asks waiting (Ok (Asked len)) = asks len
+owed_is P s cid transfer replies asks waiting (Ok Waits) = waiting
+owed_is P s cid transfer replies asks waiting (Err refusal) = replies (refused_with s cid transfer refusal) refl refl
 
 -- ---- a command whose data have come
 
@@ -222,7 +230,7 @@ pub record Decisions (w : World) (v : ConnectionState) (tags : Tags) (front : Fr
   pub closes : P decision.Close
   pub terminates : (t : Termination) → P (decision.Terminate t)
   pub initializes : v.session ≡ Opened → (alignment : ℕ) → P (decision.Initialize alignment)
-  pub answers : (pdu : Pdu) → front ≡ whole pdu → pdu.kind ≡ CapsuleCmd → is_full v.session tags ≡ false
+  pub answers : (pdu : Pdu) → front ≡ whole pdu → pdu.kind ≡ CapsuleCmd → is_full v tags ≡ false
       → P (owed v.session (cid_of (entry_of pdu)) None (command w v tags (entry_of pdu) (data_part pdu)))
   pub receives : (pdu : Pdu) (part : Part WaitingCommand) → Brings tags front pdu part progress.More → P (decision.Receive (head_in pdu).ttag)
   pub completes : (pdu : Pdu) (part : Part WaitingCommand) → Brings tags front pdu part progress.Whole
@@ -243,7 +251,7 @@ module _ (w : World) (v : ConnectionState) (tags : Tags) (front : Front) (P : De
   first_pdu_is pdu H2cTermReq opened = cases.closes
   first_pdu_is pdu _ opened = cases.terminates _
 
-  capsule_is : (pdu : Pdu) → front ≡ whole pdu → pdu.kind ≡ CapsuleCmd → (full : Bool) → is_full v.session tags ≡ full
+  capsule_is : (pdu : Pdu) → front ≡ whole pdu → pdu.kind ≡ CapsuleCmd → (full : Bool) → is_full v tags ≡ full
       → P (if full then terminate SequenceError 0 else
       owed v.session (cid_of (entry_of pdu)) None (command w v tags (entry_of pdu) (data_part pdu)))
   capsule_is pdu is kind true full = cases.terminates _
@@ -262,7 +270,7 @@ module _ (w : World) (v : ConnectionState) (tags : Tags) (front : Front) (P : De
   next_is pdu H2cTermReq is command = cases.closes
   next_is pdu CapsuleCmd is command =
       either P (nat_lt 8192 (length (data_part pdu))) (terminate LimitExceeded 0) _ (cases.terminates _)
-      (capsule_is pdu is command (is_full v.session tags) refl)
+      (capsule_is pdu is command (is_full v tags) refl)
   next_is pdu H2cData is command =
       received_is pdu is command (tags (head_in pdu).ttag) refl (data_answer (tags (head_in pdu).ttag) (h2c_of pdu)) refl
   next_is pdu _ is command = cases.terminates _

@@ -3,4 +3,5 @@ pub mod Carrying
 pub mod Deciding
 pub mod Performing
 pub mod Pieces
+pub mod Telling
 pub mod Within

@@ -16,7 +16,7 @@ use Rattle.nvt_fields.specs.declared.status.Status.{Status}
 use Rattle.pdu_codec.specs.Sqe.{cid_of}
 use Rattle.pdu_cut.specs.Front.{Front}
 use Rattle.pdu_cut.specs.Pdu.{Pdu, data_part}
-use Rattle.target_decision.specs.declared.capsule.Served.TheVariants.{Answered, Asked}
+use Rattle.target_decision.specs.declared.capsule.Served.TheVariants.{Answered, Asked, Waits}
 use Rattle.target_decision.specs.declared.session.ConnectionState.{ConnectionState}
 use Rattle.target_decision.specs.declared.session.Session.{Session}
 use Rattle.target_decision.specs.declared.transfer.WaitingCommand.{WaitingCommand}
@@ -33,6 +33,7 @@ use Rattle.target_decision.proofs.Deciding.{Brings, command_is, decision_is, fin
 abbrev IsFit : List ℕ → List ℕ → Outcome → Type 0
 IsFit units bytes (Ok (Answered success)) = WithinIn units (operation_in success.answer) bytes
 IsFit units bytes (Ok (Asked len)) = Unit {0}
+IsFit units bytes (Ok Waits) = Unit {0}
 IsFit units bytes (Err refusal) = Unit {0}
 
 admitted_fits : (units : List ℕ) (a : AdmitAs) (entry bytes : List ℕ) → IsFit units bytes (admitted a entry)
@@ -53,7 +54,8 @@ command_fits w v tags entry bytes valid = command_is w v entry bytes (IsFit w.co
   admits = λ none a is. admitted_fits w.config.units a entry bytes;
   tells = λ value. tt;
   configures = λ cntlid role s. tt;
-  administers = λ cntlid role s. tt;
+  administers = λ cntlid role c own s is. tt;
+  waits = λ cntlid role c own is. tt;
   performs = λ cntlid qid role port subsystem op is.
       operation_fits w.config.units _ op (length bytes) is (operation_within w.config port subsystem entry (length bytes) valid);
   asks = λ cntlid qid role port subsystem len is. tt;
@@ -63,6 +65,7 @@ owed_fits : (units : List ℕ) (s : Session) (cid : ℕ) (o : Outcome) (tags : T
     → PerformsWithin units (owed s cid None o) (brought_by tags (owed s cid None o) front)
 owed_fits units s cid (Ok (Answered success)) tags front h = h
 owed_fits units s cid (Ok (Asked len)) tags front h = tt
+owed_fits units s cid (Ok Waits) tags front h = tt
 owed_fits units s cid (Err refusal) tags front h = tt
 
 -- ---- once data have come
@@ -85,6 +88,7 @@ finished_fits : (w : World) (v : ConnectionState) (tags : Tags) (front : Front) 
     (brought_by tags (owed v.session (head_in pdu).cccid (Some (head_in pdu).ttag) o) front)
 finished_fits w v tags front pdu part valid brings (Ok (Answered success)) h = rw (brings.found, brings.is) h
 finished_fits w v tags front pdu part valid brings (Ok (Asked len)) h = tt
+finished_fits w v tags front pdu part valid brings (Ok Waits) h = tt
 finished_fits w v tags front pdu part valid brings (Err refusal) h = tt
 
 finished_within : (w : World) (s : Session) (entry bytes : List ℕ) (came : ℕ) → IsValid w.config → came ≡ length bytes
