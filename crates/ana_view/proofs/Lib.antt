@@ -3,5 +3,4 @@ pub mod Listings
 pub mod Members
 pub mod Numbers
 pub mod Pages
-pub mod Tables
 pub mod Views

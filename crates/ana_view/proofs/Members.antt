@@ -1,5 +1,5 @@
 -- The namespaces in a group, by a table.
-use Rattle.std.proofs.Common.{◌&&◌, ◌-◌, ◌+◌, ◌≡◌, ◌≢◌, ℕ, zero, suc, ◌<◌, ◌≤◌, ◌==◌, Bool, true, false, not, List, [], ◌∷◌, filter, find, length, Option, Some, None, refl, ap, sym, ◌∙◌, arith, inl, inr, length-append}
+use Rattle.std.proofs.Common.{◌&&◌, ◌-◌, ◌+◌, ◌≡◌, ◌≢◌, ℕ, zero, suc, ◌<◌, ◌≤◌, ◌==◌, Bool, true, false, not, List, [], ◌∷◌, filter, find, get_or, length, Option, Some, None, refl, ap, sym, ◌∙◌, arith, inl, inr, length-append}
 use Rattle.std.proofs.Math.Bool.{beq}
 use Rattle.std.proofs.lemmas.Bool.{cases_Bool}
 use Rattle.std.proofs.lemmas.Bool.Decides.{nat_tests}
@@ -15,7 +15,7 @@ use Rattle.config_rules.specs.Configuration.{Configuration}
 use Rattle.config_words.specs.Numbered.{numbers_from}
 use Rattle.ana_view.specs.Group.{are_same, are_same_numbers, descriptor, descriptor_with, is_in_group, members, state_code}
 use Rattle.ana_view.specs.declared.groups.Groups.{Groups}
-use Rattle.ana_view.specs.Tables.{IsTable, descriptor_of, is_group, is_member, nsids_of, state_of}
+use Rattle.ana_view.specs.Tables.{descriptor_of, is_member, nsids_of, state_of}
 use Rattle.ana_view.proofs.Numbers.{dropped_next, few_kept, kept_alike, kept_next}
 
 pub same_is_same : (ns : List ℕ) → are_same_numbers ns ns ≡ true
@@ -65,26 +65,26 @@ kept_apart p q first zero k above below differ = absurd (omega arith)
 kept_apart p q first (suc n) k above below differ =
     apart_first p q first n (p first) (q first) refl refl (λ same. kept_apart p q (suc first) n k (differs_behind p q first k above differ same) (omega arith) differ)
 
-pub members_apart : (old new : Groups) (group k : ℕ) → 1 ≤ k → k ≤ 1024 → is_member old.members k group ≢ is_member new.members k group
+pub members_apart : (old new : Groups) (group k : ℕ) → 1 ≤ k → k ≤ 1024 → is_member old.namespaces k group ≢ is_member new.namespaces k group
     → are_same_numbers (nsids_of old group) (nsids_of new group) ≡ false
 unfolding nsids_of
 members_apart old new group k above below differ =
-    kept_apart (λ n. is_member old.members n group) (λ n. is_member new.members n group) 1 1024 k above (omega arith) differ
+    kept_apart (λ n. is_member old.namespaces n group) (λ n. is_member new.namespaces n group) 1 1024 k above (omega arith) differ
 
-pub members_same : (old new : Groups) (group : ℕ) → ((k : ℕ) → 1 ≤ k → k < 1025 → is_member old.members k group ≡ is_member new.members k group)
+pub members_same : (old new : Groups) (group : ℕ) → ((k : ℕ) → 1 ≤ k → k < 1025 → is_member old.namespaces k group ≡ is_member new.namespaces k group)
     → are_same_numbers (nsids_of old group) (nsids_of new group) ≡ true
 unfolding nsids_of
 members_same old new group same =
-    let alike = kept_alike (λ n. is_member old.members n group) (λ n. is_member new.members n group) 1 1024 (λ k above below. same k above (omega arith)) in
-    rw alike (same_is_same (filter (λ n. is_member new.members n group) (numbers_from 1 1024)))
+    let alike = kept_alike (λ n. is_member old.namespaces n group) (λ n. is_member new.namespaces n group) 1 1024 (λ k above below. same k above (omega arith)) in
+    rw alike (same_is_same (filter (λ n. is_member new.namespaces n group) (numbers_from 1 1024)))
 
 pub few_members : (t : Groups) (group : ℕ) → length (nsids_of t group) ≤ 1024
 unfolding nsids_of
-few_members t group = few_kept (λ n. is_member t.members n group) 1 1024
+few_members t group = few_kept (λ n. is_member t.namespaces n group) 1 1024
 
-pub all_counted : (t : Groups) (group n : ℕ) → n ≡ 1024 → length (filter (λ k. is_member t.members k group) (numbers_from 1 n)) ≡ length (nsids_of t group)
+pub all_counted : (t : Groups) (group n : ℕ) → n ≡ 1024 → length (filter (λ k. is_member t.namespaces k group) (numbers_from 1 n)) ≡ length (nsids_of t group)
 unfolding nsids_of
-all_counted t group n all = ap (λ m. length (filter (λ k. is_member t.members k group) (numbers_from 1 m))) all
+all_counted t group n all = ap (λ m. length (filter (λ k. is_member t.namespaces k group) (numbers_from 1 m))) all
 
 pub told_apart : (a b x y : Bool) → a ≡ x → b ≡ y → not (beq a b) ≡ true → x ≢ y
 told_apart true true x y ax by differ = cc
@@ -94,31 +94,20 @@ told_apart false false x y ax by differ = cc
 
 -- ---- a table is that of a configuration
 
-by_table : (o : Option Namespace) (group : ℕ) → is_group (option_map (λ n. n.group) o) group ≡ is_in_group o group
-by_table None group = refl
-by_table (Some n) group = refl
-
-by_states : (o : Option GroupState) → unwrap_or (option_map (λ s. s.state) o) Optimized ≡ state_or o
-by_states None = refl
-by_states (Some s) = refl
-
-table_members : (c : Configuration) (subsystem : List ℕ) (t : Groups) (group : ℕ) → length t.members ≡ 1025 → IsTable (is_named subsystem) (λ n. n.group) c.namespaces t.members
-    → nsids_of t group ≡ members c subsystem group
+table_members : (c : Configuration) (subsystem : List ℕ) (t : Groups) (group : ℕ)
+    → ((nsid : ℕ) → nsid < 1025 → get_or t.namespaces nsid None ≡ find (is_named subsystem nsid) c.namespaces) → nsids_of t group ≡ members c subsystem group
 unfolding nsids_of members
-table_members c subsystem t group len is =
-    kept_alike (λ n. is_member t.members n group) (λ n. is_in_group (find (is_named subsystem n) c.namespaces) group) 1 1024 (λ k above below.
-    let within : k < length t.members = omega arith in
-    ap (λ o. is_group o group) (is k within) ∙ by_table (find (is_named subsystem k) c.namespaces) group)
+table_members c subsystem t group found =
+    kept_alike (λ n. is_member t.namespaces n group) (λ n. is_in_group (find (is_named subsystem n) c.namespaces) group) 1 1024 (λ k above below.
+    ap (λ o. is_in_group o group) (found k (omega arith)))
 
-pub table_descriptor : (c : Configuration) (subsystem : List ℕ) (port : ℕ) (t : Groups) (group : ℕ) → length t.members ≡ 1025 → length t.states ≡ 33 → group < 33
-    → IsTable (is_named subsystem) (λ n. n.group) c.namespaces t.members → IsTable (is_state_for port subsystem) (λ s. s.state) c.states t.states
+pub table_descriptor : (c : Configuration) (subsystem : List ℕ) (port : ℕ) (t : Groups) (group : ℕ)
+    → ((nsid : ℕ) → nsid < 1025 → get_or t.namespaces nsid None ≡ find (is_named subsystem nsid) c.namespaces)
+    → state_of t group ≡ state_for port subsystem group c.states
     → descriptor_of t group ≡ descriptor c subsystem port group
-table_descriptor c subsystem port t group len wide few named set =
-    let within : group < length t.states = omega arith in
-    let state : state_of t group ≡ state_for port subsystem group c.states =
-    ap (λ o. unwrap_or o Optimized) (set group within) ∙ by_states (find (is_state_for port subsystem group) c.states) in
+table_descriptor c subsystem port t group found state =
     ap (λ s. descriptor_with group s (nsids_of t group)) state
-    ∙ ap (descriptor_with group (state_for port subsystem group c.states)) (table_members c subsystem t group len named)
+    ∙ ap (descriptor_with group (state_for port subsystem group c.states)) (table_members c subsystem t group found)
 
 -- ---- how many there are
 

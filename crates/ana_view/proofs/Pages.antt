@@ -26,9 +26,9 @@ pub nsid_next : (p : ℕ → Bool) (k : ℕ) → 1 ≤ k → p k ≡ true
     → nsid_bytes (filter p (numbers_from 1 (k + 1 - 1))) ≡ nsid_bytes (filter p (numbers_from 1 (k - 1))) ++ to_le_bytes w32 k
 nsid_next p k above there = ap nsid_bytes (kept_next p k above there) ∙ rw (flat_map-append, append-nil) refl
 
-pub all_nsids : (t : Groups) (group n : ℕ) → n ≡ 1024 → filter (λ k. is_member t.members k group) (numbers_from 1 n) ≡ nsids_of t group
+pub all_nsids : (t : Groups) (group n : ℕ) → n ≡ 1024 → filter (λ k. is_member t.namespaces k group) (numbers_from 1 n) ≡ nsids_of t group
 unfolding nsids_of
-all_nsids t group n all = ap (λ m. filter (λ k. is_member t.members k group) (numbers_from 1 m)) all
+all_nsids t group n all = ap (λ m. filter (λ k. is_member t.namespaces k group) (numbers_from 1 m)) all
 
 pub length_of_head : (id count changes state : ℕ) → length (descriptor_head id count changes state) ≡ 32
 unfolding descriptor_head

@@ -4,8 +4,9 @@ ghost use Rattle.ana_view.specs.Counts.{count_after, count_in, for_each_group};
 ghost use Rattle.ana_view.specs.Group.{any_group, changes_ana};
 ghost use Rattle.ana_view.specs.Tables.{group_differs};
 
-use crate::groups::{GROUP_END, Groups};
+use crate::groups::Groups;
 use crate::view::Plan;
+use config_tables::GROUP_END;
 use std::marker::Model;
 
 // How many ANA groups there may be.
@@ -86,7 +87,7 @@ impl AnaCounts {
 }
 
 // Counts each group that is another; whether one is.
-fn count_changes(counts: &mut [u64; GROUPS], old: &Groups, new: &Groups) -> bool
+fn count_changes(counts: &mut [u64; GROUPS], old: &Groups<'_>, new: &Groups<'_>) -> bool
     ensures changed { result ≡ any_group (group_differs old.now new.now) }
     ensures counts { counts.new ≡ for_each_group
         (λ group. count_after (group_differs old.now new.now group) (count_in counts.old group)) }

@@ -7,8 +7,9 @@ ghost use Rattle.ana_view.specs.Page.{ana_page, descriptor_bytes, descriptor_hea
 ghost use Rattle.ana_view.specs.Tables.{listing_of, nsids_of, shown_of, state_of};
 
 use crate::counts::AnaCounts;
-use crate::groups::{GROUP_END, Groups, NSID_END};
+use crate::groups::Groups;
 use crate::state::state_code;
+use config_tables::{GROUP_END, NSID_END};
 use nvt_fields::write_part;
 
 const HEADER_LEN: u64 = 16;
@@ -21,7 +22,7 @@ const NSID_LEN: u64 = 4;
 pub(crate) fn write_page(
     out: &mut [u8],
     offset: u64,
-    groups: &Groups,
+    groups: &Groups<'_>,
     counts: &AnaCounts,
     groups_only: bool,
 )
@@ -43,7 +44,7 @@ pub(crate) fn write_page(
 }
 
 /// The length of the page of these groups, in bytes.
-pub(crate) fn page_len(groups: &Groups, groups_only: bool) -> u64
+pub(crate) fn page_len(groups: &Groups<'_>, groups_only: bool) -> u64
     ensures { (counts : Counts) → result
         ≡ length (ana_page groups_only counts (listing_of groups.now)) }
 {
@@ -59,7 +60,7 @@ pub(crate) fn page_len(groups: &Groups, groups_only: bool) -> u64
 }
 
 // How many groups are listed.
-fn listed(groups: &Groups) -> u16
+fn listed(groups: &Groups<'_>) -> u16
     ensures { result ≡ length (listing_of groups.now) }
 {
     let sizes = groups.sizes();
@@ -89,7 +90,7 @@ fn write_group(
     out: &mut [u8],
     offset: u64,
     at: u64,
-    groups: &Groups,
+    groups: &Groups<'_>,
     counts: &AnaCounts,
     group: u32,
     count: u32,
@@ -115,7 +116,7 @@ fn write_head(
     out: &mut [u8],
     offset: u64,
     at: u64,
-    groups: &Groups,
+    groups: &Groups<'_>,
     counts: &AnaCounts,
     group: u32,
     count: u32,
@@ -134,7 +135,7 @@ fn write_head(
 }
 
 // .. with the identifiers of the namespaces in the group.
-fn write_members(out: &mut [u8], offset: u64, at: u64, groups: &Groups, group: u32)
+fn write_members(out: &mut [u8], offset: u64, at: u64, groups: &Groups<'_>, group: u32)
     requires { at ≤ 2 ^ 33 }
     ensures { (page : List ℕ) → length page ≡ at → out.old ≡ window page offset (length out.old)
         → out.new ≡ window (page ++ nsid_bytes (nsids_of groups.now group)) offset

@@ -6,6 +6,7 @@ use Rattle.std.proofs.lemmas.List.{get_or-replicate, get_or-set_other, get_or-se
 use Rattle.std.proofs.lemmas.List.{append-nil}
 use Rattle.std.proofs.lemmas.List.Concat.{flat_map-append}
 use Rattle.std.proofs.lemmas.List.Elements.{filter-append}
+use Rattle.std.proofs.lemmas.List.Folds.{list_any-append}
 use Rattle.std.specs.Int.{w32, to_le_bytes}
 use Rattle.std.specs.List.{list_any}
 use Rattle.config_words.specs.Numbered.{numbers_from}
@@ -68,6 +69,48 @@ set_is_noted has nsid len =
     ])
     ∙ sym (one_noted (λ n. get_or has n false) nsid)
 
+-- those that pass one of two tests, of which the second is that of a set
+pub with_these : (p q these : ℕ → Bool) → ((k : ℕ) → 1 ≤ k → k ≤ 1024 → these k ≡ p k)
+    → nsids_where (λ n. these n || q n) ≡ nsids_where (λ n. p n || list_any (nat_eq n) (nsids_where q))
+with_these p q these same =
+    nsids_alike (λ n. these n || q n) (λ n. p n || list_any (nat_eq n) (nsids_where q)) (λ k above below.
+    ap (λ b. b || q k) (same k above below) ∙ ap (λ b. p k || b) (sym (is_where q k above below)))
+
+pub any_alike : (p q : ℕ → Bool) → ((k : ℕ) → 1 ≤ k → k ≤ 1024 → p k ≡ q k) → list_any (λ _. true) (nsids_where p) ≡ list_any (λ _. true) (nsids_where q)
+any_alike p q same = ap (list_any (λ _. true)) (nsids_alike p q same)
+
+-- ---- places, one after the other
+
+-- the place of an identifier that passes is set
+pub marked_so_far : (p : ℕ → Bool) (old has : List Bool) (nsid : ℕ) → nsid < length has → p nsid ≡ true
+    → ((k : ℕ) → 1 ≤ k → k < nsid → get_or has k false ≡ (p k || get_or old k false))
+    → (k : ℕ) → 1 ≤ k → k < nsid + 1 → get_or (set has nsid true) k false ≡ (p k || get_or old k false)
+marked_so_far p old has nsid within passes so_far k above below = elim (cases_Bool (k == nsid)) [
+  | inl same ↦
+      let is : k ≡ nsid = grind (arith, nat_tests, same) in
+      ap (λ i. get_or (set has nsid true) i false) is ∙ get_or-set_same has nsid true false within ∙ sym (ap (λ b. b || get_or old k false) (ap p is ∙ passes))
+  | inr other ↦
+      let differs : k ≢ nsid = λ is. grind (arith, nat_tests, other, is) in
+      get_or-set_other has nsid k true false differs ∙ so_far k above (grind (arith, nat_tests, other, below))
+]
+
+-- or stays as it is
+pub kept_so_far : (p : ℕ → Bool) (old has : List Bool) (nsid : ℕ) → p nsid ≡ false → get_or has nsid false ≡ get_or old nsid false
+    → ((k : ℕ) → 1 ≤ k → k < nsid → get_or has k false ≡ (p k || get_or old k false))
+    → (k : ℕ) → 1 ≤ k → k < nsid + 1 → get_or has k false ≡ (p k || get_or old k false)
+kept_so_far p old has nsid fails here so_far k above below = elim (cases_Bool (k == nsid)) [
+  | inl same ↦
+      let is : k ≡ nsid = grind (arith, nat_tests, same) in
+      ap (λ i. get_or has i false) is ∙ here ∙ sym (ap (λ i. get_or old i false) is) ∙ sym (ap (λ b. b || get_or old k false) (ap p is ∙ fails))
+  | inr other ↦ so_far k above (grind (arith, nat_tests, other, below))
+]
+
+pub left_so_far : (old has : List Bool) (nsid : ℕ) → ((k : ℕ) → nsid ≤ k → get_or has k false ≡ get_or old k false)
+    → (k : ℕ) → nsid + 1 ≤ k → get_or (set has nsid true) k false ≡ get_or old k false
+left_so_far old has nsid left k behind =
+    let differs : k ≢ nsid = λ is. omega (arith, is) in
+    get_or-set_other has nsid k true false differs ∙ left k (omega arith)
+
 -- ---- the page
 
 pub numbers_next : (first n : ℕ) → numbers_from first (suc n) ≡ numbers_from first n ++ (first + n) ∷ []
@@ -107,6 +150,8 @@ changes_are_noted = record {
   after_edit = λ before old new subsystem nsids noted.
       nsids_alike (is_changed (edited old new ∷ before) subsystem) (λ n. list_any (nat_eq n) nsids || is_changed before subsystem n) (λ k above below. ap (λ b. b || is_changed before subsystem k) (sym (noted k above below)))
       ∙ sym (all_noted nsids (is_changed before subsystem));
+  after_changes = λ before old new subsystem.
+      with_these (changes_namespace old new subsystem) (is_changed before subsystem) (changes_namespace old new subsystem) (λ k above below. refl);
   come_back = λ before old new subsystem nsid changes.
       comes_back (changes_namespace new old subsystem nsid) (changes_namespace old new subsystem nsid) (is_changed before subsystem nsid) changes;
 }
@@ -141,6 +186,19 @@ marked_next p nsid above there =
     ∙ marked_more p (nsid - 1) (ap p last ∙ there)
     ∙ ap (λ k. list_page (filter p (numbers_from 1 (nsid - 1))) ++ to_le_bytes w32 k) last
 
+-- .. and so there is one
+pub any_marked : (p : ℕ → Bool) (nsid : ℕ) → 1 ≤ nsid → p nsid ≡ true → list_any (λ _. true) (filter p (numbers_from 1 (nsid + 1 - 1))) ≡ true
+any_marked p nsid above there =
+    let more : nsid + 1 - 1 ≡ suc (nsid - 1) = omega arith in
+    let last : p (1 + (nsid - 1)) ≡ true = ap p (omega arith) ∙ there in
+    let before : List ℕ = numbers_from 1 (nsid - 1) in
+    ap (λ k. list_any (λ _. true) (filter p (numbers_from 1 k))) more
+    ∙ ap (λ (l : List ℕ). list_any (λ _. true) (filter p l)) (numbers_next 1 (nsid - 1))
+    ∙ rw (filter-append, last) (list_any-append (λ _. true) (filter p before) ((1 + (nsid - 1)) ∷ []) ∙ or_true (list_any (λ _. true) (filter p before))) where
+      or_true : (b : Bool) → (b || true) ≡ true
+      or_true true = refl
+      or_true false = refl
+
 -- or is not
 unmarked_more : (p : ℕ → Bool) (m : ℕ) → p (1 + m) ≡ false → filter p (numbers_from 1 (suc m)) ≡ filter p (numbers_from 1 m)
 unmarked_more p m absent = ap (filter p) (numbers_next 1 m) ∙ rw (filter-append, absent) (append-nil (filter p (numbers_from 1 m)))
@@ -153,6 +211,10 @@ unmarked_next p nsid above absent =
     ap (λ k. filter p (numbers_from 1 k)) more ∙ unmarked_more p (nsid - 1) (ap p last ∙ absent)
 
 -- all identifiers, with the zeros behind them
+pub any_of_all : (p : ℕ → Bool) (n : ℕ) → n ≡ 1024 → list_any (λ _. true) (filter p (numbers_from 1 n)) ≡ list_any (λ _. true) (nsids_where p)
+unfolding nsids_where
+any_of_all p n all = ap (λ m. list_any (λ _. true) (filter p (numbers_from 1 m))) all
+
 pub page_shown : (p : ℕ → Bool) (out : List ℕ) (offset n : ℕ) → out ≡ window (list_page (filter p (numbers_from 1 1024))) offset n
     → out ≡ window (changed_page (nsids_where p)) offset n
 unfolding nsids_where

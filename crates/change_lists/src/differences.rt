@@ -7,8 +7,8 @@ use nvt_config::Namespace;
 
 /// Whether two namespaces have the same size, block size and UUID, or neither is there.
 pub(crate) fn is_same(before: Option<&Namespace>, after: Option<&Namespace>) -> bool
-    ensures { result ≡ are_same (option_map attributes_of (option_copied before))
-        (option_map attributes_of (option_copied after)) }
+    ensures { result ≡ are_same (option_map attributes_of (option_copied before.entry))
+        (option_map attributes_of (option_copied after.entry)) }
 {
     match (before, after) {
         (Some(before), Some(after)) => has_same_attributes(before, after),

@@ -67,7 +67,7 @@ counts_next (io subsystem port) was_enabled before = changes_are_counted.once_en
 
 -- ---- the namespaces that changed
 
-emptied_none : (b : Bool) → [] ≡ (if b then [] else [])
+emptied_none : (b : Bool) → ◌≡◌ {A = List ℕ} [] (if b then [] else [])
 emptied_none true = refl
 emptied_none false = refl
 

@@ -69,20 +69,20 @@ impl Notices {
     /// controller the namespaces that it changes join the set, and what it changes of the ANA groups
     /// is counted; of a discovery controller both stay. Answers the event requests to complete, in
     /// order.
-    pub fn tell(&mut self, plan: &Plan, viewer: Viewer<'_>) -> Completing
-        ensures result { result ≡ tell_answers plan.now.old plan.now.new (views_of viewer) self.old }
-        ensures after { self.new ≡ told plan.now.old plan.now.new (views_of viewer) self.old }
+    pub fn tell(&mut self, plan: &Plan, viewer: &Viewer<'_>) -> Completing
+        ensures result { result ≡ tell_answers plan.now.old plan.now.new (views_of viewer.now) self.old }
+        ensures after { self.new ≡ told plan.now.old plan.now.new (views_of viewer.now) self.old }
     {
         let changes = self.note(plan, viewer);
         self.events.edited(changes)
     }
 
     // Notes what an edit changes of what is shown, but for the events; what it changes.
-    fn note(&mut self, plan: &Plan, viewer: Viewer<'_>) -> ViewChanges
-        ensures changes { result ≡ changes_seen plan.now.old plan.now.new (views_of viewer) }
-        ensures after { self.new ≡ noted plan.now.old plan.now.new (views_of viewer) self.old }
+    fn note(&mut self, plan: &Plan, viewer: &Viewer<'_>) -> ViewChanges
+        ensures changes { result ≡ changes_seen plan.now.old plan.now.new (views_of viewer.now) }
+        ensures after { self.new ≡ noted plan.now.old plan.now.new (views_of viewer.now) self.old }
     {
-        match viewer {
+        match *viewer {
             Viewer::Discovery { host } => ViewChanges {
                 namespace: false,
                 ana: false,

@@ -19,11 +19,11 @@ pub const TOLD_ROOM: usize = 4 * 24;
 impl ConnectionState {
     /// Tells the host of a controller that shows this what an edit changes, before its plan is committed:
     /// the requests that it completes are answered. The connection is the controller's admin queue.
-    pub fn tell(&mut self, plan: &Plan, viewer: Viewer<'_>, output: &mut BytesMut)
+    pub fn tell(&mut self, plan: &Plan, viewer: &Viewer<'_>, output: &mut BytesMut)
         requires room { 24 * length self.old.notices.events.waiting ≤ output.old.spare }
-        ensures state { self.new ≡ told_after plan.now.old plan.now.new (views_of viewer) self.old }
+        ensures state { self.new ≡ told_after plan.now.old plan.now.new (views_of viewer.now) self.old }
         ensures items { output.new.items
-            ≡ output.old.items ++ told_pdus plan.now.old plan.now.new (views_of viewer) self.old }
+            ≡ output.old.items ++ told_pdus plan.now.old plan.now.new (views_of viewer.now) self.old }
         ensures room { 24 * length self.new.notices.events.waiting ≤ output.new.spare }
     {
         let completing = self.notices.tell(plan, viewer);

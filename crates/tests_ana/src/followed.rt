@@ -2,7 +2,7 @@
 use ana_view::{AnaView, Plan};
 use nvt_config::{Config, Edit, NewFault};
 use std::alloc::{AllocError, Global};
-use testkit_edits::{Blocks, Line, edit};
+use testkit_edits::{Blocks, Line, edit, is_same};
 
 pub const A: &[u8] = b"nqn.2026-01.test:a";
 
@@ -48,6 +48,13 @@ pub fn plan(followed: &mut Followed, edit: &Edit) -> Result<Option<Plan>, AllocE
         return Ok(None);
     }
     Ok(Some(followed.view.prepare(&followed.config, edit)?))
+}
+
+/// Whether a plan goes from the configuration to the one that the edit makes of it.
+pub fn is_planned(followed: &Followed, edit: &Edit, plan: &Plan) -> Result<bool, AllocError> {
+    let mut next = followed.config.try_clone()?;
+    let applied = next.apply(edit).is_ok();
+    Ok(applied && is_same(plan.old(), &followed.config) && is_same(plan.new(), &next))
 }
 
 /// Makes an edit that was planned; whether the configuration makes it too.

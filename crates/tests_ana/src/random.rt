@@ -1,5 +1,5 @@
 //! What controllers show beside the plain program, while random edits are made.
-use super::followed::{A, B, Followed, edit_of, make, on_disk, plan, start};
+use super::followed::{A, B, Followed, edit_of, is_planned, make, on_disk, plan, start};
 use super::seen::{GROUPS, Group, NSIDS, PLACES, Past};
 use ana_view::{AnaCounts, Plan};
 use nvt_config::{Access, AnaState, Edit};
@@ -182,6 +182,9 @@ fn is_counted(
     let Some(plan) = plan(followed, edit)? else {
         return Ok(true);
     };
+    if !is_planned(followed, edit, &plan)? {
+        return Ok(false);
+    }
     let (first, second, third) = count_changes(all, &plan);
     let made = make(followed, edit, plan);
     past.look(&followed.config)?;

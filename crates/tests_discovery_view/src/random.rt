@@ -85,14 +85,14 @@ const FREQUENT: &[Kind] = &[
     Kind::AllowDel,
 ];
 
-fn kind(random: &mut Pcg32) -> Kind {
+pub fn kind(random: &mut Pcg32) -> Kind {
     let kinds = pick(random, Kind::ALL, &[FREQUENT]);
     let at = random.next_word() as usize % kinds.len().max(1);
     kinds.get(at).copied().unwrap_or(Kind::HostAdd)
 }
 
-// A line of this kind, whose edit is often refused.
-fn line(kind: Kind, random: &mut Pcg32) -> Line<'static> {
+/// A line of this kind, whose edit is often refused.
+pub fn line(kind: Kind, random: &mut Pcg32) -> Line<'static> {
     match kind {
         Kind::SubsystemAdd => Line::SubsystemAdd(name(random), b"SN", access(random)),
         Kind::SubsystemSet => Line::SubsystemSet(name(random), access(random)),
@@ -243,7 +243,7 @@ fn add_host(
     Ok(is_added)
 }
 
-const HOSTS: &[&[u8]] = &[b"nqn.h", b"nqn.late", b"nqn.new", b"nqn.stranger"];
+pub const HOSTS: &[&[u8]] = &[b"nqn.h", b"nqn.late", b"nqn.new", b"nqn.stranger"];
 
 // The rows are the hosts.
 fn check_hosts(alloc: Global, followed: &Followed, edits: &[Edit], seen: &mut Seen) -> Outcome {

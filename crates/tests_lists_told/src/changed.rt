@@ -74,5 +74,5 @@ fn whole_reads_empty_a_list(rt: HostRuntime) {
     let set = ChangedSet::new();
     assert!(rt; empties(0, 4_096) && empties(0, 131_072));
     assert!(rt; !empties(0, 4_092) && !empties(4, 4_096) && !empties(0, 0));
-    assert!(rt; !set.is_past_end(4_096) && set.is_past_end(4_097));
+    assert!(rt; !set.is_past_end(4_096) && set.is_past_end(4_097) && set.len() == 4_096);
 }

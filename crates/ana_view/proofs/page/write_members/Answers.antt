@@ -14,13 +14,13 @@ loop-nsid-init c = record { next = omega arith; shown = λ page len shown. rw (a
 
 pub overflow_add-next : goal.overflow_add-next
 overflow_add-next c =
-    let p : ℕ → Bool = λ n. is_member c.args.groups.now.members n c.args.group in
+    let p : ℕ → Bool = λ n. is_member c.args.groups.now.namespaces n c.args.group in
     let done : List ℕ = filter p (numbers_from 1 (c.loop-nsid.nsid - 1)) in
     omega (arith, length-nsid_bytes done, few_kept p 1 (c.loop-nsid.nsid - 1), c.loop-nsid.invariant.next)
 
 pub loop-nsid-preserved : goal.loop-nsid-preserved
 loop-nsid-preserved c =
-    let p : ℕ → Bool = λ n. is_member c.args.groups.now.members n c.args.group in
+    let p : ℕ → Bool = λ n. is_member c.args.groups.now.namespaces n c.args.group in
     let k = c.loop-nsid.nsid in
     let above : 1 ≤ k = omega arith in
     let done : List ℕ = nsid_bytes (filter p (numbers_from 1 (k - 1))) in

@@ -9,7 +9,7 @@ use Rattle.ana_view.proofs.page.write_members.Given as goal
 abbrev pub invariant-loop-nsid : goal.invariant-loop-nsid
 invariant-loop-nsid l =
     record {
-      next : l.next ≡ l.fn.at + length (nsid_bytes (filter (λ n. is_member l.fn.groups.members n l.group) (numbers_from 1 (l.nsid - 1))));
+      next : l.next ≡ l.fn.at + length (nsid_bytes (filter (λ n. is_member l.fn.groups.namespaces n l.group) (numbers_from 1 (l.nsid - 1))));
       shown : (page : List ℕ) → length page ≡ l.fn.at → l.fn.out ≡ window page l.offset (length l.fn.out)
-          → l.out ≡ window (page ++ nsid_bytes (filter (λ n. is_member l.fn.groups.members n l.group) (numbers_from 1 (l.nsid - 1)))) l.offset (length l.fn.out);
+          → l.out ≡ window (page ++ nsid_bytes (filter (λ n. is_member l.fn.groups.namespaces n l.group) (numbers_from 1 (l.nsid - 1)))) l.offset (length l.fn.out);
     }

@@ -4,4 +4,4 @@ use Rattle.ana_view.proofs.groups.Groups.has_same_members.Given as goal
 
 -- none so far is in one of the two alone
 abbrev pub invariant-loop-nsid : goal.invariant-loop-nsid
-invariant-loop-nsid l = (k : ℕ) → 1 ≤ k → k < l.nsid → is_member l.fn.self.members k l.group ≡ is_member l.fn.other.members k l.group
+invariant-loop-nsid l = (k : ℕ) → 1 ≤ k → k < l.nsid → is_member l.fn.self.namespaces k l.group ≡ is_member l.fn.other.namespaces k l.group

@@ -12,7 +12,7 @@ loop-nsid-init c = record { len = refl; counted = λ group few. get_or-replicate
 pub count_member-requires : goal.count_member-requires
 count_member-requires c = λ k. elim (cases_lt k 33) [
   | inl few ↦
-      omega (arith, few_kept (λ nsid. is_member c.args.self.now.members nsid k) 1 (c.loop-nsid.nsid - 1), c.loop-nsid.invariant.counted k few)
+      omega (arith, few_kept (λ nsid. is_member c.args.self.now.namespaces nsid k) 1 (c.loop-nsid.nsid - 1), c.loop-nsid.invariant.counted k few)
   | inr past ↦
       let none = get_or_past {X = ℕ} c.loop-nsid.sizes k 0 (omega (arith, c.loop-nsid.invariant.len, past)) in
       omega (arith, none)
@@ -22,7 +22,7 @@ pub loop-nsid-preserved : goal.loop-nsid-preserved
 loop-nsid-preserved c = record {
   len = c.count_member.array_long;
   counted = λ group few.
-      sizes_next (λ nsid. is_member c.args.self.now.members nsid group) c.loop-nsid.nsid _ _ (omega arith) (c.count_member.ensures group few) (c.loop-nsid.invariant.counted group few);
+      sizes_next (λ nsid. is_member c.args.self.now.namespaces nsid group) c.loop-nsid.nsid _ _ (omega arith) (rw c.get.ensures at (c.count_member.ensures group few)) (c.loop-nsid.invariant.counted group few);
 }
 
 pub returns : goal.returns

@@ -7,5 +7,5 @@ use Rattle.ana_view.proofs.groups.Groups.sizes.Given as goal
 abbrev pub invariant-loop-nsid : goal.invariant-loop-nsid
 invariant-loop-nsid l = record {
   len : length l.sizes ≡ 33;
-  counted : (group : ℕ) → group < 33 → get_or l.sizes group 0 ≡ length (filter (λ nsid. is_member l.fn.self.members nsid group) (numbers_from 1 (l.nsid - 1)));
+  counted : (group : ℕ) → group < 33 → get_or l.sizes group 0 ≡ length (filter (λ nsid. is_member l.fn.self.namespaces nsid group) (numbers_from 1 (l.nsid - 1)));
 }

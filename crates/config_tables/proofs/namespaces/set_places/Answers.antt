@@ -4,13 +4,10 @@ use Rattle.std.proofs.lemmas.List.{take_all}
 use Rattle.std.specs.Str.{bytes_eq}
 use Rattle.config_lists.specs.declared.namespace.Namespace.{Namespace}
 use Rattle.config_lists.specs.Namespace.{is_named}
-use Rattle.ana_view.specs.Tables.{IsTable}
-use Rattle.ana_view.proofs.Tables.{table_first, table_passed, table_put}
-use Rattle.ana_view.proofs.groups.set_members.Goals as goal
-use Rattle.ana_view.proofs.groups.set_members.Goals.{else-eq, then-eq}
-
-pub loop-namespace-init : goal.loop-namespace-init
-loop-namespace-init c = table_first (is_named c.args.subsystem.now) (λ n. n.group) c.args.members.now c.requires
+use Rattle.config_tables.specs.Tables.{IsTable}
+use Rattle.config_tables.proofs.Tables.{table_passed, table_put}
+use Rattle.config_tables.proofs.namespaces.set_places.Goals as goal
+use Rattle.config_tables.proofs.namespaces.set_places.Goals.{else-eq, then-eq}
 
 pub loop-namespace-preserved : goal.loop-namespace-preserved
 loop-namespace-preserved c =
@@ -24,15 +21,10 @@ loop-namespace-preserved c =
     elim c.if-eq.branch [
       | then-eq w ↦
           let there = named ∙ w.if-eq.true in
-          let put = table_put (is_named c.args.subsystem.now) (λ n. n.group) (take i all) n c.loop-namespace.members n.nsid (λ k. ap (λ b. b && (n.nsid == k)) there) c.loop-namespace.invariant in
-          rw (done, w.members-is, w.put_first.ensures) put
+          let put = table_put (is_named c.args.subsystem.now) (take i all) _ c.loop-namespace.places n.nsid (λ k. ap (λ b. b && (n.nsid == k)) there) c.loop-namespace.invariant in
+          rw (done, w.places-is, w.put_first.ensures) put
       | else-eq w ↦
           let elsewhere = named ∙ w.if-eq.false in
-          let passed = table_passed (is_named c.args.subsystem.now) (λ n. n.group) (take i all) n c.loop-namespace.members (λ k. ap (λ b. b && (n.nsid == k)) elsewhere) c.loop-namespace.invariant in
-          rw (done, w.members-is) passed
+          let passed = table_passed (is_named c.args.subsystem.now) (take i all) n c.loop-namespace.places (λ k. ap (λ b. b && (n.nsid == k)) elsewhere) c.loop-namespace.invariant in
+          rw (done, w.places-is) passed
     ]
-
-pub returns : goal.returns
-returns c =
-    subst (λ (done : List Namespace). IsTable (is_named c.args.subsystem.now) (λ n. n.group) done c.loop-namespace.members)
-    (take_all _ _ c.loop-namespace-test.false) c.loop-namespace.invariant
