@@ -94,7 +94,8 @@ command_admits w v tags cid entry bytes =
           (admitted_admits w v.port v.session cid entry bytes a is);
       tells = λ value. tt;
       configures = λ cntlid role s. tt;
-      administers = λ cntlid role s. tt;
+      administers = λ cntlid role c own s is. tt;
+      waits = λ cntlid role c own is. tt;
       performs = λ cntlid qid role port subsystem op is. tt;
       asks = λ cntlid qid role port subsystem len is. tt;
     }) tags

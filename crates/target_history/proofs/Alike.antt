@@ -17,6 +17,10 @@ use Rattle.io_queue.specs.declared.reply.DataFormat.{DataFormat}
 use Rattle.io_queue.specs.Act.{DiskOutcome}
 use Rattle.io_queue.proofs.Deciding.{begun_alike, finished_alike}
 use Rattle.nvt_fields.specs.declared.pdu_type.PduType.{PduType}
+use Rattle.event_queue.specs.declared.changes.ViewChanges.{ViewChanges}
+use Rattle.event_queue.specs.declared.completion.Completion.{Completion}
+use Rattle.event_queue.specs.Events.{edit_answers}
+use Rattle.notices.specs.Notices.{NoticeState}
 use Rattle.nvt_fields.specs.declared.pdu_type.PduType.TheVariants.{IcReq, IcResp, H2cTermReq, C2hTermReq, CapsuleCmd, CapsuleResp, H2cData, C2hData, R2t}
 use Rattle.nvt_fields.specs.Status.{command_sequence_error}
 use Rattle.pdu_codec.specs.Sqe.{fctype_of, opcode_of}
@@ -40,11 +44,13 @@ use Rattle.target_decision.specs.Decision.{Brought, completed, data_of, decide, 
 use Rattle.target_decision.specs.Outcome.{Outcome, refuse, refused}
 use Rattle.target_decision.specs.Session.{is_ended}
 use Rattle.target_decision.specs.Transfer.{Tags, h2c_of, head_in}
-use Rattle.target_decision.specs.World.{World, admin_controller}
+use Rattle.target_decision.specs.Tell.{completion_pdus}
+use Rattle.target_decision.specs.World.{World, admin_controller, admin_controller_of}
 use Rattle.target_history.specs.Event.{Event, front_in, gives_up, disk_outcome_in, opens, steps}
-use Rattle.target_history.specs.Occurrence.{Occurrence, decided_on, operation_decided, sends, sends_on}
+use Rattle.target_history.specs.Occurrence.{Occurrence, Telling, completed_by, decided_on, operation_decided, replies_to, sends, sends_on, telling, told_at}
 use Rattle.target_history.specs.History.{sent}
-use Rattle.target_history.specs.Laws.{AdminAlike, AreSeenAlike, AreToldAlike, ConnectAlike, DiskAlike, HappenedAlike, IoAlike, IoSeen, RoleAlike, SameFor, SentByOwnAlone, SessionAlike, SubsystemAlike, WorldAlike, io_seen, is_command, is_of, own}
+use Rattle.target_history.specs.Laws.{AdminAlike, AreSeenAlike, AreToldAlike, ConnectAlike, DiskAlike, HappenedAlike, IoAlike, IoSeen, RoleAlike, SameFor, SentByOwnAlone, SessionAlike, SubsystemAlike, WorldAlike, changes_at, changes_of, io_seen, is_command, is_edit, is_of, own}
+use Rattle.target_history.proofs.Telling.{no_edit_made, untold}
 
 -- ---- a Connect
 
@@ -90,15 +96,15 @@ told_alike v w ready None cntlid entry h = refl
 told_alike v w ready (Some c) cntlid entry h =
     rw (answered_alike.outcome c v.pages w.pages v.config w.config entry h) refl
 
-admin_alike : (v w : World) (cntlid : ℕ) (entry : List ℕ) → AdminAlike v w cntlid → admin_at v cntlid entry ≡ admin_at w cntlid entry
-admin_alike v w cntlid entry h =
-    told_alike v w (is_ready_at (v.row cntlid)) (admin_controller v cntlid) cntlid entry h.told
-    ∙ ap (λ (ready : Bool). admin_by ready (admin_controller v cntlid) w cntlid entry) h.ready
+admin_alike : (v w : World) (n : NoticeState) (cntlid : ℕ) (entry : List ℕ) → AdminAlike v w n cntlid → admin_at v n cntlid entry ≡ admin_at w n cntlid entry
+admin_alike v w n cntlid entry h =
+    told_alike v w (is_ready_at (v.row cntlid)) (admin_controller v n cntlid) cntlid entry h.told
+    ∙ ap (λ (ready : Bool). admin_by ready (admin_controller v n cntlid) w cntlid entry) h.ready
     ∙ ap (λ (o : Option AdminController). admin_by (is_ready_at (w.row cntlid)) o w cntlid entry) h.controller
 
-on_admin_alike : (v w : World) (cntlid : ℕ) (entry : List ℕ) → AdminAlike v w cntlid
-    → on_admin_queue v cntlid entry ≡ on_admin_queue w cntlid entry
-on_admin_alike v w cntlid entry h = rw (h.registers, admin_alike v w cntlid entry h) refl
+on_admin_alike : (v w : World) (n : NoticeState) (cntlid : ℕ) (entry : List ℕ) → AdminAlike v w n cntlid
+    → on_admin_queue v n cntlid entry ≡ on_admin_queue w n cntlid entry
+on_admin_alike v w n cntlid entry h = rw (h.registers, admin_alike v w n cntlid entry h) refl
 
 -- an I/O command, by what it sees of its controller
 abbrev io_from : Option IoSeen → World → List ℕ → ℕ → Outcome
@@ -144,19 +150,19 @@ end_seen_alike : (o : Option IoSeen) (v w : World) (entry : List ℕ) (came : �
 end_seen_alike None v w entry came h = refl
 end_seen_alike (Some s) v w entry came h = end_of_alike s.subsystem s.port v w entry came h
 
-ends_alike : (v w : World) (role : Role) (queue : Queue) → RoleAlike v w role → (entry : List ℕ) (came : ℕ)
+ends_alike : (v w : World) (n : NoticeState) (role : Role) (queue : Queue) → RoleAlike v w n role → (entry : List ℕ) (came : ℕ)
     → finished v (Connected role queue) entry came ≡ finished w (Connected role queue) entry came
-ends_alike v w (Admin cntlid) queue h entry came = refl
-ends_alike v w (Io cntlid qid) queue h entry came =
+ends_alike v w n (Admin cntlid) queue h entry came = refl
+ends_alike v w n (Io cntlid qid) queue h entry came =
     end_is_from (v.row cntlid) v entry came
     ∙ end_seen_alike (io_seen (v.row cntlid)) v w entry came h.seen
     ∙ ap (λ (o : Option IoSeen). end_from o w entry came) h.controller
     ∙ sym (end_is_from (w.row cntlid) w entry came)
 
-queue_alike : (v w : World) (role : Role) (entry bytes : List ℕ) → RoleAlike v w role
-    → queue_command v role entry bytes ≡ queue_command w role entry bytes
-queue_alike v w (Admin cntlid) entry bytes h = on_admin_alike v w cntlid entry h
-queue_alike v w (Io cntlid qid) entry bytes h = rw (io_alike v w cntlid entry (length bytes) h) refl
+queue_alike : (v w : World) (n : NoticeState) (role : Role) (entry bytes : List ℕ) → RoleAlike v w n role
+    → queue_command v n role entry bytes ≡ queue_command w n role entry bytes
+queue_alike v w n (Admin cntlid) entry bytes h = on_admin_alike v w n cntlid entry h
+queue_alike v w n (Io cntlid qid) entry bytes h = rw (io_alike v w cntlid entry (length bytes) h) refl
 
 -- ---- what is decided
 
@@ -176,7 +182,7 @@ received_alike v w c head part (Ok progress.Whole) h = completed_alike v w c hea
 received_alike v w c head part (Err fault) h = refl
 
 next_alike : (kind : PduType) (v w : World) (c : ConnectionState) (tags : Tags) (pdu : Pdu)
-    → (is_command kind ≡ true → command_in v c.port c.session (entry_of pdu) (data_part pdu) ≡ command_in w c.port c.session (entry_of pdu) (data_part pdu))
+    → (is_command kind ≡ true → command_in v c c.session (entry_of pdu) (data_part pdu) ≡ command_in w c c.session (entry_of pdu) (data_part pdu))
     → EndsAlike v w c.session → next_by kind v c tags pdu ≡ next_by kind w c tags pdu
 next_alike CapsuleCmd v w c tags pdu h i = rw (h refl) refl
 next_alike H2cData v w c tags pdu h i =
@@ -192,27 +198,27 @@ next_alike R2t v w c tags pdu h i = refl
 both : (a b : Bool) → a ≡ true → b ≡ true → (a && b) ≡ true
 both a b h k = rw (h, k) refl
 
-abbrev on_port : ℕ → ℕ → Session → ConnectionState
-on_port port alignment session = record { port = port; session = session; alignment = alignment }
+abbrev in_session : ConnectionState → Session → ConnectionState
+in_session c s = record { port = c.port; session = s; alignment = c.alignment; notices = c.notices }
 
-pdu_alike : (v w : World) (port alignment : ℕ) (s : Session) (tags : Tags) (pdu : Pdu) → SessionAlike v w port (whole pdu) s
-    → decide_in s v (on_port port alignment s) tags pdu ≡ decide_in s w (on_port port alignment s) tags pdu
-pdu_alike v w port alignment Opened tags pdu h = refl
-pdu_alike v w port alignment Initialized tags pdu h =
+pdu_alike : (v w : World) (c : ConnectionState) (s : Session) (tags : Tags) (pdu : Pdu) → SessionAlike v w c (whole pdu) s
+    → decide_in s v (in_session c s) tags pdu ≡ decide_in s w (in_session c s) tags pdu
+pdu_alike v w c Opened tags pdu h = refl
+pdu_alike v w c Initialized tags pdu h =
     let entry = entry_of pdu in
     let connects : Bool = (opcode_of entry == fabrics_opcode) && (fctype_of entry == connect_type) in
-    next_alike pdu.kind v w (on_port port alignment Initialized) tags pdu
-    (λ is. first_alike v w port entry (data_part pdu) (λ (c : connects ≡ true). h (both (is_command pdu.kind) connects is c)))
+    next_alike pdu.kind v w (in_session c Initialized) tags pdu
+    (λ is. first_alike v w c.port entry (data_part pdu) (λ (so : connects ≡ true). h (both (is_command pdu.kind) connects is so)))
     (λ entry came. refl)
-pdu_alike v w port alignment (Connected role queue) tags pdu h =
-    next_alike pdu.kind v w (on_port port alignment (Connected role queue)) tags pdu (λ is. queue_alike v w role (entry_of pdu) (data_part pdu) h)
-    (ends_alike v w role queue h)
-pdu_alike v w port alignment Ended tags pdu h = refl
+pdu_alike v w c (Connected role queue) tags pdu h =
+    next_alike pdu.kind v w (in_session c (Connected role queue)) tags pdu (λ is. queue_alike v w c.notices role (entry_of pdu) (data_part pdu) h)
+    (ends_alike v w c.notices role queue h)
+pdu_alike v w c Ended tags pdu h = refl
 
-decide_alike : (v w : World) (c : ConnectionState) (tags : Tags) (front : Front) → SessionAlike v w c.port front c.session
+decide_alike : (v w : World) (c : ConnectionState) (tags : Tags) (front : Front) → SessionAlike v w c front c.session
     → decide v c tags front ≡ decide w c tags front
 decide_alike v w c tags incomplete h = refl
-decide_alike v w c tags (whole pdu) h = pdu_alike v w c.port c.alignment c.session tags pdu h
+decide_alike v w c tags (whole pdu) h = pdu_alike v w c c.session tags pdu h
 decide_alike v w c tags (faulty fault head) h = refl
 
 -- ---- what is sent
@@ -222,19 +228,20 @@ payload_alike v w o None h = refl
 payload_alike v w None (Some r) h = refl
 payload_alike v w (Some c) (Some r) h = ap Some (answered_alike.payload c v.pages w.pages v.config w.config r h)
 
-admin_data : (v w : World) (cntlid : ℕ) (queue : Queue) (d : Decision) → AdminAlike v w cntlid
-    → data_of v (Connected (Admin cntlid) queue) d ≡ data_of w (Connected (Admin cntlid) queue) d
-admin_data v w cntlid queue d h =
-    payload_alike v w (admin_controller v cntlid) (payload_of d) h.told
+admin_data : (v w : World) (n : NoticeState) (cntlid : ℕ) (d : Decision) → AdminAlike v w n cntlid
+    → payload_at v (admin_controller v n cntlid) (payload_of d) ≡ payload_at w (admin_controller w n cntlid) (payload_of d)
+admin_data v w n cntlid d h =
+    payload_alike v w (admin_controller v n cntlid) (payload_of d) h.told
     ∙ ap (λ (o : Option AdminController). payload_at w o (payload_of d)) h.controller
 
 -- without a controller none is returned
-data_alike : (v w : World) (port : ℕ) (s : Session) (front : Front) (d : Decision) → SessionAlike v w port front s → data_of v s d ≡ data_of w s d
-data_alike v w port Opened front d h = payload_alike v w None (payload_of d) tt
-data_alike v w port Initialized front d h = payload_alike v w None (payload_of d) tt
-data_alike v w port (Connected (Admin cntlid) queue) front d h = admin_data v w cntlid queue d h
-data_alike v w port (Connected (Io cntlid qid) queue) front d h = payload_alike v w None (payload_of d) tt
-data_alike v w port Ended front d h = payload_alike v w None (payload_of d) tt
+data_alike : (v w : World) (c : ConnectionState) (s : Session) (front : Front) (d : Decision) → SessionAlike v w c front s
+    → payload_at v (admin_controller_of v c.notices s) (payload_of d) ≡ payload_at w (admin_controller_of w c.notices s) (payload_of d)
+data_alike v w c Opened front d h = payload_alike v w None (payload_of d) tt
+data_alike v w c Initialized front d h = payload_alike v w None (payload_of d) tt
+data_alike v w c (Connected (Admin cntlid) queue) front d h = admin_data v w c.notices cntlid d h
+data_alike v w c (Connected (Io cntlid qid) queue) front d h = payload_alike v w None (payload_of d) tt
+data_alike v w c Ended front d h = payload_alike v w None (payload_of d) tt
 
 said_alike : (format : DataFormat) (a : Answer) (payload : Option (List ℕ)) (bytes : List ℕ) (b c : ℕ → List (List ℕ)) (m : DiskOutcome) → DiskAlike (operation_in a) b c
     → said_by format a payload bytes b m ≡ said_by format a payload bytes c m
@@ -248,6 +255,7 @@ wire_alike alignment (decision.Reply r) front given payload b c m h =
 wire_alike alignment (decision.Initialize asked) front given payload b c m h = refl
 wire_alike alignment (decision.Request q) front given payload b c m h = refl
 wire_alike alignment (decision.Receive ttag) front given payload b c m h = refl
+wire_alike alignment (decision.Wait cid) front given payload b c m h = refl
 wire_alike alignment (decision.Terminate t) front given payload b c m h = refl
 wire_alike alignment decision.Close front given payload b c m h = refl
 
@@ -268,14 +276,42 @@ sends_by true v w b c m tags (Some k) front h i = by (is_ended k.session) i wher
   by true i = refl
   by false i =
       let d = decide v k tags front in
-      ap (λ (payload : Option (List ℕ)). wire_of k.alignment d front (brought_by tags d front) payload b m) (data_alike v w k.port k.session front d (h refl))
-      ∙ wire_alike k.alignment d front (brought_by tags d front) (data_of w k.session d) b c m i
+      ap (λ (payload : Option (List ℕ)). wire_of k.alignment d front (brought_by tags d front) payload b m) (data_alike v w k k.session front d (h refl))
+      ∙ wire_alike k.alignment d front (brought_by tags d front) (data_of w k d) b c m i
       ∙ ap (λ (e : Decision). sent_by w c m k e front (brought_by tags e front)) (decide_alike v w k tags front (h refl))
 
-sends_alike : (k : ℕ) (x y : Occurrence) → SameFor k x y → sends x k ≡ sends y k
-sends_alike k x y same =
+replies_alike : (k : ℕ) (x y : Occurrence) → SameFor k x y → replies_to x k ≡ replies_to y k
+replies_alike k x y same =
     rw (same.event, ← same.connection, ← same.parts)
     (sends_by (steps x.event k) x.world y.world x.blocks y.blocks (disk_outcome_in x.event) (x.parts k) (x.connection k) (front_in x.event) same.world same.disk)
+
+-- what an edit sends is known by what it changes of the views
+abbrev completing : Option ViewChanges → NoticeState → List Completion
+completing None n = []
+completing (Some changes) n = edit_answers n.events changes
+
+completing_is : (t : Option Telling) (n : NoticeState) → completed_by t n ≡ completing (changes_of t) n
+completing_is None n = refl
+completing_is (Some t) n = refl
+
+abbrev told_of : Option ConnectionState → Option ViewChanges → List ℕ
+told_of None changes = []
+told_of (Some c) changes = completion_pdus c.session (completing changes c.notices)
+
+told_is : (x : Occurrence) (o : Option ConnectionState) → told_at x o ≡ told_of o (changes_at x o)
+told_is x None = refl
+told_is x (Some c) = ap (completion_pdus c.session) (completing_is (telling x c) c.notices)
+
+edits_alike : (k : ℕ) (x y : Occurrence) → SameFor k x y → told_at x (x.connection k) ≡ told_at y (y.connection k)
+edits_alike k x y same =
+    told_is x (x.connection k) ∙ ap (told_of (x.connection k)) same.changes
+    ∙ ap (λ (o : Option ConnectionState). told_of o (changes_at y (y.connection k))) same.connection ∙ sym (told_is y (y.connection k))
+
+both_sent : {a b c d : List ℕ} → a ≡ b → c ≡ d → a ++ c ≡ b ++ d
+both_sent p q = rw (p, q) refl
+
+sends_alike : (k : ℕ) (x y : Occurrence) → SameFor k x y → sends x k ≡ sends y k
+sends_alike k x y same = both_sent (replies_alike k x y same) (edits_alike k x y same)
 
 sent_more : (b c : Bool) (s t u z : List ℕ) → b ≡ c → s ≡ t → u ≡ z → (if b then [] else s ++ u) ≡ (if c then [] else t ++ z)
 sent_more b c s t u z p q r = rw (p, q, r) refl
@@ -290,10 +326,11 @@ alike_sent (x ∷ xs) (y ∷ ys) k alike =
 
 -- ---- what is no event of the connection
 
-none_of : (a b c : Bool) → (a || (b || c)) ≡ false → (a ≡ false) × (b ≡ false) × (c ≡ false)
-none_of true b c h = cc
-none_of false true c h = cc
-none_of false false c h = (refl, refl, h)
+none_of : (a b c d : Bool) → (a || (b || (c || d))) ≡ false → (a ≡ false) × (b ≡ false) × (c ≡ false) × (d ≡ false)
+none_of true b c d h = cc
+none_of false true c d h = cc
+none_of false false true d h = cc
+none_of false false false d h = (refl, refl, refl, h)
 
 silent : (x : Occurrence) (tags : Tags) (o : Option ConnectionState) → sends_on x.world x.blocks (disk_outcome_in x.event) tags o None (front_in x.event) ≡ []
 silent x tags None = refl
@@ -306,8 +343,10 @@ own_sent (x ∷ before) k = by (is_of x.event k) refl (own_sent before k) where
       → sent (x ∷ before) k ≡ sent (if mine then x ∷ own before k else own before k) k
   by true is earlier = ap (λ (s : List ℕ). if opens x.event k || gives_up x.event k then [] else s ++ sends x k) earlier
   by false is earlier =
-      let parts = none_of (opens x.event k) (steps x.event k) (gives_up x.event k) is in
-      rw (parts.0, parts.1, parts.2, silent x (x.parts k) (x.connection k)) (append-nil (sent before k) ∙ earlier)
+      let parts = none_of (opens x.event k) (steps x.event k) (gives_up x.event k) (is_edit x.event) is in
+      let quiet : replies_to x k ≡ [] = rw parts.1 (silent x (x.parts k) (x.connection k)) in
+      let unedited = untold x (x.connection k) (no_edit_made x.event x.world.config parts.3) in
+      rw (parts.0, parts.2) (ap (λ (l : List ℕ). sent before k ++ l) (both_sent quiet unedited) ∙ append-nil (sent before k) ∙ earlier)
 
 pub sent_by_own_alone : SentByOwnAlone
 sent_by_own_alone = record { same = λ g h k alike. own_sent g k ∙ alike_sent (own g k) (own h k) k alike ∙ sym (own_sent h k) }

@@ -48,7 +48,8 @@ command_begun w v tags front pdu cid whole_is =
       admits = λ none a is. admitted_begun w v.port front pdu v.session cid a whole_is is;
       tells = λ value. tt;
       configures = λ cntlid role s. tt;
-      administers = λ cntlid role s. tt;
+      administers = λ cntlid role c own s is. tt;
+      waits = λ cntlid role c own is. tt;
       performs = λ cntlid qid role port subsystem op is. tt;
       asks = λ cntlid qid role port subsystem len is. tt;
     }) tags

@@ -2,6 +2,8 @@
 use Rattle.std.proofs.Common.{◌≡◌, ℕ, ◌+◌, ◌%◌, ◌<◌, Bool, true, false, List, ◌∷◌, Option, Some, None, refl, sym, ◌∙◌, arith}
 use Rattle.std.specs.Prelude.{if◌then◌else◌}
 use Rattle.std.proofs.Math.Nat.{mod-lt}
+use Rattle.config_rules.specs.Configuration.{Configuration}
+use Rattle.notices.specs.Notices.{NoticeState}
 use Rattle.pdu_codec.specs.Sqe.{cid_of}
 use Rattle.pdu_cut.specs.Front.{Front}
 use Rattle.pdu_cut.specs.Pdu.{data_part}
@@ -21,10 +23,11 @@ use Rattle.target_decision.specs.Transfer.{Tags, head_in}
 use Rattle.target_decision.specs.World.{World}
 use Rattle.target_decision.proofs.Deciding.{decision_is, owed_is}
 use Rattle.target_history.specs.Event.{Event, edited, front_in, opened, opens, stepped, steps, given_up, ticked}
-use Rattle.target_history.specs.Occurrence.{Occurrence, decided, decided_on}
-use Rattle.target_history.specs.History.{Admission, admission_by, admission_of, admission_or, alignment_of, connection_of, has_ended, is_initialized, is_known, port_of, responses_by, responses_since, session_with}
+use Rattle.target_history.specs.Occurrence.{Occurrence, decided, decided_on, edit_made}
+use Rattle.target_history.specs.History.{Admission, admission_by, admission_of, admission_or, alignment_of, connection_of, has_ended, is_initialized, is_known, notices_of, port_of, responses_by, responses_since, session_with}
 use Rattle.target_history.specs.Laws.{HeadsCountResponses, sqsize_of}
 use Rattle.target_history.proofs.Steps.{first_head, one_more}
+use Rattle.target_history.proofs.Telling.{no_completion}
 
 -- ---- the head that a reply carries
 
@@ -33,7 +36,7 @@ HeadIs s (decision.Reply r) = r.sqhd ≡ head_after s r.consequence
 HeadIs s _ = Unit {0}
 
 owed_heads : (s : Session) (cid : ℕ) (transfer : Option ℕ) (o : Outcome) → HeadIs s (owed s cid transfer o)
-owed_heads s cid transfer o = owed_is (HeadIs s) s cid transfer (λ r ends head. head) (λ len. tt) o
+owed_heads s cid transfer o = owed_is (HeadIs s) s cid transfer (λ r ends head. head) (λ len. tt) tt o
 
 decide_heads : (w : World) (v : ConnectionState) (tags : Tags) (front : Front) → HeadIs v.session (decide w v tags front)
 decide_heads w v tags front = decision_is w v tags front (HeadIs v.session) (record {
@@ -59,14 +62,14 @@ decided_heads false w v tags front r h =
     let same : decide w v tags front ≡ decision.Reply r = cc in
     heads_same v.session (decide w v tags front) (decision.Reply r) same (decide_heads w v tags front)
 
-told : (stepping known ended : Bool) (w : World) (tags : Tags) (port alignment : ℕ) (s : Session) (front : Front) (r : Reply)
-    → (if stepping then decided_on w tags (if known then Some (record { port = port; session = if ended then Ended else s; alignment = alignment }) else None) front else None)
+told : (stepping known ended : Bool) (w : World) (tags : Tags) (port alignment : ℕ) (notices : NoticeState) (s : Session) (front : Front) (r : Reply)
+    → (if stepping then decided_on w tags (if known then Some (record { port = port; session = if ended then Ended else s; alignment = alignment; notices = notices }) else None) front else None)
     ≡ Some (decision.Reply r) → r.sqhd ≡ head_after s r.consequence
-told false known ended w tags port alignment s front r h = cc
-told true false ended w tags port alignment s front r h = cc
-told true true true w tags port alignment s front r h = cc
-told true true false w tags port alignment s front r h =
-    decided_heads (is_ended s) w (record { port = port; session = s; alignment = alignment }) tags front r h
+told false known ended w tags port alignment notices s front r h = cc
+told true false ended w tags port alignment notices s front r h = cc
+told true true true w tags port alignment notices s front r h = cc
+told true true false w tags port alignment notices s front r h =
+    decided_heads (is_ended s) w (record { port = port; session = s; alignment = alignment; notices = notices }) tags front r h
 
 -- ---- the head counts
 
@@ -90,14 +93,23 @@ no_open (given_up n) k d e h = refl
 no_open (stepped n front m) k d e h = refl
 no_open (ticked now) k d e h = refl
 
+-- .. and is no edit, of which the host is told
+no_edit : (event : Event) (k : ℕ) (c : Configuration) (d : Option Decision) (e : Decision) → (if steps event k then d else None) ≡ Some e → edit_made event c ≡ None
+no_edit (edited edit) k c d e h = cc
+no_edit (opened port n) k c d e h = refl
+no_edit (given_up n) k c d e h = refl
+no_edit (stepped n front m) k c d e h = refl
+no_edit (ticked now) k c d e h = refl
+
 counts_here : (x : Occurrence) (before : List Occurrence) (k : ℕ) (r : Reply)
     → x.connection k ≡ connection_of before k → decided x k ≡ Some (decision.Reply r)
     → r.sqhd ≡ responses_since (x ∷ before) k % (sqsize_of (admission_of (x ∷ before) k) + 1)
 counts_here x before k r met h =
-    let carries = told (steps x.event k) (is_known before k) (has_ended before k) x.world (x.parts k) (port_of before k) (alignment_of before k)
+    let carries = told (steps x.event k) (is_known before k) (has_ended before k) x.world (x.parts k) (port_of before k) (alignment_of before k) (notices_of before k)
     (session_with (admission_of before k) (is_initialized before k) (responses_since before k)) (front_in x.event) r (rw met at h) in
     let closed = no_open x.event k (decided_on x.world (x.parts k) (x.connection k) (front_in x.event)) (decision.Reply r) h in
-    rw (h, closed) (carries ∙ head_counts r.consequence (admission_of before k) (is_initialized before k) (responses_since before k))
+    let untold = no_completion x (x.connection k) (no_edit x.event k x.world.config (decided_on x.world (x.parts k) (x.connection k) (front_in x.event)) (decision.Reply r) h) in
+    rw (h, closed, untold) (carries ∙ head_counts r.consequence (admission_of before k) (is_initialized before k) (responses_since before k))
 
 pub heads_count_responses : HeadsCountResponses
 heads_count_responses = record { counts = counts_here }

@@ -25,13 +25,14 @@ use Rattle.target_decision.specs.declared.session.Session.TheVariants.{Opened, I
 use Rattle.target_decision.specs.Controller.{restarts}
 use Rattle.target_decision.specs.Transfer.{Tags}
 use Rattle.target_decision.specs.World.{World}
+use Rattle.target_decision.specs.Tell.{completed_in}
 use Rattle.target_history.specs.declared.end_cause.EndCause.{EndCause}
 use Rattle.target_history.specs.declared.end_cause.EndCause.TheVariants as cause
 use Rattle.target_history.specs.EndCause.{cause_edited, cause_lost, cause_replied, cause_set, ends_by, ends_role, ends_row, ends_row_at, ends_session, ends_timer, is_barred, is_on_port}
 use Rattle.target_history.specs.Event.{Event, edited, front_in, opened, stepped, steps, given_up, ticked}
-use Rattle.target_history.specs.Occurrence.{Occurrence, Start, begins, begins_by, consequence_decided, consequence_of, decided, decided_on, decision_of, cause_by, cause_given_up, cause_of, cause_stepped, ends_live, is_end_decided, row_kept, started, stepping, stepping_tags, updates}
+use Rattle.target_history.specs.Occurrence.{Occurrence, Start, begins, begins_by, completed_by, consequence_decided, consequence_of, decided, decided_on, decision_of, cause_by, cause_given_up, cause_of, cause_stepped, ends_live, is_end_decided, noted_by, row_kept, started, stepping, stepping_tags, telling, updates}
 use Rattle.target_history.specs.History.{Opening, clock_of, config_of, controller_of, connection_of, happened, mark_of, meets_after, part_after, row_of}
-use Rattle.target_history.specs.Laws.{EditsEndControllers, NothingExpiresWithoutTicks, PermittedOutliveEdits, ResetsEndTheirQueuesAlone, StaysPermitted, deletes, has_ticks, is_io_queue_of, is_queue_of, is_role_of, is_tick}
+use Rattle.target_history.specs.Laws.{EditsEndControllers, NothingExpiresWithoutTicks, PermittedOutliveEdits, ResetsEndTheirQueuesAlone, StaysPermitted, deletes, has_ticks, is_io_queue_of, is_queue_of, is_role_of, is_tick, told_on}
 use Rattle.target_history.proofs.Lives.{controller_step, row_step}
 use Rattle.target_history.proofs.Steps.{connection_step}
 use Rattle.target_history.proofs.Tests.{either_false, neither, other_true, same_number}
@@ -55,6 +56,7 @@ taken_is (Some v) w tags front None ch is h changes = absurd (changes (sym h))
 taken_is (Some v) w tags front (Some (decision.Initialize alignment)) ch is h changes = absurd (changes (sym h))
 taken_is (Some v) w tags front (Some (decision.Request q)) ch is h changes = absurd (changes (sym h))
 taken_is (Some v) w tags front (Some (decision.Receive ttag)) ch is h changes = absurd (changes (sym h))
+taken_is (Some v) w tags front (Some (decision.Wait cid)) ch is h changes = absurd (changes (sym h))
 taken_is (Some v) w tags front (Some (decision.Reply r)) ch is h changes = ap cause_replied h
 taken_is (Some v) w tags front (Some (decision.Terminate t)) ch is h changes = absurd (changes (sym h))
 taken_is (Some v) w tags front (Some decision.Close) ch is h changes = absurd (changes (sym h))
@@ -192,11 +194,16 @@ module _ (disks : Opening) (events : List Event) (edit : Edit) (c : ℕ) (row : 
   controller_stays = controller_step x before c ∙ rw lives refl
 
   connection_stays : (k : ℕ) (v : ConnectionState) → connection_of before k ≡ Some v → is_queue_of c v.session ≡ true
-      → deletes edit v.port ≡ false → connection_of (x ∷ before) k ≡ Some v
+      → deletes edit v.port ≡ false → connection_of (x ∷ before) k ≡ Some (told_on x v)
   connection_stays k v met is port =
       let here : ends_by (cause_edited edit) (ends_live x) v ≡ false =
       rw (port_outlives edit v.port port) (session_outlives edit (ends_live x) c v.session lives is) in
-      connection_step x before k refl ∙ rw (met, here) refl
+      connection_step x before k refl ∙ rw met (ap Some (whole (ap (λ (over : Bool). if over then Ended else completed_in v.session (completed_by (telling x v) v.notices)) here)))
+    where
+      whole : {s t : Session} → s ≡ t
+          → record { port = v.port; session = s; alignment = v.alignment; notices = noted_by (telling x v) v.notices }
+          ≡ (record { port = v.port; session = t; alignment = v.alignment; notices = noted_by (telling x v) v.notices } : ConnectionState)
+      whole p = rw p refl
 
 pub permitted_outlive_edits : PermittedOutliveEdits
 permitted_outlive_edits = record {
@@ -295,6 +302,7 @@ taken_no_timer (Some v) None o = refl
 taken_no_timer (Some v) (Some (decision.Initialize alignment)) o = refl
 taken_no_timer (Some v) (Some (decision.Request q)) o = refl
 taken_no_timer (Some v) (Some (decision.Receive ttag)) o = refl
+taken_no_timer (Some v) (Some (decision.Wait cid)) o = refl
 taken_no_timer (Some v) (Some (decision.Reply r)) o = reply_no_timer r.consequence o
 taken_no_timer (Some v) (Some (decision.Terminate t)) o = lost_no_timer v.session o
 taken_no_timer (Some v) (Some decision.Close) o = lost_no_timer v.session o

@@ -14,5 +14,6 @@ pub mod Roles
 pub mod Serving
 pub mod Steps
 pub mod Tags
+pub mod Telling
 pub mod Terminations
 pub mod Tests

@@ -6,6 +6,7 @@ use Rattle.config_edits.specs.declared.edit.Edit.{Edit}
 use Rattle.config_edits.specs.declared.edit.Edit.TheVariants.{PortDel}
 use Rattle.config_rules.specs.Configuration.{Configuration}
 use Rattle.fabrics_connect.specs.declared.row.Row.{Row}
+use Rattle.event_queue.specs.declared.completion.Completion.{Completion}
 use Rattle.property_regs.specs.declared.regs.Change.TheVariants as change
 use Rattle.property_regs.specs.declared.regs.Change.{Change}
 use Rattle.target_decision.specs.declared.consequence.Consequence.{Consequence}
@@ -20,17 +21,19 @@ use Rattle.target_decision.specs.declared.session.Role.TheVariants.{Admin, Io}
 use Rattle.target_decision.specs.declared.session.Session.{Session}
 use Rattle.target_decision.specs.declared.session.Session.TheVariants.{Opened, Initialized, Connected, Ended}
 use Rattle.target_decision.specs.Consequence.{role_by}
-use Rattle.target_decision.specs.Session.{opened_on, replied, responded_in, role_in}
+use Rattle.target_decision.specs.Session.{opened_on, replied, role_in}
+use Rattle.target_decision.specs.Tell.{completed_in}
 use Rattle.target_decision.specs.Transfer.{Tags}
 use Rattle.target_decision.specs.World.{World}
 use Rattle.target_history.specs.declared.end_cause.EndCause.{EndCause}
 use Rattle.target_history.specs.declared.end_cause.EndCause.TheVariants as cause
 use Rattle.target_history.specs.EndCause.{cause_edited, cause_lost, cause_replied, cause_set, ends_by, ends_role, ends_row_at, ends_session, is_on_port}
 use Rattle.target_history.specs.Event.{Event, edited, front_in, gives_up, opened, opens, port_in, stepped, steps, given_up, ticked}
-use Rattle.target_history.specs.Occurrence.{Occurrence, consequence_decided, consequence_of, connection_after, connection_moved, decided, decided_on, decision_of, cause_given_up, cause_of, cause_stepped, ends_live, is_end_decided, port_at, port_met, session_decided, stepping, terminates}
+use Rattle.target_history.specs.Occurrence.{Occurrence, completed_by, consequence_decided, consequence_of, connection_after, connection_moved, decided, decided_on, decision_of, cause_given_up, cause_of, cause_stepped, ends_live, is_end_decided, port_at, port_met, session_decided, stepping, telling, terminates}
 use Rattle.target_history.specs.Laws.{role_at}
 use Rattle.target_history.proofs.Admissions.{AdmitsAt, AdmitsBy, own_admits}
 use Rattle.target_history.proofs.Endings.{decided_is, reply_ends}
+use Rattle.target_history.proofs.Telling.{completed_role, responded_role}
 use Rattle.target_history.proofs.Tests.{either_true, neither, or_false_is, same_here, same_number}
 
 -- whether the connection's own step, or its giving up, ends it
@@ -88,12 +91,6 @@ role_kept e gone (Connected r queue) role is h =
     ap (ends_role e gone) (sym same) ∙ h
 role_kept e gone Ended role is h = cc
 
-responded_role : (s : Session) → role_in (responded_in s) ≡ role_in s
-responded_role Opened = refl
-responded_role Initialized = refl
-responded_role (Connected role queue) = refl
-responded_role Ended = refl
-
 module _ (x : Occurrence) (k : ℕ) (role : Role) (v : ConnectionState) (met : x.connection k ≡ Some v)
     (opening : opens x.event k ≡ false) (giving : gives_up x.event k ≡ false)
     (lives : ends_by (cause_of x) (ends_live x) v ≡ false) where
@@ -129,6 +126,7 @@ module _ (x : Occurrence) (k : ℕ) (role : Role) (v : ConnectionState) (met : x
   turned_is (Some (decision.Initialize alignment)) is h = cc
   turned_is (Some (decision.Request q)) is h = inl (stays_by (Some (decision.Request q)) is refl h)
   turned_is (Some (decision.Receive ttag)) is h = inl (stays_by (Some (decision.Receive ttag)) is refl h)
+  turned_is (Some (decision.Wait cid)) is h = inl (stays_by (Some (decision.Wait cid)) is refl h)
   turned_is (Some (decision.Reply r)) is h = replied_is r r.consequence is refl h
   turned_is (Some (decision.Terminate t)) is h = cc
   turned_is (Some decision.Close) is h = cc
@@ -136,10 +134,13 @@ module _ (x : Occurrence) (k : ℕ) (role : Role) (v : ConnectionState) (met : x
 moved_is : (x : Occurrence) (k : ℕ) (role : Role) (v : ConnectionState) → x.connection k ≡ Some v → opens x.event k ≡ false → gives_up x.event k ≡ false
     → role_in (connection_moved x k v).session ≡ Some role → Stays x k role ⊎ Comes x k role
 moved_is x k role v met opening giving h = by (ends_by (cause_of x) (ends_live x) v) refl h where
+  cs : List Completion
+  cs = completed_by (telling x v) v.notices
+
   by : (over : Bool) → ends_by (cause_of x) (ends_live x) v ≡ over
-      → role_in (if over then Ended else session_decided v.session (decided x k)) ≡ Some role → Stays x k role ⊎ Comes x k role
+      → role_in (if over then Ended else completed_in (session_decided v.session (decided x k)) cs) ≡ Some role → Stays x k role ⊎ Comes x k role
   by true is h = cc
-  by false is h = turned_is x k role v met opening giving is (decided x k) refl h
+  by false is h = turned_is x k role v met opening giving is (decided x k) refl (sym (completed_role (session_decided v.session (decided x k)) cs) ∙ h)
 
 -- A connection that is a queue after an event was it before, or becomes it.
 pub after_is : (x : Occurrence) (k : ℕ) (role : Role) → role_at (connection_after x k (x.connection k)) ≡ Some role
@@ -190,6 +191,7 @@ step_loses x n (Some v) None met leaving = tt
 step_loses x n (Some v) (Some (decision.Initialize alignment)) met leaving = tt
 step_loses x n (Some v) (Some (decision.Request q)) met leaving = tt
 step_loses x n (Some v) (Some (decision.Receive ttag)) met leaving = tt
+step_loses x n (Some v) (Some (decision.Wait cid)) met leaving = tt
 step_loses x n (Some v) (Some (decision.Reply r)) met leaving = reply_loses x r.consequence
 step_loses x n (Some v) (Some (decision.Terminate t)) met leaving = session_loses x n v.session (ap role_at met) (leaving refl)
 step_loses x n (Some v) (Some decision.Close) met leaving = session_loses x n v.session (ap role_at met) (leaving refl)
@@ -240,6 +242,7 @@ step_lost (Some v) None role is ends = cc
 step_lost (Some v) (Some (decision.Initialize alignment)) role is ends = cc
 step_lost (Some v) (Some (decision.Request q)) role is ends = cc
 step_lost (Some v) (Some (decision.Receive ttag)) role is ends = cc
+step_lost (Some v) (Some (decision.Wait cid)) role is ends = cc
 step_lost (Some v) (Some (decision.Reply r)) role is ends = cc
 step_lost (Some v) (Some (decision.Terminate t)) role is ends = session_lost v.session role is
 step_lost (Some v) (Some decision.Close) role is ends = session_lost v.session role is
@@ -288,9 +291,17 @@ turned_remains row port s role None is h goes = is
 turned_remains row port s role (Some (decision.Initialize alignment)) is h goes = absurd (some_none role (sym is ∙ h))
 turned_remains row port s role (Some (decision.Request q)) is h goes = is
 turned_remains row port s role (Some (decision.Receive ttag)) is h goes = is
+turned_remains row port s role (Some (decision.Wait cid)) is h goes = is
 turned_remains row port s role (Some (decision.Reply r)) is h goes = replied_remains row port s role r.consequence is h
 turned_remains row port s role (Some (decision.Terminate t)) is h goes = cc
 turned_remains row port s role (Some decision.Close) is h goes = cc
+
+-- .. of a connection that is not ended
+living : (x : Occurrence) (k : ℕ) (role : Role) (v : ConnectionState) → ends_by (cause_of x) (ends_live x) v ≡ false
+    → role_in (completed_in (session_decided v.session (decided x k)) (completed_by (telling x v) v.notices)) ≡ Some role
+    → role_in (connection_moved x k v).session ≡ Some role
+living x k role v lives h =
+    ap (λ (over : Bool). role_in (if over then Ended else completed_in (session_decided v.session (decided x k)) (completed_by (telling x v) v.notices))) lives ∙ h
 
 -- a connection remains the queue that it is
 pub remains_is : (x : Occurrence) (k : ℕ) (role : Role) → role_at (x.connection k) ≡ Some role → opens x.event k ≡ false → leaves x k ≡ false
@@ -305,7 +316,9 @@ remains_is x k role is opening leaving port kept = by (x.connection k) is port (
   by None is port h = cc
   by (Some v) is port h =
       let lives : ends_by (cause_of x) (ends_live x) v ≡ false = rw port (session_remains (cause_of x) (ends_live x) v.session role is kept) in
-      rw (opening, parts.1, lives) (turned_remains x.world.row v.port v.session role (decided x k) is h parts.0)
+      let cs = completed_by (telling x v) v.notices in
+      rw (opening, parts.1) (living x k role v lives (completed_role (session_decided v.session (decided x k)) cs
+      ∙ turned_remains x.world.row v.port v.session role (decided x k) is h parts.0))
 
 -- ---- what comes of a Connect
 
@@ -326,6 +339,7 @@ turn_made None s role h = cc
 turn_made (Some (decision.Initialize alignment)) s role h = cc
 turn_made (Some (decision.Request q)) s role h = cc
 turn_made (Some (decision.Receive ttag)) s role h = cc
+turn_made (Some (decision.Wait cid)) s role h = cc
 turn_made (Some (decision.Reply r)) s role h = reply_made r.consequence s role h
 turn_made (Some (decision.Terminate t)) s role h = cc
 turn_made (Some decision.Close) s role h = cc
@@ -352,4 +366,5 @@ made_is x k role stepping opening giving made = by (x.connection k) refl where
       cc
   by (Some v) met =
       let lives : ends_by (cause_of x) (ends_live x) v ≡ false = rw nothing (none_gone (ends_live x) v.session (λ c. nothing_ends x c nothing)) in
-      rw (opening, giving, lives) (turn_made (decided x k) v.session role own)
+      let cs = completed_by (telling x v) v.notices in
+      rw (opening, giving) (living x k role v lives (completed_role (session_decided v.session (decided x k)) cs ∙ turn_made (decided x k) v.session role own))

@@ -15,6 +15,7 @@ use Rattle.target_decision.specs.declared.consequence.Consequence.TheVariants as
 use Rattle.target_decision.specs.declared.consequence.Update.TheVariants as update
 use Rattle.target_decision.specs.declared.decision.Decision.{Decision}
 use Rattle.target_decision.specs.declared.decision.Decision.TheVariants as decision
+use Rattle.notices.specs.Notices.{NoticeState}
 use Rattle.target_decision.specs.declared.session.ConnectionState.{ConnectionState}
 use Rattle.target_decision.specs.declared.session.Role.{Role}
 use Rattle.target_decision.specs.declared.session.Role.TheVariants.{Admin, Io}
@@ -32,7 +33,7 @@ use Rattle.target_history.specs.declared.end_cause.EndCause.TheVariants as cause
 use Rattle.target_history.specs.EndCause.{cause_replied, cause_set, ends_by}
 use Rattle.target_history.specs.Event.{Event, edited, front_in, opened, opens, stepped, steps, given_up, gives_up, ticked}
 use Rattle.target_history.specs.Occurrence.{Occurrence, consequence_decided, consequence_of, decided, decided_on, cause_of, cause_stepped, ends_at, ends_live, is_end_decided, tags_decided, terminates}
-use Rattle.target_history.specs.History.{Opening, alignment_of, connection_of, happened, has_ended, is_known, meets_after, part_of, port_of}
+use Rattle.target_history.specs.History.{Opening, alignment_of, connection_of, happened, has_ended, is_known, meets_after, notices_of, part_of, port_of}
 use Rattle.target_history.specs.Laws.{is_io_queue_of, role_at}
 use Rattle.target_history.specs.Terminations.{EndedHaveNoTransfers, StepsEndTheirOwn}
 use Rattle.target_history.proofs.Endings.{resets_end_their_queues_alone}
@@ -65,7 +66,8 @@ command_updates w v tags cid entry bytes =
       admits = λ none a is. admitted_updates (role_in v.session) v.session cid a entry;
       tells = λ value. tt;
       configures = λ cntlid role s. role;
-      administers = λ cntlid role s. role;
+      administers = λ cntlid role c own s is. role;
+      waits = λ cntlid role c own is. tt;
       performs = λ cntlid qid role port subsystem op is. tt;
       asks = λ cntlid qid role port subsystem len is. tt;
     }) tags
@@ -168,6 +170,7 @@ goes_on x k stepping going = by (x.connection k) (decided x k) refl refl (own_up
   by (Some v) (Some (decision.Initialize alignment)) met is sets = nothing_at x (x.connection k) (taken (Some v) (Some (decision.Initialize alignment)) met is)
   by (Some v) (Some (decision.Request q)) met is sets = nothing_at x (x.connection k) (taken (Some v) (Some (decision.Request q)) met is)
   by (Some v) (Some (decision.Receive ttag)) met is sets = nothing_at x (x.connection k) (taken (Some v) (Some (decision.Receive ttag)) met is)
+  by (Some v) (Some (decision.Wait cid)) met is sets = nothing_at x (x.connection k) (taken (Some v) (Some (decision.Wait cid)) met is)
   by (Some v) (Some (decision.Reply r)) met is sets =
       replied_at x k v r.consequence met (makes (Some (decision.Reply r)) is) sets (taken (Some v) (Some (decision.Reply r)) met is)
   by (Some v) (Some (decision.Terminate t)) met is sets = let over : true ≡ false = cause_decided_so (Some (decision.Terminate t)) is in cc
@@ -175,14 +178,14 @@ goes_on x k stepping going = by (x.connection k) (decided x k) refl refl (own_up
 
 -- ---- ended connections
 
-none_at : (stepping known : Bool) (w : World) (tags : Tags) (port alignment : ℕ) (front : Front)
-    → (if stepping then decided_on w tags (if known then Some (record { port = port; session = Ended; alignment = alignment }) else None) front else None) ≡ None
-none_at true true w tags port alignment front = refl
-none_at true false w tags port alignment front = refl
-none_at false known w tags port alignment front = refl
+none_at : (stepping known : Bool) (w : World) (tags : Tags) (port alignment : ℕ) (notices : NoticeState) (front : Front)
+    → (if stepping then decided_on w tags (if known then Some (record { port = port; session = Ended; alignment = alignment; notices = notices }) else None) front else None) ≡ None
+none_at true true w tags port alignment notices front = refl
+none_at true false w tags port alignment notices front = refl
+none_at false known w tags port alignment notices front = refl
 
 ended_met : (x : Occurrence) (before : List Occurrence) (k : ℕ) → x.connection k ≡ connection_of before k → has_ended before k ≡ true
-    → x.connection k ≡ (if is_known before k then Some (record { port = port_of before k; session = Ended; alignment = alignment_of before k }) else None)
+    → x.connection k ≡ (if is_known before k then Some (record { port = port_of before k; session = Ended; alignment = alignment_of before k; notices = notices_of before k }) else None)
 ended_met x before k met ended = met ∙ rw ended refl
 
 -- no step ends a connection that is ended
@@ -191,7 +194,7 @@ ended_goes_on : (x : Occurrence) (before : List Occurrence) (k : ℕ) → x.conn
 ended_goes_on x before k met ended =
     let none : decided x k ≡ None =
     ap (λ (o : Option ConnectionState). if steps x.event k then decided_on x.world (x.parts k) o (front_in x.event) else None) (ended_met x before k met ended)
-    ∙ none_at (steps x.event k) (is_known before k) x.world (x.parts k) (port_of before k) (alignment_of before k) (front_in x.event) in
+    ∙ none_at (steps x.event k) (is_known before k) x.world (x.parts k) (port_of before k) (alignment_of before k) (notices_of before k) (front_in x.event) in
     ap is_end_decided none
 
 steps_own : (stepping : Bool) (d : Option Decision) → is_end_decided (if stepping then d else None) ≡ true → stepping ≡ true
@@ -265,7 +268,7 @@ none_left false false false false false d front tags t h silent none = cc
 nothing_decided : (x : Occurrence) (before : List Occurrence) (k : ℕ) → x.connection k ≡ connection_of before k → has_ended before k ≡ true → decided x k ≡ None
 nothing_decided x before k met ended =
     ap (λ (o : Option ConnectionState). if steps x.event k then decided_on x.world (x.parts k) o (front_in x.event) else None) (ended_met x before k met ended)
-    ∙ none_at (steps x.event k) (is_known before k) x.world (x.parts k) (port_of before k) (alignment_of before k) (front_in x.event)
+    ∙ none_at (steps x.event k) (is_known before k) x.world (x.parts k) (port_of before k) (alignment_of before k) (notices_of before k) (front_in x.event)
 
 no_transfers : (disks : Opening) (events : List Event) (k t : ℕ) → has_ended (happened disks events) k ≡ true → part_of (happened disks events) k t ≡ None
 no_transfers disks [] k t ended = refl

@@ -4,6 +4,9 @@ use Rattle.std.specs.Prelude.{ℕ, ◌+◌, ◌%◌, ◌^◌, Bool, true, false,
 use Rattle.std.specs.List.{range_with_len}
 use Rattle.std.specs.Option.{option_map}
 use Rattle.admin_queue.specs.Pages.{Pages}
+use Rattle.ana_view.specs.Counts.{Counts}
+use Rattle.ana_view.specs.Group.{listed}
+use Rattle.ana_view.specs.Page.{ana_page}
 use Rattle.change_lists.specs.ActiveList.{list_page, nsids_above}
 use Rattle.config_words.specs.Numbered.{active_nsids}
 use Rattle.discovery_view.specs.Page.{discovery_page}
@@ -13,6 +16,7 @@ use Rattle.config_rules.specs.Configuration.{Configuration, disks_alone}
 use Rattle.fabrics_connect.specs.declared.row.Row.{Row}
 use Rattle.block_store.specs.Write.{Write, contents_after}
 use Rattle.io_queue.specs.Execution.{Act}
+use Rattle.notices.specs.Notices.{NoticeState, notices_at_connect}
 use Rattle.pdu_cut.specs.Front.{Front, incomplete, whole, faulty}
 use Rattle.pdu_cut.specs.Pdu.{Pdu}
 use Rattle.property_regs.specs.declared.kind.ControllerKind.TheVariants.{Discovery}
@@ -33,7 +37,7 @@ use Rattle.target_decision.specs.World.{World}
 use Rattle.target_history.specs.declared.end_cause.EndCause.{EndCause}
 use Rattle.target_history.specs.declared.end_cause.EndCause.TheVariants as cause
 use Rattle.target_history.specs.Event.{Event, edited, front_in, gives_up, opens, port_in, steps}
-use Rattle.target_history.specs.Occurrence.{Occurrence, Start, acts, alignment_decided, begins, consequence_of, clock_after, config_after, decided, cause_of, ends, ends_live, initializes, own_consequence, parts_after, responses, sends, updates}
+use Rattle.target_history.specs.Occurrence.{Occurrence, Start, acts, alignment_decided, begins, consequence_of, clock_after, config_after, decided, cause_of, ends, ends_live, initializes, noted_at, notices_decided, own_consequence, parts_after, responses, sends, updates}
 
 -- the units of each disk that a target is made with
 abbrev pub Opening : Type 0
@@ -72,9 +76,19 @@ page_of disks happened host = discovery_page (generation_of disks happened host 
 abbrev pub active_of : Opening → List Occurrence → List ℕ → ℕ → List ℕ
 active_of disks happened subsystem above = list_page (nsids_above above (active_nsids (config_of disks happened).namespaces subsystem))
 
+-- ---- the Asymmetric Namespace Access log page (Base 2.0, section 5.16.1.13)
+
+-- of a subsystem on a port, with these counts of changes, with or without identifiers
+abbrev pub groups_page_of : Opening → List Occurrence → List ℕ → ℕ → Counts → Bool → List ℕ
+groups_page_of disks happened subsystem port counts groups_only = ana_page groups_only counts (listed (config_of disks happened) subsystem port)
+
 -- what log pages and lists show; a further one is a field more
 abbrev pub pages_of : Opening → List Occurrence → Pages
-pages_of disks happened = record { discovery = page_of disks happened; active = active_of disks happened }
+pages_of disks happened = record {
+  discovery = page_of disks happened;
+  active = active_of disks happened;
+  ana = groups_page_of disks happened;
+}
 
 -- ---- connections (TCP Transport 1.0, section 3)
 
@@ -102,6 +116,13 @@ is_initialized (x ∷ before) k = not (opens x.event k) && (initializes x k || i
 abbrev pub alignment_of : List Occurrence → ℕ → ℕ
 alignment_of [] k = 0
 alignment_of (x ∷ before) k = if opens x.event k then 0 else alignment_decided (alignment_of before k) (decided x k)
+
+-- what the host of the controller whose admin queue it is is to be told, by its own commands and resets, and by each edit
+-- that it is told of: the requests that wait, the kinds of events, the counts of changes and the namespaces that changed
+abbrev pub notices_of : List Occurrence → ℕ → NoticeState
+notices_of [] k = notices_at_connect
+notices_of (x ∷ before) k =
+    if opens x.event k then notices_at_connect else noted_at x (x.connection k) (notices_decided (notices_of before k) (decided x k))
 
 -- ---- its queue, from its Connect on (Base 2.0, section 6.3)
 
@@ -152,7 +173,12 @@ session_of happened k =
 abbrev pub connection_of : List Occurrence → ℕ → Option ConnectionState
 connection_of happened k =
     if is_known happened k
-    then Some (record { port = port_of happened k; session = session_of happened k; alignment = alignment_of happened k })
+    then Some (record {
+      port = port_of happened k;
+      session = session_of happened k;
+      alignment = alignment_of happened k;
+      notices = notices_of happened k;
+    })
     else None
 
 -- what stands under a tag of it: the transfer that an R2T began, with the data that came since, while not all has come,

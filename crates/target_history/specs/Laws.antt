@@ -1,11 +1,13 @@
 -- Laws of histories.
-use Rattle.std.specs.Prelude.{◌≡◌, ◌≤◌, ℕ, ◌+◌, ◌%◌, Bool, true, false, ◌==◌, ◌||◌, ◌&&◌, List, [], ◌∷◌, Option, Some, None, IsSomeAnd, if◌then◌else◌}
+use Rattle.std.specs.Prelude.{◌≡◌, ◌≤◌, ℕ, ◌+◌, ◌%◌, Bool, true, false, ◌==◌, ◌||◌, ◌&&◌, List, [], ◌∷◌, length, Option, Some, None, IsSomeAnd, if◌then◌else◌}
 use Rattle.admin_queue.specs.Controller.{AdminController}
 use Rattle.admin_queue.specs.Laws.{ToldAlike}
+use Rattle.ana_view.specs.Counts.{Counts}
 use Rattle.config_edits.specs.declared.edit.Edit.{Edit}
 use Rattle.config_edits.specs.declared.edit.Edit.TheVariants.{PortDel}
 use Rattle.config_rules.specs.Permission.{may_use}
 use Rattle.data_transfer.specs.Parts.{count_of}
+use Rattle.event_queue.specs.declared.changes.ViewChanges.{ViewChanges}
 use Rattle.fabrics_connect.specs.declared.row.Row.{Row}
 use Rattle.fabrics_connect.specs.Command.{Parameters, parameters_of}
 use Rattle.fabrics_connect.specs.Connect.{is_served}
@@ -15,6 +17,8 @@ use Rattle.fabrics_connect.specs.Row.{has_queue as has_qid}
 use Rattle.io_queue.specs.declared.operation.Operation.{Operation}
 use Rattle.io_queue.specs.Laws.{SeenAlike}
 use Rattle.io_queue.specs.Operation.{disk_of}
+use Rattle.notices.specs.Notices.{NoticeState}
+use Rattle.notices.specs.Viewer.{changes_seen}
 use Rattle.nvt_fields.specs.declared.pdu_type.PduType.{PduType}
 use Rattle.nvt_fields.specs.declared.pdu_type.PduType.TheVariants.{CapsuleCmd}
 use Rattle.pdu_codec.specs.Sqe.{fctype_of, opcode_of}
@@ -35,11 +39,12 @@ use Rattle.target_decision.specs.Begin.{bytes_at, entry_at}
 use Rattle.target_decision.specs.Capsule.{connect_type, fabrics_opcode, is_ready_at}
 use Rattle.target_decision.specs.Controller.{registers_at}
 use Rattle.target_decision.specs.Session.{role_in}
+use Rattle.target_decision.specs.Tell.{completed_in}
 use Rattle.target_decision.specs.World.{World, admin_controller}
 use Rattle.target_history.specs.EndCause.{ends_timer}
 use Rattle.target_history.specs.Event.{Event, edited, front_in, gives_up, opens, steps, ticked}
-use Rattle.target_history.specs.Occurrence.{Occurrence, consequence_of, decided, cause_of, ends, ends_live, operation_decided, responses}
-use Rattle.target_history.specs.History.{Admission, active_of, Opening, admission_of, clock_of, config_of, controller_of, connection_of, happened, has_ended, is_known, is_live, mark_of, meets_after, page_of, part_of, port_of, responses_since, row_of, sent}
+use Rattle.target_history.specs.Occurrence.{Occurrence, Telling, completed_by, consequence_of, decided, cause_of, ends, ends_live, noted_by, operation_decided, responses, telling}
+use Rattle.target_history.specs.History.{Admission, active_of, Opening, admission_of, clock_of, config_of, controller_of, connection_of, groups_page_of, happened, has_ended, is_known, is_live, mark_of, meets_after, notices_of, page_of, part_of, port_of, responses_since, row_of, sent}
 
 -- ---- what connections are sent
 
@@ -74,10 +79,14 @@ abbrev pub responses_of : List Occurrence → ℕ → ℕ
 responses_of [] k = 0
 responses_of (x ∷ before) k = if opens x.event k then 0 else responses x k + responses_of before k
 
--- each response answers a capsule, and each command that waits for its data came in one
+-- the commands of a connection that are outstanding: those that wait for their data, and the event requests that wait
+abbrev pub outstanding_of : List Occurrence → ℕ → ℕ
+outstanding_of happened k = count_of (part_of happened k) + length (notices_of happened k).events.waiting
+
+-- each response answers a capsule, and each command that is outstanding came in one
 pub record ResponsesAnswerCapsules : Type 0 where
   pub answer : (disks : Opening) (events : List Event) (k : ℕ)
-      → responses_of (happened disks events) k + count_of (part_of (happened disks events) k) ≤ capsules_of (happened disks events) k
+      → responses_of (happened disks events) k + outstanding_of (happened disks events) k ≤ capsules_of (happened disks events) k
 
 abbrev pub is_edit : Event → Bool
 is_edit (edited edit) = true
@@ -88,6 +97,9 @@ pub record PagesChangeByEdits : Type 0 where
       → page_of disks (x ∷ before) host ≡ page_of disks before host
   pub lists : (disks : Opening) (x : Occurrence) (before : List Occurrence) (subsystem : List ℕ) (above : ℕ) → is_edit x.event ≡ false
       → active_of disks (x ∷ before) subsystem above ≡ active_of disks before subsystem above
+  pub groups : (disks : Opening) (x : Occurrence) (before : List Occurrence) (subsystem : List ℕ) (port : ℕ) (counts : Counts) (groups_only : Bool)
+      → is_edit x.event ≡ false
+      → groups_page_of disks (x ∷ before) subsystem port counts groups_only ≡ groups_page_of disks before subsystem port counts groups_only
 
 -- the size of the queue that a Connect made, and 0 where there is none
 abbrev pub sqsize_of : Option Admission → ℕ
@@ -103,9 +115,9 @@ pub record HeadsCountResponses : Type 0 where
 
 -- ---- what one connection owes another
 
--- an event opens, steps or gives up connection k
+-- an event opens, steps or gives up connection k, or is an edit, of which its host may be told
 abbrev pub is_of : Event → ℕ → Bool
-is_of event k = opens event k || (steps event k || gives_up event k)
+is_of event k = opens event k || (steps event k || (gives_up event k || is_edit event))
 
 -- what happened to connection k itself, the newest first
 abbrev pub own : List Occurrence → ℕ → List Occurrence
@@ -133,11 +145,11 @@ AreToldAlike (Some c) v w = ToldAlike c v.pages w.pages v.config w.config
 
 -- .. and the admin queue of a controller whether it is ready, its properties, its host, subsystem and timeout, and
 -- what can be told of it
-pub record AdminAlike (v w : World) (cntlid : ℕ) : Type 0 where
+pub record AdminAlike (v w : World) (notices : NoticeState) (cntlid : ℕ) : Type 0 where
   pub ready : is_ready_at (v.row cntlid) ≡ is_ready_at (w.row cntlid)
   pub registers : registers_at (v.controller cntlid) ≡ registers_at (w.controller cntlid)
-  pub controller : admin_controller v cntlid ≡ admin_controller w cntlid
-  pub told : AreToldAlike (admin_controller v cntlid) v w
+  pub controller : admin_controller v notices cntlid ≡ admin_controller w notices cntlid
+  pub told : AreToldAlike (admin_controller v notices cntlid) v w
 
 -- what an I/O command sees of its controller
 pub record IoSeen : Type 0 where
@@ -163,34 +175,44 @@ pub record IoAlike (v w : World) (cntlid : ℕ) : Type 0 where
   pub controller : io_seen (v.row cntlid) ≡ io_seen (w.row cntlid)
   pub seen : AreSeenAlike (io_seen (v.row cntlid)) v w
 
-abbrev pub RoleAlike : World → World → Role → Type 0
-RoleAlike v w (Admin cntlid) = AdminAlike v w cntlid
-RoleAlike v w (Io cntlid qid) = IoAlike v w cntlid
+abbrev pub RoleAlike : World → World → NoticeState → Role → Type 0
+RoleAlike v w notices (Admin cntlid) = AdminAlike v w notices cntlid
+RoleAlike v w notices (Io cntlid qid) = IoAlike v w cntlid
 
 -- .. and a connection that is no queue what its Connect asks about, and nothing else
-abbrev pub SessionAlike : World → World → ℕ → Front → Session → Type 0
-SessionAlike v w port front Opened = Unit {0}
-SessionAlike v w port front Initialized = is_connect front ≡ true → ConnectAlike v w port (parameters_of (entry_at front) (bytes_at front))
-SessionAlike v w port front (Connected role queue) = RoleAlike v w role
-SessionAlike v w port front Ended = Unit {0}
+abbrev pub SessionAlike : World → World → ConnectionState → Front → Session → Type 0
+SessionAlike v w c front Opened = Unit {0}
+SessionAlike v w c front Initialized = is_connect front ≡ true → ConnectAlike v w c.port (parameters_of (entry_at front) (bytes_at front))
+SessionAlike v w c front (Connected role queue) = RoleAlike v w c.notices role
+SessionAlike v w c front Ended = Unit {0}
 
 abbrev pub WorldAlike : World → World → Front → Option ConnectionState → Type 0
 WorldAlike v w front None = Unit {0}
-WorldAlike v w front (Some c) = SessionAlike v w c.port front c.session
+WorldAlike v w front (Some c) = SessionAlike v w c front c.session
 
 -- the disk of an operation, where there is one, has the same blocks
 abbrev pub DiskAlike : Option Operation → (ℕ → List (List ℕ)) → (ℕ → List (List ℕ)) → Type 0
 DiskAlike None b c = Unit {0}
 DiskAlike (Some op) b c = b (disk_of op) ≡ c (disk_of op)
 
+-- which of the views of the controller whose admin queue a connection is an edit changes that is told there
+abbrev pub changes_of : Option Telling → Option ViewChanges
+changes_of None = None
+changes_of (Some t) = Some (changes_seen t.old t.new t.views)
+
+abbrev pub changes_at : Occurrence → Option ConnectionState → Option ViewChanges
+changes_at x None = None
+changes_at x (Some v) = changes_of (telling x v)
+
 -- the same event twice, which met connection k as the same, and where it is its step in worlds that showed it
--- the same, with the same blocks on the disk of its operation
+-- the same, with the same blocks on the disk of its operation; and where it is an edit it changed the same of its views
 pub record SameFor (k : ℕ) (x y : Occurrence) : Type 0 where
   pub event : y.event ≡ x.event
   pub connection : x.connection k ≡ y.connection k
   pub parts : x.parts k ≡ y.parts k
   pub world : steps x.event k ≡ true → WorldAlike x.world y.world (front_in x.event) (x.connection k)
   pub disk : DiskAlike (operation_decided (decided x k)) x.blocks y.blocks
+  pub changes : changes_at x (x.connection k) ≡ changes_at y (y.connection k)
 
 abbrev pub HappenedAlike : List Occurrence → List Occurrence → ℕ → Type 0
 HappenedAlike [] [] k = Unit {0}
@@ -243,7 +265,15 @@ pub record StaysPermitted (disks : Opening) (events : List Event) (edit : Edit) 
   pub port : deletes edit row.port ≡ false
   pub permitted : is_permitted (config_of disks (happened disks (edited edit ∷ events))) row ≡ true
 
--- .. then it outlives the edit, all as it was, and so do those of its connections whose port is not deleted
+-- a connection after an event that does not end it and is no step of it: its host is told, where it is an edit
+abbrev pub told_on : Occurrence → ConnectionState → ConnectionState
+told_on x v = record v {
+  session = completed_in v.session (completed_by (telling x v) v.notices);
+  notices = noted_by (telling x v) v.notices;
+}
+
+-- .. then it outlives the edit, all as it was, and so do those of its connections whose port is not deleted; its host is
+-- told of the edit
 pub record PermittedOutliveEdits : Type 0 where
   pub row : (disks : Opening) (events : List Event) (edit : Edit) (c : ℕ) (row : Row) → StaysPermitted disks events edit c row
       → row_of (happened disks (edited edit ∷ events)) c ≡ Some row
@@ -252,7 +282,8 @@ pub record PermittedOutliveEdits : Type 0 where
   pub connections : (disks : Opening) (events : List Event) (edit : Edit) (c : ℕ) (row : Row) (k : ℕ) (v : ConnectionState)
       → StaysPermitted disks events edit c row → connection_of (happened disks events) k ≡ Some v
       → is_queue_of c v.session ≡ true → deletes edit v.port ≡ false
-      → connection_of (happened disks (edited edit ∷ events)) k ≡ Some v
+      → connection_of (happened disks (edited edit ∷ events)) k
+      ≡ Some (told_on (meets_after disks (happened disks events) (edited edit)) v)
 
 -- an edit that deletes the port of a controller ends it, and so does any edit after which its host may not use its
 -- subsystem through its port

@@ -1,5 +1,5 @@
 -- An event with what it met, and what it comes to for each connection and each controller.
-use Rattle.std.specs.Prelude.{ℕ, ◌==◌, max, Bool, true, false, ◌||◌, List, [], Option, Some, None, Result, Ok, Err, if◌then◌else◌}
+use Rattle.std.specs.Prelude.{ℕ, ◌+◌, ◌==◌, max, Bool, true, false, ◌||◌, List, [], ◌++◌, length, Option, Some, None, Result, Ok, Err, if◌then◌else◌}
 use Rattle.std.specs.Option.{option_map}
 use Rattle.config_edits.specs.declared.fault.EditFault.{EditFault}
 use Rattle.config_rules.specs.Accept.{accept}
@@ -10,6 +10,9 @@ use Rattle.fabrics_connect.specs.Row.{joined, left, left_all, row_begun, with_re
 use Rattle.io_queue.specs.Act.{DiskOutcome}
 use Rattle.io_queue.specs.declared.operation.Operation.{Operation}
 use Rattle.io_queue.specs.Execution.{Act, DisksDid}
+use Rattle.event_queue.specs.declared.completion.Completion.{Completion}
+use Rattle.notices.specs.Notices.{NoticeState, tell_answers, told}
+use Rattle.notices.specs.Viewer.{Views, discovery, io}
 use Rattle.pdu_cut.specs.Front.{Front}
 use Rattle.property_regs.specs.Regs.{is_ready}
 use Rattle.target_decision.specs.declared.controller.Controller.{Controller}
@@ -21,13 +24,16 @@ use Rattle.target_decision.specs.declared.decision.Decision.{Decision}
 use Rattle.target_decision.specs.declared.decision.Decision.TheVariants as decision
 use Rattle.target_decision.specs.declared.session.ConnectionState.{ConnectionState}
 use Rattle.target_decision.specs.declared.session.Session.{Session}
-use Rattle.target_decision.specs.declared.session.Session.TheVariants.{Ended}
+use Rattle.target_decision.specs.declared.session.Role.TheVariants.{Admin}
+use Rattle.target_decision.specs.declared.session.Session.TheVariants.{Connected, Ended}
 use Rattle.target_decision.specs.Begin.{bytes_at, entry_at, row_by}
 use Rattle.target_decision.specs.Carry.{brought_by, tags_after}
 use Rattle.target_decision.specs.Consequence.{update_by}
 use Rattle.target_decision.specs.Controller.{new_controller, registers_by, updated}
 use Rattle.target_decision.specs.Decision.{act_by, decide, is_end, operation_of, sent_by}
+use Rattle.target_decision.specs.Notice.{notices_after}
 use Rattle.target_decision.specs.Session.{alignment_after, is_ended, opened_on, session_after}
+use Rattle.target_decision.specs.Tell.{completed_in, completion_pdus}
 use Rattle.target_decision.specs.Transfer.{Tags, no_tags}
 use Rattle.target_decision.specs.World.{World}
 use Rattle.target_history.specs.declared.end_cause.EndCause.{EndCause}
@@ -105,14 +111,6 @@ is_initialize _ = false
 abbrev pub initializes : Occurrence → ℕ → Bool
 initializes x k = is_initialize (decided x k)
 
-abbrev pub responses_decided : Option Decision → ℕ
-responses_decided (Some (decision.Reply r)) = 1
-responses_decided _ = 0
-
--- the number of responses that it sends to the connection
-abbrev pub responses : Occurrence → ℕ → ℕ
-responses x k = responses_decided (decided x k)
-
 -- ---- what ends
 
 abbrev pub cause_stepped : Option ConnectionState → Option Decision → EndCause
@@ -155,6 +153,77 @@ ends_at x (Some v) = ends_by (cause_of x) (ends_live x) v
 abbrev pub ends : Occurrence → ℕ → Bool
 ends x k = terminates x k || ends_at x (x.connection k)
 
+-- ---- what an edit tells
+
+abbrev pub made_by : Result Configuration EditFault → Option Configuration
+made_by (Ok c) = Some c
+made_by (Err fault) = None
+
+-- the configuration that it makes, where it is an edit that is accepted
+abbrev pub edit_made : Event → Configuration → Option Configuration
+edit_made (edited edit) c = made_by (accept c edit)
+edit_made _ c = None
+
+-- what the controller of a row shows: a discovery controller, which has no subsystem, the discovery log page of its host
+abbrev pub views_named : List ℕ → Option (List ℕ) → ℕ → Views
+views_named host None port = discovery host
+views_named host (Some subsystem) port = io subsystem port
+
+abbrev pub views_of : Row → Views
+views_of row = views_named row.host row.subsystem row.port
+
+-- .. whose admin queue a session is
+abbrev pub views_in : (ℕ → Option Row) → Session → Option Views
+views_in row (Connected (Admin c) queue) = option_map views_of (row c)
+views_in row _ = None
+
+-- an edit from one configuration to another, as the host of a controller that shows this is told of it
+pub record Telling : Type 0 where
+  pub old : Configuration
+  pub new : Configuration
+  pub views : Views
+
+abbrev pub telling_by : Configuration → Option Configuration → Option Views → Option Telling
+telling_by old None views = None
+telling_by old (Some new) None = None
+telling_by old (Some new) (Some views) = Some (record { old = old; new = new; views = views })
+
+-- what is told on a connection: an accepted edit, where that is the admin queue of a controller that it does not end
+abbrev pub views_at : Occurrence → ConnectionState → Option Views
+views_at x v = if ends_by (cause_of x) (ends_live x) v then None else views_in x.world.row v.session
+
+abbrev pub telling : Occurrence → ConnectionState → Option Telling
+telling x v = telling_by x.world.config (edit_made x.event x.world.config) (views_at x v)
+
+-- the requests that it completes, and what is told after it
+abbrev pub completed_by : Option Telling → NoticeState → List Completion
+completed_by None s = []
+completed_by (Some t) s = tell_answers t.old t.new t.views s
+
+abbrev pub noted_by : Option Telling → NoticeState → NoticeState
+noted_by None s = s
+noted_by (Some t) s = told t.old t.new t.views s
+
+abbrev pub completes_at : Occurrence → Option ConnectionState → List Completion
+completes_at x None = []
+completes_at x (Some v) = completed_by (telling x v) v.notices
+
+-- the requests of connection k that it completes
+abbrev pub completes : Occurrence → ℕ → List Completion
+completes x k = completes_at x (x.connection k)
+
+abbrev pub noted_at : Occurrence → Option ConnectionState → NoticeState → NoticeState
+noted_at x None s = s
+noted_at x (Some v) s = noted_by (telling x v) s
+
+abbrev pub responses_decided : Option Decision → ℕ
+responses_decided (Some (decision.Reply r)) = 1
+responses_decided _ = 0
+
+-- the number of responses that it sends to the connection
+abbrev pub responses : Occurrence → ℕ → ℕ
+responses x k = responses_decided (decided x k) + length (completes x k)
+
 -- ---- what a connection is sent, and becomes
 
 abbrev pub sends_on : World → (ℕ → List (List ℕ)) → DiskOutcome → Tags → Option ConnectionState → Option Decision → Front → List ℕ
@@ -162,9 +231,18 @@ sends_on w blocks m tags None d front = []
 sends_on w blocks m tags (Some v) None front = []
 sends_on w blocks m tags (Some v) (Some d) front = sent_by w blocks m v d front (brought_by tags d front)
 
+-- .. by what is decided for connection k
+abbrev pub replies_to : Occurrence → ℕ → List ℕ
+replies_to x k = sends_on x.world x.blocks (disk_outcome_in x.event) (x.parts k) (x.connection k) (decided x k) (front_in x.event)
+
+-- .. and by an edit
+abbrev pub told_at : Occurrence → Option ConnectionState → List ℕ
+told_at x None = []
+told_at x (Some v) = completion_pdus v.session (completed_by (telling x v) v.notices)
+
 -- what it sends to connection k
 abbrev pub sends : Occurrence → ℕ → List ℕ
-sends x k = sends_on x.world x.blocks (disk_outcome_in x.event) (x.parts k) (x.connection k) (decided x k) (front_in x.event)
+sends x k = replies_to x k ++ told_at x (x.connection k)
 
 -- ---- what it asks of a disk, and writes
 
@@ -217,11 +295,18 @@ abbrev pub alignment_decided : ℕ → Option Decision → ℕ
 alignment_decided before None = before
 alignment_decided before (Some d) = alignment_after before d
 
+abbrev pub notices_decided : NoticeState → Option Decision → NoticeState
+notices_decided before None = before
+notices_decided before (Some d) = notices_after before d
+
 abbrev pub connection_moved : Occurrence → ℕ → ConnectionState → ConnectionState
 connection_moved x k v = record {
   port = v.port;
-  session = if ends_by (cause_of x) (ends_live x) v then Ended else session_decided v.session (decided x k);
+  session =
+      if ends_by (cause_of x) (ends_live x) v then Ended else
+      completed_in (session_decided v.session (decided x k)) (completed_by (telling x v) v.notices);
   alignment = alignment_decided v.alignment (decided x k);
+  notices = noted_by (telling x v) (notices_decided v.notices (decided x k));
 }
 
 abbrev pub connection_after : Occurrence → ℕ → Option ConnectionState → Option ConnectionState

@@ -22,13 +22,13 @@ pub fn deleted_ports_end()
 {}
 
 /// A connection is sent no more responses than it sent capsules, less those whose commands wait for their
-/// data.
+/// data or for something to tell.
 #[tactic(auto, using(crate::proofs::Histories::responses_answer_capsules))]
 pub fn responses_answer_capsules()
     ensures { ResponsesAnswerCapsules }
 {}
 
-/// A discovery log page changes by edits alone.
+/// Log pages and lists change by edits alone, but for the counts of a controller and its changed namespaces.
 #[tactic(auto, using(crate::proofs::Histories::pages_change_by_edits))]
 pub fn pages_change_by_edits()
     ensures { PagesChangeByEdits }
@@ -41,7 +41,8 @@ pub fn heads_count_responses()
 {}
 
 /// A connection to which the same happened, in worlds that showed it the same of its own
-/// controller, is sent the same, whatever happens to other connections and controllers.
+/// controller, and of which edits changed the same, is sent the same, whatever happens to other
+/// connections and controllers.
 #[tactic(auto, using(crate::proofs::Alike::sent_by_own_alone))]
 pub fn sent_by_own_alone()
     ensures { SentByOwnAlone }
@@ -54,7 +55,7 @@ pub fn resets_end_their_queues_alone()
 {}
 
 /// A controller whose host may still use its subsystem outlives each edit that does not delete its
-/// port, and so do its connections.
+/// port, and so do its connections, on which its host is told of the edit.
 #[tactic(auto, using(crate::proofs::Endings::permitted_outlive_edits))]
 pub fn permitted_outlive_edits()
     ensures { PermittedOutliveEdits }
