@@ -1,7 +1,7 @@
 //! The controllers that live, in two tables by their identifiers: what all connections may see of
 //! each, and what its own admin queue alone uses. Both have the same controllers.
 ghost use Rattle.std.specs.Prelude.{◌≡◌, ℕ, IfOk, None, Some, if◌then◌else◌, length};
-ghost use Rattle.std.specs.Option.{option_map};
+ghost use Rattle.std.specs.Option.{option_copied, option_map};
 ghost use Rattle.number_table.specs.Table.{place};
 ghost use Rattle.controller_tables.specs.Controllers.{AreTables, CanFollow, IsNewTables, gone_by, is_gone, world_with};
 ghost use Rattle.target_decision.specs.declared.consequence.Consequence.TheVariants as consequence;
@@ -63,6 +63,13 @@ impl ControllerTables {
             rows: &self.rows,
             controllers: &self.own,
         }
+    }
+
+    /// What all connections may see of the controller of this identifier, where it lives.
+    pub fn row(&self, cntlid: u16) -> Option<&Row>
+        ensures { option_copied result ≡ place self.now.rows cntlid }
+    {
+        self.rows.get(cntlid)
     }
 
     /// Removes the controllers that an event ends, where it has left this configuration: by a Keep
@@ -198,6 +205,7 @@ pub fn consequence_of(decision: &Decision) -> Consequence
         Decision::Initialize(_)
         | Decision::Request(_)
         | Decision::Receive { .. }
+        | Decision::Wait { .. }
         | Decision::Terminate(_)
         | Decision::Close => Consequence::Nothing,
     }

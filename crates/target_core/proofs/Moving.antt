@@ -1,62 +1,101 @@
 -- What the calls make of a target, place by place.
-use Rattle.std.proofs.Common.{◌≡◌, ℕ, ◌<◌, Bool, true, false, List, [], length, map, ◌++◌, max, Option, Some, None, Ok, refl, sym, ap, ◌∙◌, append-nil}
+use Rattle.std.proofs.Common.{◌≡◌, ℕ, ◌<◌, Bool, true, false, List, [], length, map, ◌++◌, max, Option, Some, None, Result, Ok, refl, sym, ap, ◌∙◌, append-nil}
 use Rattle.std.specs.Prelude.{if◌then◌else◌, ◌==◌, is_none, position}
 use Rattle.std.specs.Option.{option_map}
 use Rattle.number_table.specs.Table.{place, with_value, without}
 use Rattle.number_table.proofs.Tables.{least_free-Some, place-map, place-with_value, place-without}
 use Rattle.config_edits.specs.declared.edit.Edit.{Edit}
+use Rattle.config_edits.specs.declared.fault.EditFault.{EditFault}
 use Rattle.config_rules.specs.Accept.{accept}
 use Rattle.config_rules.specs.Configuration.{Configuration}
 use Rattle.controller_tables.specs.Controllers.{TablesState, gone_by}
 use Rattle.controller_tables.proofs.Staying.{nothing_gone, nothing_goes, nothing_leaves}
 use Rattle.block_store.specs.Stored.{Stored}
+use Rattle.fabrics_connect.specs.declared.row.Row.{Row}
+use Rattle.notices.specs.Viewer.{Views}
 use Rattle.data_transfer.specs.Part.{Part}
 use Rattle.data_transfer.specs.Parts.{Stand, part_at, without_queue}
 use Rattle.io_queue.specs.Act.{DiskOutcome}
 use Rattle.io_queue.specs.Execution.{contents_at}
 use Rattle.pdu_cut.specs.Front.{Front}
-use Rattle.target_core.specs.Connection.{KnownConnection, ends_known, fresh_on, settled}
+use Rattle.target_core.specs.Connection.{KnownConnection, ends_known, fresh_on, settled, told_known, told_to}
 use Rattle.target_core.specs.Transition.{Transition, known_moved}
 use Rattle.target_core.specs.Target.{TargetState, meets}
 use Rattle.target_views.specs.Views.{ShowNext}
 use Rattle.target_decision.specs.declared.decision.Decision.{Decision}
 use Rattle.target_decision.specs.declared.session.ConnectionState.{ConnectionState}
-use Rattle.target_decision.specs.declared.session.Session.TheVariants.{Ended}
+use Rattle.target_decision.specs.declared.session.Role.TheVariants.{Admin, Io}
+use Rattle.target_decision.specs.declared.session.Session.{Session}
+use Rattle.target_decision.specs.declared.session.Session.TheVariants.{Opened, Initialized, Connected, Ended}
 use Rattle.target_decision.specs.declared.transfer.WaitingCommand.{WaitingCommand}
+use Rattle.target_decision.specs.Tell.{completed_in, completion_pdus}
 use Rattle.target_decision.specs.Transfer.{Tags}
 use Rattle.target_decision.specs.World.{World}
 use Rattle.target_history.specs.declared.end_cause.EndCause.{EndCause}
 use Rattle.target_history.specs.declared.end_cause.EndCause.TheVariants as cause
-use Rattle.target_history.specs.EndCause.{cause_edited, cause_lost, ends_by}
+use Rattle.target_history.specs.EndCause.{cause_edited, cause_lost, ends_by, ends_session, is_on_port}
 use Rattle.target_history.specs.Event.{Event, edited, front_in, disk_outcome_in, opened, opens, given_up, gives_up, ticked}
-use Rattle.target_history.specs.Occurrence.{Occurrence, alignment_decided, config_after, decided, cause_of, ends_live, parts_after, row_kept, sends_on, session_decided}
+use Rattle.target_history.specs.Occurrence.{Occurrence, Telling, alignment_decided, completed_by, config_after, connection_moved, decided, cause_of, edit_made, ends_live, made_by, noted_by, notices_decided, parts_after, row_kept, sends_on, session_decided, telling, telling_by, told_at, views_at, views_in, views_of}
+use Rattle.target_history.proofs.Endings.{kept_whole}
+use Rattle.target_history.proofs.Telling.{no_telling}
+use Rattle.target_history.proofs.Tests.{neither}
 use Rattle.target_core.proofs.Settling.{nothing_drops, same_at}
 
 abbrev pub tables_of : TargetState → TablesState
 tables_of t = record { rows = t.rows; own = t.controllers }
 
--- what an event makes of a connection, by what is decided on it and what ends elsewhere
+-- what an event that is no edit makes of a connection, by what is decided on it and what ends elsewhere
 abbrev pub turned : World → (ℕ → List (List ℕ)) → DiskOutcome → Tags → Option Decision → Front → EndCause → (ℕ → Bool) → KnownConnection → KnownConnection
 turned w blocks m tags d found e gone c = record {
   state = record {
     port = c.state.port;
     session = if ends_by e gone c.state then Ended else session_decided c.state.session d;
     alignment = alignment_decided c.state.alignment d;
+    notices = notices_decided c.state.notices d;
   };
   output = c.output ++ sends_on w blocks m tags (Some c.state) d found;
 }
 
-pub moved_is : (x : Occurrence) (k : ℕ) (c : KnownConnection) → x.connection k ≡ Some c.state
-    → known_moved x k c ≡ turned x.world x.blocks (disk_outcome_in x.event) (x.parts k) (decided x k) (front_in x.event) (cause_of x) (ends_live x) c
-moved_is x k c met =
+-- .. and any, where this is told
+abbrev moved_as : Occurrence → ℕ → KnownConnection → Option Telling → KnownConnection
+moved_as x k c t = record {
+  state = record {
+    port = c.state.port;
+    session =
+        if ends_by (cause_of x) (ends_live x) c.state then Ended else
+        completed_in (session_decided c.state.session (decided x k)) (completed_by t c.state.notices);
+    alignment = alignment_decided c.state.alignment (decided x k);
+    notices = noted_by t (notices_decided c.state.notices (decided x k));
+  };
+  output = c.output ++ (sends_on x.world x.blocks (disk_outcome_in x.event) (x.parts k) (Some c.state) (decided x k) (front_in x.event)
+      ++ completion_pdus c.state.session (completed_by t c.state.notices));
+}
+
+moves_as : (x : Occurrence) (k : ℕ) (c : KnownConnection) → x.connection k ≡ Some c.state → known_moved x k c ≡ moved_as x k c (telling x c.state)
+moves_as x k c met =
     ap (λ (o : Option ConnectionState). let d : KnownConnection = record {
+      state = connection_moved x k c.state;
+      output = c.output ++ (sends_on x.world x.blocks (disk_outcome_in x.event) (x.parts k) o (decided x k) (front_in x.event) ++ told_at x o);
+    } in d) met
+
+-- ---- what is no edit
+
+untold_as : (x : Occurrence) (k : ℕ) (c : KnownConnection)
+    → moved_as x k c None ≡ turned x.world x.blocks (disk_outcome_in x.event) (x.parts k) (decided x k) (front_in x.event) (cause_of x) (ends_live x) c
+untold_as x k c =
+    ap (λ (l : List ℕ). let d : KnownConnection = record {
       state = record {
         port = c.state.port;
         session = if ends_by (cause_of x) (ends_live x) c.state then Ended else session_decided c.state.session (decided x k);
         alignment = alignment_decided c.state.alignment (decided x k);
+        notices = notices_decided c.state.notices (decided x k);
       };
-      output = c.output ++ sends_on x.world x.blocks (disk_outcome_in x.event) (x.parts k) o (decided x k) (front_in x.event);
-    } in d) met
+      output = c.output ++ l;
+    } in d) (append-nil (sends_on x.world x.blocks (disk_outcome_in x.event) (x.parts k) (Some c.state) (decided x k) (front_in x.event)))
+
+pub moved_is : (x : Occurrence) (k : ℕ) (c : KnownConnection) → x.connection k ≡ Some c.state → edit_made x.event x.world.config ≡ None
+    → known_moved x k c ≡ turned x.world x.blocks (disk_outcome_in x.event) (x.parts k) (decided x k) (front_in x.event) (cause_of x) (ends_live x) c
+moved_is x k c met unedited = moves_as x k c met ∙ ap (moved_as x k c) (no_telling x c.state unedited) ∙ untold_as x k c
 
 settled_turned : (w : World) (blocks : ℕ → List (List ℕ)) (m : DiskOutcome) (tags : Tags) (found : Front) (e : EndCause) (gone : ℕ → Bool) (c : KnownConnection) → settled e gone c ≡ turned w blocks m tags None found e gone c
 settled_turned w blocks m tags found e gone c = by (ends_by e gone c.state) where
@@ -71,13 +110,13 @@ settled_turned w blocks m tags found e gone c = by (ends_by e gone c.state) wher
 
 -- where nothing is decided on it, what ends elsewhere is all that becomes of it
 pub silent_at : (x : Occurrence) (k : ℕ) (o : Option KnownConnection)
-    → x.connection k ≡ option_map (λ (c : KnownConnection). c.state) o → decided x k ≡ None
+    → x.connection k ≡ option_map (λ (c : KnownConnection). c.state) o → decided x k ≡ None → edit_made x.event x.world.config ≡ None
     → option_map (settled (cause_of x) (ends_live x)) o ≡ option_map (known_moved x k) o
-silent_at x k None met none = refl
-silent_at x k (Some c) met none =
+silent_at x k None met none unedited = refl
+silent_at x k (Some c) met none unedited =
     ap Some (settled_turned x.world x.blocks (disk_outcome_in x.event) (x.parts k) (front_in x.event) (cause_of x) (ends_live x) c
     ∙ ap (λ (d : Option Decision). turned x.world x.blocks (disk_outcome_in x.event) (x.parts k) d (front_in x.event) (cause_of x) (ends_live x) c) (sym none)
-    ∙ sym (moved_is x k c met))
+    ∙ sym (moved_is x k c met unedited))
 
 pub stream_stays : (o : Option (List ℕ)) → o ≡ option_map (λ held. held) o
 stream_stays None = refl
@@ -98,32 +137,116 @@ gone_after : (old : TargetState) (event : Event) (config : Configuration) → co
 gone_after old event config after =
     ap (λ (c : Configuration). gone_by (cause_of (meets old event)) c (tables_of old)) (sym after)
 
-pub edit_moves : (old new : TargetState) (edit : Edit) → accept old.config edit ≡ Ok new.config → new.clock ≡ old.clock
+-- what a controller that stays shows is the same
+views_stay : (edit : Edit) (gone : ℕ → Bool) (rows row : ℕ → Option Row) (c : ℕ) → gone c ≡ false
+    → rows c ≡ (if gone c then None else option_map (row_kept (cause_edited edit) c) (row c)) → option_map views_of (rows c) ≡ option_map views_of (row c)
+views_stay edit gone rows row c lives is =
+    ap (option_map views_of) (is ∙ ap (λ (over : Bool). if over then None else option_map (row_kept (cause_edited edit) c) (row c)) lives) ∙ by (row c)
+  where
+    by : (o : Option Row) → option_map views_of (option_map (row_kept (cause_edited edit) c) o) ≡ option_map views_of o
+    by None = refl
+    by (Some r) = ap (λ (kept : Row). Some (views_of kept)) (kept_whole edit c r)
+
+viewer_stays : (edit : Edit) (gone : ℕ → Bool) (rows row : ℕ → Option Row) (s : Session) → ends_session (cause_edited edit) gone s ≡ false
+    → ((c : ℕ) → rows c ≡ (if gone c then None else option_map (row_kept (cause_edited edit) c) (row c))) → views_in rows s ≡ views_in row s
+viewer_stays edit gone rows row (Connected (Admin c) queue) lasts is = views_stay edit gone rows row c lasts (is c)
+viewer_stays edit gone rows row (Connected (Io c qid) queue) lasts is = refl
+viewer_stays edit gone rows row Opened lasts is = refl
+viewer_stays edit gone rows row Initialized lasts is = refl
+viewer_stays edit gone rows row Ended lasts is = refl
+
+-- an edit ends a connection, or its host is told
+module _ (old : TargetState) (edit : Edit) (new : Configuration) (rows : ℕ → Option Row) (k : ℕ) (accepted : accept old.config edit ≡ Ok new)
+    (is : (c : ℕ) → rows c ≡ (if ends_live (meets old (edited edit)) c then None else option_map (row_kept (cause_edited edit) c) (place old.rows c))) where
+  abbrev x : Occurrence
+  x = meets old (edited edit)
+
+  abbrev e : EndCause
+  e = cause_edited edit
+
+  made : edit_made (edited edit) old.config ≡ Some new
+  made = ap made_by accepted
+
+  -- by whether it is ended, and what is shown
+  abbrev edit_as : KnownConnection → Bool → Option Telling → KnownConnection
+  edit_as c over t = record {
+    state = record {
+      port = c.state.port;
+      session = if over then Ended else completed_in c.state.session (completed_by t c.state.notices);
+      alignment = c.state.alignment;
+      notices = noted_by t c.state.notices;
+    };
+    output = c.output ++ completion_pdus c.state.session (completed_by t c.state.notices);
+  }
+
+  told_as : (c : KnownConnection) (views : Option Views) → told_to old.config new views c ≡ edit_as c false (telling_by old.config (Some new) views)
+  told_as c None = simp append-nil
+  told_as c (Some views) = refl
+
+  over_as : (c : KnownConnection) → (let d : KnownConnection = record c { state = record c.state { session = Ended } } in d) ≡ edit_as c true None
+  over_as c = simp append-nil
+
+  edit_turned : (c : KnownConnection) (over : Bool) → ends_by e (ends_live x) c.state ≡ over
+      → told_known old.config new rows (if over then record c { state = record c.state { session = Ended } } else c)
+      ≡ edit_as c over (telling_by old.config (Some new) (if over then None else views_in x.world.row c.state.session))
+  edit_turned c true ends = over_as c
+  edit_turned c false ends =
+      ap (λ (views : Option Views). told_to old.config new views c)
+      (viewer_stays edit (ends_live x) rows x.world.row c.state.session (neither (is_on_port e c.state.port) (ends_session e (ends_live x) c.state.session) ends).1 is)
+      ∙ told_as c (views_in x.world.row c.state.session)
+
+  told_settled : (c : KnownConnection) → place old.connections k ≡ Some c → told_known old.config new rows (settled e (ends_live x) c) ≡ known_moved x k c
+  told_settled c known =
+      edit_turned c (ends_by e (ends_live x) c.state) refl
+      ∙ ap (λ (m : Option Configuration). edit_as c (ends_by e (ends_live x) c.state) (telling_by old.config m (views_at x c.state))) (sym made)
+      ∙ sym (moves_as x k c (ap (option_map (λ (d : KnownConnection). d.state)) known))
+
+  edit_at : (o : Option KnownConnection) → place old.connections k ≡ o
+      → option_map (told_known old.config new rows) (option_map (settled e (ends_live x)) o) ≡ option_map (known_moved x k) o
+  edit_at None known = refl
+  edit_at (Some c) known = ap Some (told_settled c known)
+
+-- what an edit makes is one configuration
+pub made_same : (made : Result Configuration EditFault) (a b : Configuration) → made ≡ Ok a → made ≡ Ok b → a ≡ b
+made_same made a b h k = cc
+
+pub edit_moves : (old new : TargetState) (edit : Edit) (before after : Configuration) → accept old.config edit ≡ Ok new.config → before ≡ old.config → after ≡ new.config
+    → new.clock ≡ old.clock
     → ShowNext new.config old.shown new.shown → new.streams ≡ old.streams
-    → new.connections ≡ map (option_map (settled (cause_edited edit) (gone_by (cause_edited edit) new.config (tables_of old)))) old.connections
+    → new.connections ≡ map (option_map (told_known before after (λ (c : ℕ). place new.rows c)))
+    (map (option_map (settled (cause_edited edit) (gone_by (cause_edited edit) new.config (tables_of old)))) old.connections)
     → ((c : ℕ) → place new.rows c ≡ (if gone_by (cause_edited edit) new.config (tables_of old) c then None else
     option_map (row_kept (cause_edited edit) c) (place old.rows c)))
     → ((c : ℕ) → place new.controllers c ≡ (if gone_by (cause_edited edit) new.config (tables_of old) c then None else place old.controllers c))
     → ((k t : ℕ) → part_at new.transfers k t ≡ (if ends_known (cause_edited edit) (gone_by (cause_edited edit) new.config (tables_of old)) (place old.connections k) then None else part_at old.transfers k t))
     → new.disks ≡ old.disks → Transition (edited edit) old new
-edit_moves old new edit accepted clock shown streams connections rows controllers parts disks =
+edit_moves old new edit before now accepted first last clock shown streams connections rows controllers parts disks =
     let x = meets old (edited edit) in
     let after : config_after (edited edit) old.config ≡ new.config = rw accepted refl in
     let gone = gone_after old (edited edit) new.config after in
+    let row : (c : ℕ) → place new.rows c ≡ (if ends_live x c then None else option_map (row_kept (cause_edited edit) c) (place old.rows c)) =
+    (λ c. rows c ∙ ap (λ (g : ℕ → Bool). if g c then None else option_map (row_kept (cause_edited edit) c) (place old.rows c)) gone) in
+    let told = told_known old.config new.config (λ (c : ℕ). place new.rows c) in
     record {
       stands = tt;
       config = sym after;
       clock = clock;
       shown = shown;
       connection = λ k. ap (λ (l : List (Option KnownConnection)). place l k)
-          (connections ∙ ap (λ (g : ℕ → Bool). map (option_map (settled (cause_edited edit) g)) old.connections) gone)
-          ∙ place-map (settled (cause_edited edit) (ends_live x)) old.connections k ∙ silent_at x k (place old.connections k) refl refl;
+          (connections
+          ∙ ap (λ (c : Configuration). map (option_map (told_known c now (λ (n : ℕ). place new.rows n)))
+          (map (option_map (settled (cause_edited edit) (gone_by (cause_edited edit) new.config (tables_of old)))) old.connections)) first
+          ∙ ap (λ (c : Configuration). map (option_map (told_known old.config c (λ (n : ℕ). place new.rows n)))
+          (map (option_map (settled (cause_edited edit) (gone_by (cause_edited edit) new.config (tables_of old)))) old.connections)) last
+          ∙ ap (λ (g : ℕ → Bool). map (option_map told) (map (option_map (settled (cause_edited edit) g)) old.connections)) gone)
+          ∙ place-map told (map (option_map (settled (cause_edited edit) (ends_live x))) old.connections) k
+          ∙ ap (option_map told) (place-map (settled (cause_edited edit) (ends_live x)) old.connections k)
+          ∙ edit_at old edit new.config (λ (n : ℕ). place new.rows n) k accepted row (place old.connections k) refl;
       part = λ k t. parts k t
           ∙ ap (λ (g : ℕ → Bool). if ends_known (cause_edited edit) g (place old.connections k) then None else part_at old.transfers k t) gone
           ∙ part_at-silent x k (place old.connections k) (part_at old.transfers k) t refl refl refl refl;
       stream = λ k. rw streams (stream_stays (place old.streams k));
-      row = λ c. rows c
-          ∙ ap (λ (g : ℕ → Bool). if g c then None else option_map (row_kept (cause_edited edit) c) (place old.rows c)) gone;
+      row = row;
       controller = λ c. controllers c ∙ ap (λ (g : ℕ → Bool). if g c then None else place old.controllers c) gone;
       blocks = λ d. ap (λ (l : List Stored). contents_at l d) disks;
     }
@@ -146,7 +269,7 @@ tick_moves old new now config clock shown streams connections rows controllers p
       clock = clock;
       shown = shown;
       connection = λ k. ap (λ (l : List (Option KnownConnection)). place l k) connections
-          ∙ place-map (settled (cause.Clock (max old.clock now)) (ends_live x)) old.connections k ∙ silent_at x k (place old.connections k) refl refl;
+          ∙ place-map (settled (cause.Clock (max old.clock now)) (ends_live x)) old.connections k ∙ silent_at x k (place old.connections k) refl refl refl;
       part = λ k t. parts k t ∙ part_at-silent x k (place old.connections k) (part_at old.transfers k) t refl refl refl refl;
       stream = λ k. rw streams (stream_stays (place old.streams k));
       row = rows;
@@ -186,7 +309,7 @@ open_moves old new port k free within config shown clock streams connections row
         ≡ (if same then Some (fresh_on port) else option_map (known_moved (meets old (opened port k)) j) (place old.connections j))
     here j true = refl
     here j false = sym (same_at (ends_live (meets old (opened port k))) none (place old.connections j))
-        ∙ silent_at (meets old (opened port k)) j (place old.connections j) refl refl
+        ∙ silent_at (meets old (opened port k)) j (place old.connections j) refl refl refl
 
     part_here : (j t : ℕ) (same : Bool) → (j == k) ≡ same
         → (if same then None else part_at old.transfers j t) ≡ parts_after (meets old (opened port k)) j (part_at old.transfers j) t
@@ -239,7 +362,7 @@ end_moves old new k c e known is config shown clock streams connections rows con
     here lost j false =
         place-map (settled e (gone_by e old.config (tables_of old))) old.connections j
         ∙ ap (λ (f : EndCause). option_map (settled f (gone_by f old.config (tables_of old))) (place old.connections j)) (sym lost)
-        ∙ silent_at (meets old (given_up k)) j (place old.connections j) refl refl
+        ∙ silent_at (meets old (given_up k)) j (place old.connections j) refl refl refl
 
     part_here : cause_of (meets old (given_up k)) ≡ e → (j t : ℕ)
         → part_at mid j t ≡ (if ends_known e (gone_by e old.config (tables_of old)) (place old.connections j) then None else part_at old.transfers j t)

@@ -91,6 +91,7 @@ decision_settles (decision.Terminate t) gone port s quiet =
     either_ended (ends_in (cause_decided s (decision.Terminate t)) gone port Ended) (ends_in (cause_decided s (decision.Terminate t)) gone port s)
 decision_settles (decision.Request q) gone port s quiet = refl
 decision_settles (decision.Receive ttag) gone port s quiet = refl
+decision_settles (decision.Wait cid) gone port s quiet = refl
 decision_settles decision.Close gone port s quiet =
     either_ended (ends_in (cause_decided s decision.Close) gone port Ended) (ends_in (cause_decided s decision.Close) gone port s)
 
@@ -132,6 +133,7 @@ tags_settle (decision.Reply r) found tags t gone port s quiet =
     same_tests _ _ (tags_after (decision.Reply r) found tags t) (reply_ends r.consequence gone port s quiet)
 tags_settle (decision.Request q) found tags t gone port s quiet = refl
 tags_settle (decision.Receive ttag) found tags t gone port s quiet = refl
+tags_settle (decision.Wait cid) found tags t gone port s quiet = refl
 tags_settle (decision.Terminate u) found tags t gone port s quiet =
     always_none (ends_in (cause_decided s (decision.Terminate u)) gone port Ended) true None None refl refl
 tags_settle decision.Close found tags t gone port s quiet =

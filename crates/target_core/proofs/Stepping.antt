@@ -106,7 +106,7 @@ step_at old k found m c d e j known lasts decides ends met true same =
     let there : place old.connections j ≡ Some c = ap (place old.connections) (eqb-true j k same) ∙ known in
     let seen : x.connection j ≡ Some c.state = ap (option_map (λ (a : KnownConnection). a.state)) there in
     let transition : known_moved x j c ≡ turned (world_at old) (contents_at old.disks) m (part_at old.transfers k) (Some d) found e (gone_by e old.config (tables_of old)) c =
-    moved_is x j c seen
+    moved_is x j c seen refl
     ∙ ap (λ n. turned x.world x.blocks m (part_at old.transfers n) (decided x j) found (cause_of x) (ends_live x) c) (eqb-true j k same)
     ∙ ap (λ (b : Option Decision). turned x.world x.blocks m (part_at old.transfers k) b found (cause_of x) (ends_live x) c) (decides_here old k found m c d j same there lasts decides)
     ∙ ap (λ (f : EndCause). turned x.world x.blocks m (part_at old.transfers k) (Some d) found f (gone_by f old.config (tables_of old)) c) met in
@@ -118,7 +118,7 @@ step_at old k found m c d e j known lasts decides ends met true same =
 step_at old k found m c d e j known lasts decides ends met false same =
     let x = meets old (stepped k found m) in
     ap (λ (f : EndCause). option_map (settled f (gone_by f old.config (tables_of old))) (place old.connections j)) (sym met)
-    ∙ silent_at x j (place old.connections j) refl (decides_none old k found m j same)
+    ∙ silent_at x j (place old.connections j) refl (decides_none old k found m j same) refl
 
 stream_at : (found : Front) (held : List ℕ) (o : Option (List ℕ)) (same : Bool) → (same ≡ true → o ≡ Some held)
     → (if same then Some (drop (consumed_of found) held) else o) ≡ option_map (λ held. if same then drop (consumed_of found) held else held) o
@@ -159,6 +159,7 @@ row_so (decision.Reply r) port found = refl
 row_so (decision.Initialize alignment) port found = refl
 row_so (decision.Request q) port found = refl
 row_so (decision.Receive ttag) port found = refl
+row_so (decision.Wait cid) port found = refl
 row_so (decision.Terminate t) port found = refl
 row_so decision.Close port found = refl
 

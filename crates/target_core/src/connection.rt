@@ -3,21 +3,28 @@ ghost use Rattle.std.specs.Prelude.{◌≡◌, ◌<◌, ◌≤◌, OnErr, OnOk, 
 ghost use Rattle.controller_tables.specs.Controllers.{is_gone};
 ghost use Rattle.data_transfer.specs.Parts.{Stand, part_at};
 ghost use Rattle.io_queue.specs.Execution.{sizes};
+ghost use Rattle.notices.specs.Viewer.{views_of as viewed};
+ghost use Rattle.number_table.specs.Table.{place};
 ghost use Rattle.pdu_cut.specs.Cut.{front_shown};
-ghost use Rattle.target_core.specs.Connection.{Acts, fresh_on, settled};
+ghost use Rattle.target_core.specs.Connection.{Acts, fresh_on, settled, told_known};
 ghost use Rattle.target_decision.specs.Carry.{CarriesWell, brought_by, tags_after, with_own};
 ghost use Rattle.target_decision.specs.Decision.{PerformsWithin, head_of};
 ghost use Rattle.target_decision.specs.Session.{is_ended};
 ghost use Rattle.target_decision.specs.World.{world_in};
+ghost use Rattle.target_history.specs.Occurrence.{views_of};
 
 use block_store::{Disk, Store};
 use bytes::BytesMut;
+use ana_view::Plan;
+use controller_tables::ControllerTables;
 use data_transfer::Transfers;
+use fabrics_connect::Row;
+use notices::Viewer;
 use pdu_cut::Cut;
 use std::alloc::{AllocError, Global};
 use std::marker::Model;
 use target_decision::{
-    ConnectionState, Decision, Session, WaitingCommand, World, perform, prepare,
+    ConnectionState, Decision, Role, Session, WaitingCommand, World, perform, prepare,
 };
 use target_history::EndCause;
 
@@ -29,11 +36,15 @@ pub(crate) struct Connection {
 }
 
 impl Model for Connection {
+    ghost use Rattle.std.specs.Prelude.{◌*◌, ◌≤◌, length};
     ghost use Rattle.target_core.specs.Connection.{KnownConnection};
 
     ghost Value = { KnownConnection };
 
     ghost view = { λ c. record { state = c.state; output = c.output.items } };
+
+    // An edit completes requests that wait, and takes no memory for it.
+    ghost invariant = { λ c. 24 * length c.state.notices.events.waiting ≤ c.output.spare };
 }
 
 impl Connection {
@@ -104,7 +115,7 @@ impl Connection {
             world,
             transfers,
             number,
-            &self.state.session,
+            &self.state,
             &mut self.output,
             decision,
             front,
@@ -121,6 +132,23 @@ impl Connection {
         Ok(())
     }
 
+    /// Tells the host of the controller whose admin queue it is what an edit changes of what the
+    /// controller shows, where that lives. It takes no memory.
+    pub(crate) fn tell(&mut self, tables: &ControllerTables, plan: &Plan)
+        ensures { self.new ≡ told_known plan.now.old plan.now.new (λ c. place tables.now.rows c) self.old }
+    {
+        let Session::Connected {
+            role: Role::Admin { cntlid },
+            ..
+        } = self.state.session
+        else {
+            return;
+        };
+        if let Some(row) = tables.row(cntlid) {
+            self.state.tell(plan, &viewer_of(row), &mut self.output);
+        }
+    }
+
     /// Ends it where this ends it, with these controllers, by their identifiers.
     pub(crate) fn settle(&mut self, cause: &EndCause, gone: &[bool])
         ensures { self.new ≡ settled cause.now (is_gone gone.now) self.old }
@@ -128,5 +156,20 @@ impl Connection {
         if cause.ends(gone, &self.state) {
             self.state.session = Session::Ended;
         }
+    }
+}
+
+// What the controller of a row shows.
+fn viewer_of(row: &Row) -> Viewer<'_>
+    ensures { viewed result ≡ views_of row.now }
+{
+    match &row.subsystem {
+        None => Viewer::Discovery {
+            host: row.host.as_bytes(),
+        },
+        Some(subsystem) => Viewer::Io {
+            subsystem: subsystem.as_bytes(),
+            port: row.port,
+        },
     }
 }

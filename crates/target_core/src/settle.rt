@@ -1,14 +1,15 @@
-//! What an event ends: controllers, and with them connections. One walk of each table, for every
-//! cause.
+//! What an event ends: controllers, and with them connections; and what an edit tells of those that stay.
+//! One walk of each table, for every cause.
 ghost use Rattle.std.specs.Prelude.{◌≡◌, ℕ, None, if◌then◌else◌, map};
 ghost use Rattle.std.specs.Option.{option_copied, option_map};
 ghost use Rattle.data_transfer.specs.Parts.{part_at};
 ghost use Rattle.number_table.specs.Table.{place};
 ghost use Rattle.controller_tables.specs.Controllers.{gone_by, is_gone};
-ghost use Rattle.target_core.specs.Connection.{ends_known, settled};
+ghost use Rattle.target_core.specs.Connection.{ends_known, settled, told_known};
 ghost use Rattle.target_history.specs.Occurrence.{row_kept};
 
 use crate::connection::Connection;
+use ana_view::Plan;
 use controller_tables::ControllerTables;
 use data_transfer::Transfers;
 use number_table::NumberTable;
@@ -42,6 +43,24 @@ pub(crate) fn settle(
             let gone = tables.end(config, cause);
             drop_transfers(transfers, connections, &gone, cause);
             end_connections(connections, &gone, cause);
+        }
+    }
+}
+
+/// Tells the host of each controller that lives, on its admin queue, what an edit changes of what the
+/// controller shows.
+#[tactic(auto, using(number_table::proofs::Walks::walks))]
+pub(crate) fn tell(
+    connections: &mut NumberTable<Connection>,
+    tables: &ControllerTables,
+    plan: &Plan,
+)
+    ensures { let row = (λ (c : ℕ). place tables.now.rows c) in
+        connections.new ≡ map (option_map (told_known plan.now.old plan.now.new row)) connections.old }
+{
+    for k in 0..connections.places() {
+        if let Some(connection) = connections.get_mut(k) {
+            connection.tell(tables, plan);
         }
     }
 }

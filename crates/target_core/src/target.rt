@@ -22,7 +22,7 @@ ghost use Rattle.target_views.specs.Views.{ShowFirst};
 use crate::connection::Connection;
 use crate::disks::{are_disks, stores_over, units_of};
 use crate::fault::{NoConn, OpenFault, StepFault, Stepped};
-use crate::settle::settle;
+use crate::settle::{settle, tell};
 use crate::stream::Stream;
 use block_store::{Disk, Store};
 use controller_tables::{ControllerTables, consequence_of};
@@ -256,7 +256,10 @@ impl<D: Disk + Drop> Target<D> {
         ensures refused { IfErr (accept self.old.config edit.now) (λ fault. result ≡ Err fault) }
         ensures err { OnErr result (self.new ≡ self.old) }
     {
-        self.views.edit(&mut self.config, edit)?;
+        self.config.check(edit)?;
+        let plans = self.views.prepare(&self.config, edit)?;
+        let change = self.config.prepare(edit)?;
+        self.config.commit(change);
         settle(
             &mut self.connections,
             &mut self.transfers,
@@ -264,6 +267,8 @@ impl<D: Disk + Drop> Target<D> {
             &self.config,
             &EndCause::of_edit(edit),
         );
+        tell(&mut self.connections, &self.controllers, plans.edit());
+        self.views.commit(plans);
         Ok(())
     }
 
@@ -336,16 +341,17 @@ impl<D: Disk + Drop> Target<D> {
         if is_incomplete(&front) {
             return Ok(Stepped::Idle);
         }
-        let before = *connection.state();
+        let before = connection.state();
+        let (port, session) = (before.port, before.session);
         let pages = self.views.pages();
         let world = self.controllers.world(&pages, &self.config);
         let own = OwnTransfers {
             transfers: &self.transfers,
             connection: k,
         };
-        let decision = decide(&world, &before, &own, &front);
+        let decision = decide(&world, before, &own, &front);
         let len = consumed_of(&front);
-        let Ok(row) = new_row(self.alloc, before.port, &decision, &front) else {
+        let Ok(row) = new_row(self.alloc, port, &decision, &front) else {
             return Err(StepFault::Memory);
         };
         match act(
@@ -364,7 +370,7 @@ impl<D: Disk + Drop> Target<D> {
                     &mut self.transfers,
                     &mut self.controllers,
                     &self.config,
-                    &EndCause::of_decision(&before.session, &decision),
+                    &EndCause::of_decision(&session, &decision),
                 );
                 self.controllers
                     .change(self.clock, &consequence_of(&decision), row);

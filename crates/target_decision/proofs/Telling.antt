@@ -12,16 +12,16 @@ use Rattle.event_queue.specs.Notice.{takes_change}
 -- each completion answers one request that waited
 kind_counted : (s : EventState) (kind : EventKind) (takes : Bool) (waiting : List ℕ) → takes_change (kind_in s kind) ≡ takes → s.waiting ≡ waiting
     → length (completions_in (change_answer s kind)) + length (changed s kind).waiting ≡ length s.waiting
-kind_counted s kind false waiting takes is = rw takes refl
-kind_counted s Namespace true [] takes is = rw (takes, is) refl
-kind_counted s Ana true [] takes is = rw (takes, is) refl
-kind_counted s Discovery true [] takes is = rw (takes, is) refl
+kind_counted s kind false waiting takes is = rw takes (omega arith)
+kind_counted s Namespace true [] takes is = rw (takes, is) (omega arith)
+kind_counted s Ana true [] takes is = rw (takes, is) (omega arith)
+kind_counted s Discovery true [] takes is = rw (takes, is) (omega arith)
 kind_counted s Namespace true (cid ∷ rest) takes is = rw (takes, is) (omega arith)
 kind_counted s Ana true (cid ∷ rest) takes is = rw (takes, is) (omega arith)
 kind_counted s Discovery true (cid ∷ rest) takes is = rw (takes, is) (omega arith)
 
 kinds_counted : (s : EventState) (kinds : List EventKind) → length (all_answers s kinds) + length (all_changed s kinds).waiting ≡ length s.waiting
-kinds_counted s [] = refl
+kinds_counted s [] = omega arith
 kinds_counted s (kind ∷ kinds) =
     let first = completions_in (change_answer s kind) in
     let rest = all_answers (changed s kind) kinds in

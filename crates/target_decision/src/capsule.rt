@@ -90,8 +90,9 @@ fn is_full(v: &ConnectionState, own: &OwnTransfers<'_>) -> bool
 {
     match &v.session {
         Session::Connected { queue, .. } => {
-            let outstanding = own.count() + v.notices.events().waiting();
-            usize::from(queue.sqsize.min(OUTSTANDING_MAX)) <= outstanding
+            let most = usize::from(queue.sqsize.min(OUTSTANDING_MAX));
+            let transfers = own.count();
+            most <= transfers || most - transfers <= v.notices.events().waiting()
         }
         Session::Opened | Session::Initialized | Session::Ended => false,
     }

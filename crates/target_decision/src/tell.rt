@@ -40,15 +40,15 @@ fn complete(session: &mut Session, completions: &[Completion], output: &mut Byte
     ensures spare { output.old.spare ≤ output.new.spare + 24 * length completions.now }
 {
     for completion in completions {
-        write_completion(session, completion, output);
+        write_completion(session, *completion, output);
         session.respond();
     }
 }
 
-fn write_completion(session: &Session, completion: &Completion, output: &mut BytesMut)
+fn write_completion(session: &Session, completion: Completion, output: &mut BytesMut)
     requires { 24 ≤ output.old.spare }
     ensures items { output.new.items
-        ≡ output.old.items ++ completion_pdu session.now completion.now }
+        ≡ output.old.items ++ completion_pdu session.now completion }
     ensures spare { output.old.spare ≤ output.new.spare + 24 }
 {
     let response = CapsuleResp {

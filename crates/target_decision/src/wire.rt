@@ -44,9 +44,12 @@ pub(crate) fn write<D: Disk>(
         WIRE_MAX + length head + data_room (len_in returned.now) + room_of decision.now ≤ output.old.spare }
     requires head { length (head_of (front_shown front.now)) ≤ 128 }
     requires within { PerformsWithin (sizes stores.old) decision.now (brought_in carried.now (front_shown front.now)) }
-    ensures { let brought = brought_in carried.now (front_shown front.now) in
+    ensures does { let brought = brought_in carried.now (front_shown front.now) in
         Does alignment decision.now (front_shown front.now) brought (bytes_in returned.now)
         stores.old stores.new output.old.items output.new.items }
+    ensures spare { let head = head_of (front_shown front.now) in
+        let room = WIRE_MAX + length head + data_room (len_in returned.now) + room_of decision.now in
+        output.old.spare ≤ output.new.spare + room }
 {
     match decision {
         Decision::Initialize(_) => write_initialized(output),
@@ -74,9 +77,11 @@ fn write_reply<D: Disk>(
     requires room { 152 + data_room (len_in returned.now) + room_in (operation_in reply.now.answer) ≤ output.old.spare }
     requires within { let brought = brought_in carried.now (front_shown front.now) in
         WithinIn (sizes stores.old) (operation_in reply.now.answer) brought.bytes }
-    ensures { let brought = brought_in carried.now (front_shown front.now) in
+    ensures does { let brought = brought_in carried.now (front_shown front.now) in
         Does alignment (Decision.Reply reply.now) (front_shown front.now) brought (bytes_in returned.now)
         stores.old stores.new output.old.items output.new.items }
+    ensures spare { let room = 152 + data_room (len_in returned.now) + room_in (operation_in reply.now.answer) in
+        output.old.spare ≤ output.new.spare + room }
 {
     match &reply.answer {
         Answer::Given(given) => {
@@ -109,8 +114,9 @@ fn format_of(reply: &Reply, alignment: Alignment) -> DataFormat
 
 fn write_initialized(output: &mut BytesMut)
     requires { 128 ≤ output.old.spare }
-    ensures { output.new.items ≡ output.old.items
+    ensures items { output.new.items ≡ output.old.items
         ++ ic_resp (record { pfv = 0; cpda = 0; dgst = 0; maxh2cdata = MAX_H2C_DATA }) }
+    ensures spare { output.old.spare ≤ output.new.spare + 128 }
 {
     let response = IcResp {
         pfv: 0,
@@ -177,7 +183,8 @@ pub(crate) fn data_room(len: usize) -> usize
 
 fn write_response(output: &mut BytesMut, reply: &Reply, status: Status, value: u64)
     requires { 24 ≤ output.old.spare }
-    ensures { output.new.items ≡ output.old.items ++ response_of reply.now status value }
+    ensures items { output.new.items ≡ output.old.items ++ response_of reply.now status value }
+    ensures spare { output.old.spare ≤ output.new.spare + 24 }
 {
     let response = CapsuleResp {
         result: value,
@@ -190,8 +197,9 @@ fn write_response(output: &mut BytesMut, reply: &Reply, status: Status, value: u
 
 fn write_request(output: &mut BytesMut, request: &DataRequest, ttag: u16)
     requires { 24 ≤ output.old.spare }
-    ensures { output.new.items ≡ output.old.items
+    ensures items { output.new.items ≡ output.old.items
         ++ r2t (record { cccid = request.now.cid; ttag = ttag; r2to = 0; r2tl = request.now.len }) }
+    ensures spare { output.old.spare ≤ output.new.spare + 24 }
 {
     let asked = R2t {
         cccid: request.cid,
@@ -205,8 +213,9 @@ fn write_request(output: &mut BytesMut, request: &DataRequest, ttag: u16)
 fn write_termination(output: &mut BytesMut, termination: &Termination, head: &[u8])
     requires room { 24 + length head.now ≤ output.old.spare }
     requires head { length head.now ≤ 128 }
-    ensures { output.new.items ≡ output.old.items
+    ensures items { output.new.items ≡ output.old.items
         ++ c2h_term_req (fatal_code_of termination.now.fes) termination.now.fei head.now }
+    ensures spare { output.old.spare ≤ output.new.spare + 24 + length head.now }
 {
     TermReq::write_c2h(output, termination.fes, termination.fei, head).unwrap();
 }

@@ -145,7 +145,7 @@ no_timer edit o =
       | inr (id, is) ↦ ap (λ (e : Edit). ends_timer (cause_edited e) o) is
     ]
 
-kept_whole : (edit : Edit) (c : ℕ) (row : Row) → row_kept (cause_edited edit) c row ≡ row
+pub kept_whole : (edit : Edit) (c : ℕ) (row : Row) → row_kept (cause_edited edit) c row ≡ row
 kept_whole edit c row =
     elim (edit_is edit) [
       | inl other ↦ rw other refl

@@ -60,7 +60,10 @@ impl EndCause {
         ensures { result ≡ cause_decided session.now decision.now }
     {
         match decision {
-            Decision::Initialize(_) | Decision::Request(_) | Decision::Receive { .. } => {
+            Decision::Initialize(_)
+            | Decision::Request(_)
+            | Decision::Receive { .. }
+            | Decision::Wait { .. } => {
                 EndCause::Nothing
             }
             Decision::Reply(reply) => EndCause::of_consequence(&reply.consequence),

@@ -1,7 +1,10 @@
 -- The views go on as the history does.
-use Rattle.std.proofs.Common.{◌≡◌, ℕ, List, [], ◌∷◌, length, map, Result, Ok, refl, sym, ◌∙◌}
+use Rattle.std.proofs.Common.{◌≡◌, ℕ, Bool, List, [], ◌∷◌, length, map, Result, Ok, refl, sym, ap, ◌∙◌}
 use Rattle.std.proofs.Math.Path.{fun_ext}
 use Rattle.admin_queue.specs.Pages.{Pages}
+use Rattle.ana_view.specs.Counts.{Counts}
+use Rattle.ana_view.specs.Page.{ana_page}
+use Rattle.ana_view.specs.View.{page_in as ana_page_in}
 use Rattle.change_lists.specs.ActiveView.{active_page}
 use Rattle.discovery_view.specs.View.{page_in}
 use Rattle.discovery_view.proofs.Counts.{count_goes_on}
@@ -10,23 +13,24 @@ use Rattle.config_edits.specs.declared.fault.EditFault.{EditFault}
 use Rattle.target_views.specs.Views.{ShowAfter, ShowFirst, ShowHistory, ShowNext, ViewsShown, pages_shown}
 use Rattle.target_history.specs.Event.{Event, edited, opened, stepped, given_up, ticked}
 use Rattle.target_history.specs.Occurrence.{Occurrence, config_after}
-use Rattle.target_history.specs.History.{Opening, active_of, config_of, generation_of, page_of, pages_of}
+use Rattle.target_history.specs.History.{Opening, active_of, config_of, generation_of, groups_page_of, page_of, pages_of}
 
 -- what was planned is what the edit makes
 pub planned_next : (made : Result Configuration EditFault) (planned c : Configuration) (old new : ViewsShown)
     → made ≡ Ok planned → made ≡ Ok c → ShowNext planned old new → ShowNext c old new
 planned_next made planned c old new plans makes next = let same : planned ≡ c = cc in rw same at next
 
-both : (a b : List ℕ → List ℕ) (c d : List ℕ → ℕ → List ℕ) → a ≡ b → c ≡ d
-    → (let p : Pages = record { discovery = a; active = c } in p) ≡ (let p : Pages = record { discovery = b; active = d } in p)
-both a b c d h k = rw (h, k) refl
+all_three : (a b : List ℕ → List ℕ) (c d : List ℕ → ℕ → List ℕ) (e f : List ℕ → ℕ → Counts → Bool → List ℕ) → a ≡ b → c ≡ d → e ≡ f
+    → (let p : Pages = record { discovery = a; active = c; ana = e } in p) ≡ (let p : Pages = record { discovery = b; active = d; ana = f } in p)
+all_three a b c d e f h k l = rw (h, k, l) refl
 
 -- the pages of views that show a history
 pub pages_agree : (v : ViewsShown) (disks : Opening) (before : List Occurrence) → ShowHistory v disks before → pages_shown v ≡ pages_of disks before
 pages_agree v disks before show =
-    both (page_in v.discovery) (page_of disks before) (active_page v.active) (active_of disks before)
+    all_three (page_in v.discovery) (page_of disks before) (active_page v.active) (active_of disks before) (ana_page_in v.ana) (groups_page_of disks before)
     (fun_ext (λ host. rw (show.counts host, show.records host) refl))
     (fun_ext (λ subsystem. fun_ext (λ above. rw (show.nsids subsystem) refl)))
+    (fun_ext (λ subsystem. fun_ext (λ port. fun_ext (λ counts. fun_ext (λ groups_only. ap (ana_page groups_only counts) (show.groups subsystem port))))))
 
 stays : (old new : ViewsShown) (disks : Opening) (before after : List Occurrence) → config_of disks after ≡ config_of disks before
     → generation_of disks after ≡ generation_of disks before → new ≡ old → ShowHistory old disks before → ShowHistory new disks after
@@ -35,6 +39,7 @@ stays old new disks before after config generation same show =
       records = λ host. rw config (show.records host);
       counts = λ host. rw generation (show.counts host);
       nsids = λ subsystem. rw config (show.nsids subsystem);
+      groups = λ subsystem port. rw config (show.groups subsystem port);
     })
 
 -- what an event would have been
@@ -53,6 +58,7 @@ views_step x old new disks before after show = by x.event after where
         ∙ rw (after.discovery.records host, show.records host, show.counts host)
         (sym (count_goes_on (config_of disks before) (config_after (edited edit) (config_of disks before)) host (generation_of disks before host)));
     nsids = λ subsystem. after.active.nsids subsystem;
+    groups = λ subsystem port. after.ana.groups subsystem port;
   }
   by (opened port k) after = stays old new disks before (over x (opened port k) ∷ before) refl refl after show
   by (stepped k found m) after = stays old new disks before (over x (stepped k found m) ∷ before) refl refl after show
@@ -60,4 +66,4 @@ views_step x old new disks before after show = by x.event after where
   by (ticked now) after = stays old new disks before (over x (ticked now) ∷ before) refl refl after show
 
 pub new_show : (v : ViewsShown) (disks : Opening) → ShowFirst (disks_alone (map length disks)) v → ShowHistory v disks []
-new_show v disks first = record { records = first.discovery.records; counts = first.discovery.counts; nsids = first.active.nsids }
+new_show v disks first = record { records = first.discovery.records; counts = first.discovery.counts; nsids = first.active.nsids; groups = first.ana.groups }

@@ -1,6 +1,8 @@
 -- The views that log pages are written from, as the target sees them.
 use Rattle.std.specs.Prelude.{◌≡◌, ℕ, ◌%◌, ◌^◌, List}
 use Rattle.admin_queue.specs.Pages.{Pages}
+use Rattle.ana_view.specs.Group.{listed}
+use Rattle.ana_view.specs.View.{Shown as AnaShown, ShowsAna, groups_in, page_in as ana_page_in}
 use Rattle.change_lists.specs.ActiveView.{Shown as ActiveShown, ShowsActive, active_page, nsids_in}
 use Rattle.config_words.specs.Numbered.{active_nsids}
 use Rattle.discovery_view.specs.Records.{records_of}
@@ -14,25 +16,28 @@ use Rattle.target_history.specs.History.{Opening, config_of, generation_of}
 pub record ViewsShown : Type 0 where
   pub discovery : Shown
   pub active : ActiveShown
+  pub ana : AnaShown
 
 -- .. and for how many more edits there is room
 pub record ViewsState : Type 0 where
   pub shown : ViewsShown
   pub room : ℕ
 
--- the log pages of each host, and the lists of each subsystem
+-- the log pages of each host, the lists of each subsystem, and its ANA groups on each port
 abbrev pub pages_shown : ViewsShown → Pages
-pages_shown v = record { discovery = page_in v.discovery; active = active_page v.active }
+pages_shown v = record { discovery = page_in v.discovery; active = active_page v.active; ana = ana_page_in v.ana }
 
 -- they show this configuration, which no edit has changed yet
 pub record ShowFirst (c : Configuration) (v : ViewsShown) : Type 0 where
   pub discovery : ShowsFirst c v.discovery
   pub active : ShowsActive c v.active
+  pub ana : ShowsAna c v.ana
 
 -- they have gone over to this configuration, which an edit made
 pub record ShowNext (c : Configuration) (old new : ViewsShown) : Type 0 where
   pub discovery : ShowsNext c old.discovery new.discovery
   pub active : ShowsActive c new.active
+  pub ana : ShowsAna c new.ana
 
 -- what they show after an event, with the configuration after it: it changes by edits alone
 abbrev pub ShowAfter : Event → Configuration → ViewsShown → ViewsShown → Type 0
@@ -43,8 +48,9 @@ ShowAfter (given_up n) c old new = new ≡ old
 ShowAfter (ticked now) c old new = new ≡ old
 
 -- they show what a history says: the discovery view each host the records of the configuration, and the
--- number of the edits that changed them; the list of active namespaces those of the configuration
+-- number of the edits that changed them; the list of active namespaces those of the configuration, and the ANA groups too
 pub record ShowHistory (v : ViewsShown) (disks : Opening) (happened : List Occurrence) : Type 0 where
   pub records : (host : List ℕ) → records_in v.discovery host ≡ records_of (config_of disks happened) host
   pub counts : (host : List ℕ) → count_in v.discovery host ≡ generation_of disks happened host % 2 ^ 64
   pub nsids : (subsystem : List ℕ) → nsids_in v.active subsystem ≡ active_nsids (config_of disks happened).namespaces subsystem
+  pub groups : (subsystem : List ℕ) (port : ℕ) → groups_in v.ana subsystem port ≡ listed (config_of disks happened) subsystem port

@@ -5,4 +5,4 @@
 
 mod views;
 
-pub use views::Views;
+pub use views::{Plans, Views};

@@ -1,13 +1,14 @@
 //! The views follow the edits of a configuration together.
-ghost use Rattle.std.specs.Prelude.{◌≡◌, ◌≤◌, IfErr, IfOk, IsOk, IsOkUnless, MatchResult, OnErr, OnOk};
+ghost use Rattle.std.specs.Prelude.{◌≡◌, ◌≤◌, IfOk, IsOk, MatchResult, Ok, Err, OnOk};
 ghost use Rattle.admin_queue.specs.Pages.{pages_in};
 ghost use Rattle.config_rules.specs.Accept.{accept};
 ghost use Rattle.target_views.specs.Views.{ShowFirst, ShowNext, pages_shown};
 
 use admin_queue::Pages;
+use ana_view::{AnaView, Plan as AnaPlan};
 use change_lists::{ActiveView, Plan as ActivePlan};
 use discovery_view::{DiscoveryView, Plan as DiscoveryPlan};
-use nvt_config::{Config, Edit, EditFault};
+use nvt_config::{Config, Edit};
 use std::alloc::{AllocError, Global};
 use std::marker::Model;
 
@@ -16,6 +17,7 @@ use std::marker::Model;
 pub struct Views {
     discovery: DiscoveryView,
     active: ActiveView,
+    ana: AnaView,
 }
 
 impl Model for Views {
@@ -24,27 +26,37 @@ impl Model for Views {
     ghost Value = { ViewsState };
 
     ghost view = { λ v. record {
-      shown = record { discovery = v.discovery.shown; active = v.active };
+      shown = record { discovery = v.discovery.shown; active = v.active; ana = v.ana };
       room = v.discovery.room;
     } };
 }
 
-// What an edit will make of the views: they go over to one configuration.
+/// What an edit will make of the views: they go over from one configuration to another.
 #[derive(Drop)]
-struct Plans {
+pub struct Plans {
     discovery: DiscoveryPlan,
     active: ActivePlan,
+    ana: AnaPlan,
 }
 
 impl Model for Plans {
     ghost use Rattle.std.specs.Prelude.{◌≡◌};
-    ghost use Rattle.config_rules.specs.Configuration.{Configuration};
+    ghost use Rattle.ana_view.specs.View.{Planned};
 
-    ghost Value = { Configuration };
+    ghost Value = { Planned };
 
-    ghost view = { λ plans. plans.discovery };
+    ghost view = { λ plans. plans.ana };
 
-    ghost invariant = { λ plans. plans.active ≡ plans.discovery };
+    ghost invariant = { λ plans. (plans.discovery ≡ plans.ana.new) × (plans.active ≡ plans.ana.new) };
+}
+
+impl Plans {
+    /// The edit: the configuration before it and the one after it.
+    pub fn edit(&self) -> &AnaPlan
+        ensures { result.now ≡ self.now }
+    {
+        &self.ana
+    }
 }
 
 impl Views {
@@ -53,23 +65,47 @@ impl Views {
         ensures { IfOk result (λ views. ShowFirst config.now views.shown) }
     {
         let discovery = DiscoveryView::new(alloc, config)?;
-        let (discovery, active) = with(discovery, ActiveView::new(alloc, config))?;
-        Ok(Views { discovery, active })
+        let active = ActiveView::new(alloc, config);
+        let (discovery, active, ana) = with(discovery, active, AnaView::new(alloc, config))?;
+        Ok(Views {
+            discovery,
+            active,
+            ana,
+        })
     }
 
-    /// Makes an edit of the configuration, which the views then show, or says why not. After a refusal,
-    /// `Memory` included, both are as they were.
-    pub fn edit(&mut self, config: &mut Config, edit: &Edit) -> Result<(), EditFault>
-        ensures ok { OnOk result (accept config.old edit.now ≡ Ok config.new) }
-        ensures shown { OnOk result (ShowNext config.new self.old.shown self.new.shown) }
-        ensures accepted { OnOk (accept config.old edit.now)
-            (IsOkUnless result EditFault.Memory) }
-        ensures refused { IfErr (accept config.old edit.now) (λ fault. result ≡ Err fault) }
-        ensures err { OnErr result ((config.new ≡ config.old) × (self.new.shown ≡ self.old.shown)) }
+    /// Takes all the memory to go over to what an edit makes of this configuration. Every page is as
+    /// before, also after want of memory.
+    pub fn prepare(&mut self, config: &Config, edit: &Edit) -> Result<Plans, AllocError>
+        requires { IsOk (accept config.now edit.now) }
+        ensures old { IfOk result (λ plans. plans.old ≡ config.now) }
+        ensures new { IfOk result (λ plans. accept config.now edit.now ≡ Ok plans.new) }
+        ensures room { OnOk result (1 ≤ self.new.room) }
+        ensures kept { self.new.shown ≡ self.old.shown }
     {
-        config.check(edit)?;
-        self.make(config, edit)?;
-        Ok(())
+        let discovery = self.discovery.prepare(config, edit)?;
+        let active = self.active.prepare(config, edit);
+        let (discovery, active, ana) = with(discovery, active, self.ana.prepare(config, edit))?;
+        Ok(Plans {
+            discovery,
+            active,
+            ana,
+        })
+    }
+
+    /// Goes over to what was prepared last. Takes no memory.
+    pub fn commit(&mut self, plans: Plans)
+        requires { 1 ≤ self.old.room }
+        ensures { ShowNext plans.new self.old.shown self.new.shown }
+    {
+        let Plans {
+            discovery,
+            active,
+            ana,
+        } = plans;
+        self.discovery.commit(discovery);
+        self.active.commit(active);
+        self.ana.commit(ana);
     }
 
     /// What replies are written from.
@@ -79,53 +115,24 @@ impl Views {
         Pages {
             discovery: &self.discovery,
             active: &self.active,
+            ana: &self.ana,
         }
-    }
-
-    fn make(&mut self, config: &mut Config, edit: &Edit) -> Result<(), AllocError>
-        requires { IsOk (accept config.old edit.now) }
-        ensures made { OnOk result (accept config.old edit.now ≡ Ok config.new) }
-        ensures shown { OnOk result (ShowNext config.new self.old.shown self.new.shown) }
-        ensures err { OnErr result ((config.new ≡ config.old) × (self.new.shown ≡ self.old.shown)) }
-    {
-        let plans = self.prepare(config, edit)?;
-        let change = config.prepare(edit)?;
-        config.commit(change);
-        self.commit(plans);
-        Ok(())
-    }
-
-    // Takes all the memory to go over to what an edit makes of this configuration. Every page is as
-    // before, also after want of memory.
-    fn prepare(&mut self, config: &Config, edit: &Edit) -> Result<Plans, AllocError>
-        requires { IsOk (accept config.now edit.now) }
-        ensures plans { IfOk result (λ plans. accept config.now edit.now ≡ Ok plans) }
-        ensures room { OnOk result (1 ≤ self.new.room) }
-        ensures kept { self.new.shown ≡ self.old.shown }
-    {
-        let discovery = self.discovery.prepare(config, edit)?;
-        let (discovery, active) = with(discovery, self.active.prepare(config, edit))?;
-        Ok(Plans { discovery, active })
-    }
-
-    // Goes over to what was prepared last. Takes no memory.
-    fn commit(&mut self, plans: Plans)
-        requires { 1 ≤ self.old.room }
-        ensures { ShowNext plans self.old.shown self.new.shown }
-    {
-        let Plans { discovery, active } = plans;
-        self.discovery.commit(discovery);
-        self.active.commit(active);
     }
 }
 
-// Both, where the second is there. What drops the first is proved for any type, and not of each part of
-// a view.
-fn with<A: Drop, B>(first: A, second: Result<B, AllocError>) -> Result<(A, B), AllocError>
-    ensures { MatchResult second (λ there. result ≡ Ok (first, there)) (λ error. result ≡ Err error) }
+// All three, where the two others are there. What drops one of them is proved for any type, and not of
+// each part of a view.
+fn with<A: Drop, B: Drop, C: Drop>(
+    first: A,
+    second: Result<B, AllocError>,
+    third: Result<C, AllocError>,
+) -> Result<(A, B, C), AllocError>
+    ensures { MatchResult second
+        (λ b. MatchResult third (λ c. result ≡ Ok (first, b, c)) (λ error. result ≡ Err error))
+        (λ error. result ≡ Err error) }
 {
-    match second {
-        Ok(second) => Ok((first, second)),
-        Err(error) => Err(error),
+    match (second, third) {
+        (Ok(second), Ok(third)) => Ok((first, second, third)),
+        (Err(error), _) | (Ok(_), Err(error)) => Err(error),
     }
 }
