@@ -151,13 +151,13 @@ fn act(
     past: &mut Past,
     place: Place,
 ) -> Result<(), AllocError> {
-    match random.next_word() % 12 {
-        0..=5 => update(followed, past, read(random, place)),
-        6..=9 => {
+    match random.next_word() % 16 {
+        0..=8 => update(followed, past, read(random, place)),
+        9..=13 => {
             let mask = mask(random);
             update(followed, past, NoticeUpdate::Configured { mask })
         }
-        10 => {
+        14 => {
             followed.notices.reset();
             past.hear(Happened::Reset)
         }
@@ -178,7 +178,7 @@ fn is_step_right(
 ) -> Result<bool, AllocError> {
     match random.next_word() % 10 {
         0..=4 => is_told(alloc, followed, past, place, line(random), seen),
-        5..=7 => {
+        5 => {
             let cid = (random.next_word() % 8) as u16;
             is_answered(alloc, followed, past, cid, seen)
         }
@@ -293,16 +293,16 @@ fn starts_and_fails(
 
 #[test]
 fn hosts_are_told_what_a_look_back_says(rt: HostRuntime) {
+    let mut seen = Seen {
+        by_edits: 0,
+        by_requests: 0,
+        exceeded: 0,
+    };
     for (at, place) in PLACES.iter().enumerate() {
-        let mut seen = Seen {
-            by_edits: 0,
-            by_requests: 0,
-            exceeded: 0,
-        };
         for seed in 0..SCRIPTS {
             let wrong = starts_and_fails(rt.alloc(), *place, seed, &mut seen);
             assert!(rt; wrong == Ok(0), "place {at}, seed {seed}, step {wrong:?}");
         }
-        assert!(rt; seen.by_edits > 5 && seen.by_requests > 5 && seen.exceeded > 5);
     }
+    assert!(rt; seen.by_edits > 20 && seen.by_requests > 2 && seen.exceeded > 5);
 }

@@ -22,7 +22,10 @@ enum Step {
     Waits(u16),
     // A request that is completed at once with that result.
     Completes(u16, u64),
-    Updates(NoticeUpdate),
+    // A value of Asynchronous Event Configuration.
+    Configures(u32),
+    // A read, whether it retains the event, and whether it is one of the whole page.
+    Reads(EventKind, bool, bool),
     Resets,
     Enables,
     // The set's list begins with these 8 bytes.
@@ -40,7 +43,7 @@ fn is_answered(followed: &mut Followed, cid: u16, answer: Option<Completion>) ->
 fn lists(followed: &Followed, list: &[u8]) -> bool {
     let mut bytes = [0xA5; 8];
     followed.notices.changed().page(0, &mut bytes);
-    bytes == *list
+    bytes.as_slice() == list
 }
 
 fn counts(followed: &Followed, count: u8) -> bool {
@@ -59,13 +62,19 @@ fn is_taken(alloc: Global, followed: &mut Followed, step: Step) -> Result<bool, 
         }
         Step::Tells(line, cid, result) => {
             let told = make(alloc, followed, line, Place::Io(1))?;
-            return Ok(told.is_some_and(|told| *told == [Completion { cid, result }]));
+            let wanted = [Completion { cid, result }];
+            return Ok(told.is_some_and(|told| *told == *wanted.as_slice()));
         }
         Step::Waits(cid) => return Ok(is_answered(followed, cid, None)),
         Step::Completes(cid, result) => {
             return Ok(is_answered(followed, cid, Some(Completion { cid, result })));
         }
-        Step::Updates(update) => followed.notices.update(update),
+        Step::Configures(mask) => followed.notices.update(NoticeUpdate::Configured { mask }),
+        Step::Reads(kind, retain, whole) => followed.notices.update(NoticeUpdate::Read {
+            kind,
+            retain,
+            whole,
+        }),
         Step::Resets => followed.notices.reset(),
         Step::Enables => followed.notices.enable(),
         Step::Lists(list) => return Ok(lists(followed, &list)),
@@ -74,28 +83,14 @@ fn is_taken(alloc: Global, followed: &mut Followed, step: Step) -> Result<bool, 
     Ok(true)
 }
 
-const fn blocks(nsid: u64, disk: u64) -> Blocks {
-    Blocks {
-        nsid,
-        disk,
-        blocks: 1,
-        block_size: 512,
-        uuid: 1,
-        group: 1,
-    }
-}
-
-const fn configures(mask: u32) -> Step {
-    Step::Updates(NoticeUpdate::Configured { mask })
-}
-
-const fn reads(kind: EventKind, retain: bool, whole: bool) -> Step {
-    Step::Updates(NoticeUpdate::Read {
-        kind,
-        retain,
-        whole,
-    })
-}
+const BLOCKS: Blocks = Blocks {
+    nsid: 5,
+    disk: 0,
+    blocks: 1,
+    block_size: 512,
+    uuid: 1,
+    group: 1,
+};
 
 const SUBSYSTEM: Line<'static> = Line::SubsystemAdd(A, b"SN", Access::Open);
 
@@ -103,7 +98,7 @@ const PORT: Line<'static> = Line::PortAdd(1, b"127.0.0.1", 4420);
 
 const LINK: Line<'static> = Line::LinkAdd(1, A);
 
-const ADD: Line<'static> = Line::NamespaceAdd(A, blocks(5, 0));
+const ADD: Line<'static> = Line::NamespaceAdd(A, BLOCKS);
 
 const GROW: Line<'static> = Line::NamespaceSize(A, 5, 2);
 
@@ -119,7 +114,7 @@ const NOTICES: &[Step] = &[
     Step::Makes(SUBSYSTEM),
     Step::Makes(PORT),
     Step::Makes(LINK),
-    configures(0x900),
+    Step::Configures(0x900),
     Step::Waits(7),
     Step::Waits(8),
     Step::Waits(9),
@@ -127,16 +122,16 @@ const NOTICES: &[Step] = &[
     Step::Lists([5, 0, 0, 0, 0, 0, 0, 0]),
     Step::Counts(1),
     Step::Makes(GROW),
-    reads(EventKind::Namespace, true, true),
+    Step::Reads(EventKind::Namespace, true, true),
     Step::Lists([0; 8]),
     Step::Makes(SHRINK),
     Step::Lists([5, 0, 0, 0, 0, 0, 0, 0]),
-    reads(EventKind::Namespace, false, false),
+    Step::Reads(EventKind::Namespace, false, false),
     Step::Tells(GROW, 8, NAMESPACE),
     Step::Tells(SLOW, 9, ANA),
     Step::Makes(FAST),
     Step::Counts(3),
-    reads(EventKind::Ana, false, true),
+    Step::Reads(EventKind::Ana, false, true),
     Step::Lists([5, 0, 0, 0, 0, 0, 0, 0]),
     Step::Makes(SLOW),
     Step::Completes(3, ANA),
@@ -147,13 +142,13 @@ const RESETS: &[Step] = &[
     Step::Makes(SUBSYSTEM),
     Step::Makes(PORT),
     Step::Makes(LINK),
-    configures(0x100),
+    Step::Configures(0x100),
     Step::Waits(1),
     Step::Resets,
     Step::Makes(ADD),
     Step::Lists([5, 0, 0, 0, 0, 0, 0, 0]),
     Step::Counts(1),
-    configures(0x100),
+    Step::Configures(0x100),
     Step::Makes(GROW),
     Step::Enables,
     Step::Lists([0; 8]),
