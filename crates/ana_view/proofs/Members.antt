@@ -1,15 +1,11 @@
 -- The namespaces in a group, by a table.
-use Rattle.std.proofs.Common.{◌&&◌, ◌-◌, ◌+◌, ◌≡◌, ◌≢◌, ℕ, zero, suc, ◌<◌, ◌≤◌, ◌==◌, Bool, true, false, not, List, [], ◌∷◌, filter, find, get_or, length, Option, Some, None, refl, ap, sym, ◌∙◌, arith, inl, inr, length-append}
+use Rattle.std.proofs.Common.{◌&&◌, ◌-◌, ◌+◌, ◌≡◌, ◌≢◌, ℕ, zero, suc, ◌<◌, ◌≤◌, ◌==◌, Bool, true, false, not, List, [], ◌∷◌, filter, find, get_or, length, None, refl, ap, sym, ◌∙◌, arith, inl, inr, length-append}
 use Rattle.std.proofs.Math.Bool.{beq}
 use Rattle.std.proofs.lemmas.Bool.{cases_Bool}
 use Rattle.std.proofs.lemmas.Bool.Decides.{nat_tests}
-use Rattle.std.specs.Option.{option_map, unwrap_or}
 use Rattle.std.specs.Prelude.{if◌then◌else◌}
 use Rattle.config_lists.specs.declared.group_state.AnaState.{AnaState}
-use Rattle.config_lists.specs.declared.group_state.AnaState.TheVariants.{Optimized}
-use Rattle.config_lists.specs.declared.group_state.GroupState.{GroupState}
-use Rattle.config_lists.specs.declared.namespace.Namespace.{Namespace}
-use Rattle.config_lists.specs.GroupState.{is_state_for, state_for, state_or}
+use Rattle.config_lists.specs.GroupState.{state_for}
 use Rattle.config_lists.specs.Namespace.{is_named}
 use Rattle.config_rules.specs.Configuration.{Configuration}
 use Rattle.config_words.specs.Numbered.{numbers_from}

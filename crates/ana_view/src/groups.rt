@@ -91,7 +91,7 @@ fn count_member(sizes: &mut [u32; GROUP_END as usize], namespace: Option<&Namesp
     requires { (k : ℕ) → slice_index sizes.old k ≤ 1024 }
     ensures { (k : ℕ) → k < 33
         → slice_index sizes.new k ≡ (if is_in_group (option_copied namespace.entry) k
-            then slice_index sizes.old k + 1 else slice_index sizes.old k) }
+        then slice_index sizes.old k + 1 else slice_index sizes.old k) }
 {
     if let Some(namespace) = namespace {
         let at = namespace.group as usize;

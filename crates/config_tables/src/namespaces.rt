@@ -33,7 +33,7 @@ impl<'a> NamespaceTable<'a> {
     pub fn of(namespaces: &'a [Namespace], subsystem: &[u8]) -> NamespaceTable<'a>
         ensures found { (nsid : ℕ) → nsid < 1025
             → slice_index_or result nsid None
-                ≡ find (is_named subsystem.now nsid) namespaces.now }
+            ≡ find (is_named subsystem.now nsid) namespaces.now }
         ensures len { length result ≡ 1025 }
     {
         let mut places = [None; NSID_END as usize];

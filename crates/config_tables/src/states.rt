@@ -35,7 +35,7 @@ impl<'a> StateTable<'a> {
     pub fn of(states: &'a [GroupState], subsystem: &[u8], port: u16) -> StateTable<'a>
         ensures found { (group : ℕ) → group < 33
             → slice_index_or result group Optimized
-                ≡ state_for port subsystem.now group states.now }
+            ≡ state_for port subsystem.now group states.now }
         ensures len { length result ≡ 33 }
     {
         let mut places = [None; GROUP_END as usize];

@@ -67,12 +67,7 @@ fn edit(alloc: Global, random: &mut Pcg32, config: &mut Config) {
     }
 }
 
-fn check_step(
-    alloc: Global,
-    random: &mut Pcg32,
-    config: &mut Config,
-    seen: &mut Seen,
-) -> Outcome {
+fn check_step(alloc: Global, random: &mut Pcg32, config: &mut Config, seen: &mut Seen) -> Outcome {
     let before = config.try_clone()?;
     edit(alloc, random, config);
     check_hosts(alloc, &before, config, seen)
@@ -102,5 +97,8 @@ fn changes_are_those_of_the_plain_program(rt: HostRuntime) -> Outcome {
     for number in 0..SCRIPTS {
         pass!(check_script(rt.alloc(), number, &mut seen).in_script(SEED, number));
     }
-    check(seen.changed > 500 && seen.kept > 500, "changes that were seen")
+    check(
+        seen.changed > 500 && seen.kept > 500,
+        "changes that were seen",
+    )
 }

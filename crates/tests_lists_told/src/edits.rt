@@ -50,9 +50,7 @@ fn differs(old: &Config, new: &Config, nsid: u32) -> bool {
     match (find(old, nsid), find(new, nsid)) {
         (None, None) => false,
         (Some(old), Some(new)) => {
-            old.blocks != new.blocks
-                || old.block_size != new.block_size
-                || old.uuid != new.uuid
+            old.blocks != new.blocks || old.block_size != new.block_size || old.uuid != new.uuid
         }
         _ => true,
     }
@@ -104,7 +102,11 @@ fn nsid(random: &mut Pcg32) -> u64 {
 }
 
 fn blocks(random: &mut Pcg32) -> Blocks {
-    let block_size = if random.next_word() % 2 == 0 { 512 } else { 4_096 };
+    let block_size = if random.next_word() % 2 == 0 {
+        512
+    } else {
+        4_096
+    };
     Blocks {
         nsid: nsid(random),
         disk: u64::from(random.next_word() % 8),

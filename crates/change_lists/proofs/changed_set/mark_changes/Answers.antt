@@ -1,6 +1,5 @@
-use Rattle.std.proofs.Common.{◌≡◌, ◌-◌, ◌<◌, ◌≤◌, ◌||◌, Bool, true, false, not, ℕ, filter, get_or, length, refl, ap, sym, ◌∙◌, arith}
+use Rattle.std.proofs.Common.{◌≡◌, ◌-◌, ◌<◌, ◌≤◌, ◌||◌, Bool, true, false, not, ℕ, get_or, length, refl, ap, sym, ◌∙◌, arith}
 use Rattle.std.specs.List.{list_any}
-use Rattle.config_words.specs.Numbered.{numbers_from}
 use Rattle.change_lists.specs.Tables.{differs}
 use Rattle.change_lists.proofs.Changed.{any_marked, any_of_all, kept_so_far, left_so_far, marked_so_far, nsids_alike, unmarked_next}
 use Rattle.change_lists.proofs.changed_set.mark_changes.Goals as goal

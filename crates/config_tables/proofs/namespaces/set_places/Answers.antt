@@ -1,10 +1,8 @@
-use Rattle.std.proofs.Common.{◌≡◌, ◌+◌, ◌<◌, ◌==◌, ◌++◌, ◌∷◌, ◌&&◌, [], List, suc, length, take, ap, sym, ◌∙◌, subst, arith}
+use Rattle.std.proofs.Common.{◌≡◌, ◌+◌, ◌<◌, ◌==◌, ◌++◌, ◌∷◌, ◌&&◌, [], suc, length, take, ap, sym, ◌∙◌, arith}
 use Rattle.std.proofs.Math.Seq.{take-suc}
-use Rattle.std.proofs.lemmas.List.{take_all}
 use Rattle.std.specs.Str.{bytes_eq}
 use Rattle.config_lists.specs.declared.namespace.Namespace.{Namespace}
 use Rattle.config_lists.specs.Namespace.{is_named}
-use Rattle.config_tables.specs.Tables.{IsTable}
 use Rattle.config_tables.proofs.Tables.{table_passed, table_put}
 use Rattle.config_tables.proofs.namespaces.set_places.Goals as goal
 use Rattle.config_tables.proofs.namespaces.set_places.Goals.{else-eq, then-eq}

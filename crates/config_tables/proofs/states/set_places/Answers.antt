@@ -1,9 +1,7 @@
-use Rattle.std.proofs.Common.{◌≡◌, ◌+◌, ◌<◌, ◌==◌, ◌++◌, ◌∷◌, ◌&&◌, [], List, suc, length, take, ap, sym, ◌∙◌, subst, arith}
+use Rattle.std.proofs.Common.{◌≡◌, ◌+◌, ◌<◌, ◌==◌, ◌++◌, ◌∷◌, ◌&&◌, [], suc, length, take, ap, sym, ◌∙◌, arith}
 use Rattle.std.proofs.Math.Seq.{take-suc}
-use Rattle.std.proofs.lemmas.List.{take_all}
 use Rattle.config_lists.specs.declared.group_state.GroupState.{GroupState}
 use Rattle.config_lists.specs.GroupState.{is_state_for}
-use Rattle.config_tables.specs.Tables.{IsTable}
 use Rattle.config_tables.proofs.Tables.{table_passed, table_put}
 use Rattle.config_tables.proofs.states.set_places.Goals as goal
 use Rattle.config_tables.proofs.states.set_places.Goals.{else-is_on, then-is_on}
