@@ -1,5 +1,5 @@
 //! A plain program: it keeps all that happened to a controller, and looks back over it for each answer.
-use super::shown::{GROUPS, NSIDS, Place, changes_discovery, changes_group, changes_namespace};
+use super::shown::{Changes, Place, changes_of};
 use event_queue::{Completion, EventKind, LimitExceeded};
 use notices::NoticeUpdate;
 use nvt_config::Config;
@@ -8,8 +8,8 @@ use std::alloc::{AllocError, Global};
 /// What happened.
 #[derive(Clone, Copy)]
 pub enum Happened {
-    /// The configuration of that place came, after the one before it.
-    Edited(usize),
+    /// An edit changed this.
+    Edited(Changes),
     Updated(NoticeUpdate),
     Reset,
     Enabled,
@@ -24,11 +24,11 @@ struct Kept {
     discovery: bool,
 }
 
-/// All that happened to one controller, the oldest first, and the configurations since its beginning.
+/// All that happened to one controller, the oldest first, and the configuration of now.
 #[derive(Drop)]
 pub struct Past {
     place: Place,
-    configs: Vec<Config>,
+    config: Config,
     kept: Vec<Kept>,
 }
 
@@ -100,40 +100,22 @@ fn empties(happened: Happened) -> bool {
     }
 }
 
+// Whether an edit changes what a kind tells.
+fn changes_view(changes: Changes, kind: EventKind) -> bool {
+    match kind {
+        EventKind::Namespace => changes.nsids.contains(&true),
+        EventKind::Ana => changes.groups.contains(&true),
+        EventKind::Discovery => changes.discovery,
+    }
+}
+
 impl Past {
     pub fn new(alloc: Global, place: Place, config: &Config) -> Result<Past, AllocError> {
-        let mut configs = Vec::new(alloc);
-        configs.push(config.try_clone()?)?;
         Ok(Past {
             place,
-            configs,
+            config: config.try_clone()?,
             kept: Vec::new(alloc),
         })
-    }
-
-    // The configurations that an edit went from and to.
-    fn edit(&self, at: usize) -> Option<(&Config, &Config)> {
-        let old = self.configs.get(at.checked_sub(1)?)?;
-        Some((old, self.configs.get(at)?))
-    }
-
-    // Whether an edit changes what a kind tells.
-    fn changes(&self, at: usize, kind: EventKind) -> bool {
-        let Some((old, new)) = self.edit(at) else {
-            return false;
-        };
-        match (self.place, kind) {
-            (Place::Discovery, EventKind::Discovery) => changes_discovery(old, new),
-            (Place::Io(_), EventKind::Namespace) => {
-                NSIDS.iter().any(|nsid| changes_namespace(old, new, *nsid))
-            }
-            (Place::Io(port), EventKind::Ana) => {
-                GROUPS
-                    .iter()
-                    .any(|group| changes_group(old, new, port, *group))
-            }
-            _ => false,
-        }
     }
 
     // Whether a kind is enabled before what happened there.
@@ -153,19 +135,16 @@ impl Past {
 
     // Whether what happened there is an event for a kind.
     fn arises(&self, at: usize, kind: EventKind) -> bool {
-        let Some(
-            Kept {
-                happened: Happened::Edited(edit),
-                ..
-            },
-        ) = self.kept.get(at)
-        else {
+        let Some(x) = self.kept.get(at) else {
+            return false;
+        };
+        let Happened::Edited(changes) = x.happened else {
             return false;
         };
         let is_told_by_namespaces = kind == EventKind::Ana
-            && self.changes(*edit, EventKind::Namespace)
+            && changes_view(changes, EventKind::Namespace)
             && self.is_enabled(at, EventKind::Namespace);
-        self.changes(*edit, kind) && self.is_enabled(at, kind) && !is_told_by_namespaces
+        changes_view(changes, kind) && self.is_enabled(at, kind) && !is_told_by_namespaces
     }
 
     // Where what happened since the kind was last made quiet begins.
@@ -218,10 +197,10 @@ impl Past {
     ) -> Result<Vec<Completion>, AllocError> {
         let waiting = self.waiting(alloc)?;
         let mut cids = waiting.iter();
-        let edit = self.configs.len();
-        self.configs.push(config.try_clone()?)?;
+        let changes = changes_of(self.place, &self.config, config);
+        self.config = config.try_clone()?;
         let at = self.kept.len();
-        self.kept.push(untold(Happened::Edited(edit)))?;
+        self.kept.push(untold(Happened::Edited(changes)))?;
         let mut completions = Vec::new(alloc);
         for kind in EventKind::ALL {
             if self.arises(at, kind)
@@ -284,45 +263,33 @@ impl Past {
         mask
     }
 
-    // Whether what happened is an edit that changes the group, or any with none named.
-    fn is_counted(&self, happened: Happened, group: Option<u32>) -> bool {
-        let Happened::Edited(edit) = happened else {
-            return false;
-        };
-        match (self.place, group, self.edit(edit)) {
-            (Place::Io(port), Some(group), Some((old, new))) => {
-                changes_group(old, new, port, group)
-            }
-            _ => self.changes(edit, EventKind::Ana),
-        }
-    }
-
-    /// How many edits changed the group since the controller was enabled; with no group, any of them.
-    pub fn count(&self, group: Option<u32>) -> u64 {
+    /// How many edits changed the group of that place in GROUPS since the controller was enabled; with
+    /// no group, any of them.
+    pub fn count(&self, group: Option<usize>) -> u64 {
         let mut count = 0u64;
         for x in self.kept.iter() {
+            let is_counted = match (x.happened, group) {
+                (Happened::Edited(changes), Some(at)) => changes.groups.get(at) == Some(&true),
+                (Happened::Edited(changes), None) => changes.groups.contains(&true),
+                _ => false,
+            };
             if matches!(x.happened, Happened::Enabled) {
                 count = 0;
-            }
-            if self.is_counted(x.happened, group) {
+            } else if is_counted {
                 count = count.saturating_add(1);
             }
         }
         count
     }
 
-    /// Whether the namespace changed since the set was emptied.
-    pub fn has_changed(&self, nsid: u32) -> bool {
+    /// Whether the namespace of that place in NSIDS changed since the set was emptied.
+    pub fn has_changed(&self, at: usize) -> bool {
         let mut changed = false;
         for x in self.kept.iter() {
-            if empties(x.happened) {
-                changed = false;
+            if let Happened::Edited(changes) = x.happened {
+                changed = changed || changes.nsids.get(at) == Some(&true);
             }
-            if let (Place::Io(_), Happened::Edited(edit)) = (self.place, x.happened)
-                && let Some((old, new)) = self.edit(edit)
-            {
-                changed = changed || changes_namespace(old, new, nsid);
-            }
+            changed = changed && !empties(x.happened);
         }
         changed
     }

@@ -10,7 +10,7 @@ use rand_pcg::Pcg32;
 use std::alloc::{AllocError, Global};
 use testkit_edits::{Blocks, Line};
 
-const SCRIPTS: u64 = 6;
+const SCRIPTS: u64 = 12;
 
 const STEPS: usize = 90;
 
@@ -204,8 +204,8 @@ fn are_events_right(alloc: Global, followed: &Followed, past: &Past) -> Result<b
 // Whether the set's list is the plain one, with zeros behind it.
 fn is_set_right(alloc: Global, followed: &Followed, past: &Past) -> Result<bool, AllocError> {
     let mut list = Vec::new(alloc);
-    for nsid in NSIDS {
-        if past.has_changed(nsid) {
+    for (at, nsid) in NSIDS.iter().enumerate() {
+        if past.has_changed(at) {
             list.extend_from_slice(&nsid.to_le_bytes())?;
         }
     }
@@ -233,9 +233,10 @@ fn are_counts_right(followed: &Followed, past: &Past, port: u16) -> bool {
         return false;
     }
     for at in [16usize, 48, 80] {
-        let id = number_at(&bytes, at) % 0x1_0000_0000;
+        let id = number_at(&bytes, at) as u32;
+        let place = GROUPS.iter().position(|group| *group == id);
         let count = number_at(&bytes, at.saturating_add(8));
-        if GROUPS.contains(&(id as u32)) && count != past.count(Some(id as u32)) {
+        if place.is_some() && count != past.count(place) {
             return false;
         }
     }
@@ -304,5 +305,5 @@ fn hosts_are_told_what_a_look_back_says(rt: HostRuntime) {
             assert!(rt; wrong == Ok(0), "place {at}, seed {seed}, step {wrong:?}");
         }
     }
-    assert!(rt; seen.by_edits > 20 && seen.by_requests > 2 && seen.exceeded > 5);
+    assert!(rt; seen.by_edits > 50 && seen.by_requests > 5 && seen.exceeded > 10);
 }

@@ -22,13 +22,22 @@ pub enum Place {
     Io(u16),
 }
 
+/// What an edit changes of what a controller shows: which of NSIDS, which of GROUPS, and the discovery
+/// log page.
+#[derive(Clone, Copy)]
+pub struct Changes {
+    pub nsids: [bool; 4],
+    pub groups: [bool; 3],
+    pub discovery: bool,
+}
+
 fn find(config: &Config, nsid: u32) -> Option<&Namespace> {
     config.namespaces().iter().find(|namespace| namespace.subsystem.as_bytes() == A
         && namespace.nsid == nsid)
 }
 
-/// Whether a namespace of A changes.
-pub fn changes_namespace(old: &Config, new: &Config, nsid: u32) -> bool {
+// Whether a namespace of A changes.
+fn changes_namespace(old: &Config, new: &Config, nsid: u32) -> bool {
     match (find(old, nsid), find(new, nsid)) {
         (None, None) => false,
         (Some(old), Some(new)) => {
@@ -46,8 +55,8 @@ fn holds_any(config: &Config, group: u32) -> bool {
     NSIDS.iter().any(|nsid| is_in(config, *nsid, group))
 }
 
-/// Whether a group of A on that port changes.
-pub fn changes_group(old: &Config, new: &Config, port: u16, group: u32) -> bool {
+// Whether a group of A on that port changes.
+fn changes_group(old: &Config, new: &Config, port: u16, group: u32) -> bool {
     let moves = NSIDS.iter().any(|nsid| is_in(old, *nsid, group) != is_in(new, *nsid, group));
     let is_there = holds_any(old, group) || holds_any(new, group);
     moves || (is_there && old.ana_state(port, A, group) != new.ana_state(port, A, group))
@@ -84,7 +93,28 @@ fn are_kept(config: &Config, other: &Config) -> bool {
     true
 }
 
-/// Whether the discovery log page of the host changes.
-pub fn changes_discovery(old: &Config, new: &Config) -> bool {
+// Whether the discovery log page of the host changes.
+fn changes_discovery(old: &Config, new: &Config) -> bool {
     !are_kept(old, new) || !are_kept(new, old)
+}
+
+/// What a controller sees of an edit, from one configuration to the next.
+pub fn changes_of(place: Place, old: &Config, new: &Config) -> Changes {
+    let mut changes = Changes {
+        nsids: [false; 4],
+        groups: [false; 3],
+        discovery: false,
+    };
+    match place {
+        Place::Discovery => changes.discovery = changes_discovery(old, new),
+        Place::Io(port) => {
+            for (slot, nsid) in changes.nsids.iter_mut().zip(NSIDS) {
+                *slot = changes_namespace(old, new, nsid);
+            }
+            for (slot, group) in changes.groups.iter_mut().zip(GROUPS) {
+                *slot = changes_group(old, new, port, group);
+            }
+        }
+    }
+    changes
 }
