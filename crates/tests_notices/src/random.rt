@@ -233,7 +233,7 @@ fn are_counts_right(followed: &Followed, past: &Past, port: u16) -> bool {
         return false;
     }
     for at in [16usize, 48, 80] {
-        let id = number_at(&bytes, at) as u32;
+        let id = (number_at(&bytes, at) % 0x1_0000_0000) as u32;
         let place = GROUPS.iter().position(|group| *group == id);
         let count = number_at(&bytes, at.saturating_add(8));
         if place.is_some() && count != past.count(place) {
