@@ -1,5 +1,5 @@
 //! The completions that an edit makes.
-ghost use Rattle.std.specs.Prelude.{◌≡◌, ◌<◌, ◌≤◌, ◌++◌, [], length};
+ghost use Rattle.std.specs.Prelude.{◌≡◌, ◌<◌, ◌≤◌, ◌++◌, length};
 ghost use Rattle.event_queue.specs.Completion.{completions_in};
 
 use crate::completion::Completion;

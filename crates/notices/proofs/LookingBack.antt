@@ -1,24 +1,22 @@
 -- What is told after calls is what look-backs say.
-use Rattle.std.proofs.Common.{◌≡◌, ℕ, Bool, true, false, not, IsTrue, List, [], ◌∷◌, Option, refl, ap, sym, ◌∙◌}
-use Rattle.std.specs.Prelude.{Result, Ok, Err, if◌then◌else◌}
+use Rattle.std.proofs.Common.{◌≡◌, ℕ, Bool, true, false, not, IsTrue, List, [], ◌∷◌, Option, refl, ap, ◌∙◌}
+use Rattle.std.specs.Prelude.{Ok, Err, if◌then◌else◌}
 use Rattle.event_queue.specs.declared.completion.Completion.{Completion}
-use Rattle.event_queue.specs.declared.events.LimitExceeded.{LimitExceeded}
 use Rattle.event_queue.specs.Events.{EventState, is_full, limit_exceeded, request_answer}
 use Rattle.event_queue.specs.Laws.{completion_in}
 use Rattle.event_queue.specs.Occurrence.{accepted, was_reset as events_reset}
-use Rattle.event_queue.specs.Told.{Happened, IsAnswered, answer_to, events_of, is_accepted}
+use Rattle.event_queue.specs.Told.{IsAnswered, answer_to, events_of}
 use Rattle.event_queue.proofs.Edits.{edits_are_told}
 use Rattle.event_queue.proofs.Steps.{answered_next, called_next, told_as_it_happened}
 use Rattle.ana_view.specs.Counts.{Counts}
 use Rattle.ana_view.proofs.Counting.{changes_are_counted}
 use Rattle.change_lists.specs.Changes.{changed_nsids, emptied}
 use Rattle.change_lists.proofs.Changed.{changes_are_noted}
-use Rattle.notices.specs.declared.update.NoticeUpdate.{NoticeUpdate}
 use Rattle.notices.specs.declared.update.NoticeUpdate.TheVariants.{Requested, Read, Configured}
 use Rattle.notices.specs.Laws.{NoticesLookBack, called, notices_after}
 use Rattle.notices.specs.Notices.{NoticeState}
 use Rattle.notices.specs.Told.{Occurrence, changed_seen, counts_happened, counts_seen, edited, event_of, events_happened, notices_of, request_owed, set_happened, update, was_enabled, was_reset}
-use Rattle.notices.specs.Update.{empties_set, events_updated}
+use Rattle.notices.specs.Update.{empties_set}
 use Rattle.notices.specs.Viewer.{Views, changes_seen, discovery, io}
 
 -- ---- the events

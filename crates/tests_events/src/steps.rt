@@ -20,13 +20,23 @@ enum Step {
     // A value of Asynchronous Event Configuration, and what is kept of it.
     Configures(u32, u32),
     Resets,
+    // An edit of namespaces, of Asymmetric Namespace Access and of the discovery log page, which completes
+    // these requests with these results, and no others.
+    Edits((bool, bool, bool), &'static [(u16, u64)]),
+    // How many requests wait, and whether that one does.
+    Waiting(usize, u16, bool),
     // Whether an edit of namespaces, of Asymmetric Namespace Access and of the discovery log page is
     // an event for that kind.
     Counts(EventKind, (bool, bool, bool), bool),
 }
 
 fn is_requested(events: &mut Events, cid: u16, answer: Result<Option<u64>, LimitExceeded>) -> bool {
-    match (events.request(cid), answer) {
+    let told = events.answer_to(cid);
+    let answered = events.request(cid);
+    if told != answered {
+        return false;
+    }
+    match (answered, answer) {
         (Ok(None), Ok(None)) | (Err(LimitExceeded), Err(LimitExceeded)) => true,
         (Ok(Some(completion)), Ok(Some(result))) => completion == Completion { cid, result },
         _ => false,
@@ -38,13 +48,27 @@ fn is_configured(events: &mut Events, mask: u32, kept: u32) -> bool {
     events.mask() == kept
 }
 
-fn is_counted(events: &Events, kind: EventKind, views: (bool, bool, bool)) -> bool {
-    let changes = ViewChanges {
+fn changes(views: (bool, bool, bool)) -> ViewChanges {
+    ViewChanges {
         namespace: views.0,
         ana: views.1,
         discovery: views.2,
-    };
-    events.counts(kind, changes)
+    }
+}
+
+fn is_told(events: &mut Events, views: (bool, bool, bool), wanted: &[(u16, u64)]) -> bool {
+    let completing = events.edited(changes(views));
+    let mut completions = completing.as_slice().iter();
+    for (cid, result) in wanted {
+        let wanted = Completion {
+            cid: *cid,
+            result: *result,
+        };
+        if completions.next().copied() != Some(wanted) {
+            return false;
+        }
+    }
+    completions.next().is_none()
 }
 
 fn is_taken(events: &mut Events, step: Step) -> bool {
@@ -63,7 +87,9 @@ fn is_taken(events: &mut Events, step: Step) -> bool {
             events.reset();
             events.mask() == 0
         }
-        Step::Counts(kind, views, counts) => is_counted(events, kind, views) == counts,
+        Step::Edits(views, wanted) => is_told(events, views, wanted),
+        Step::Waiting(count, cid, waits) => events.waiting() == count && events.waits(cid) == waits,
+        Step::Counts(kind, views, counts) => events.counts(kind, changes(views)) == counts,
     }
 }
 
@@ -162,9 +188,35 @@ const COUNTED: &[Step] = &[
     Step::Counts(Discovery, (false, false, true), false),
 ];
 
+// An edit completes a request for each kind that it is an event for, and the oldest request first.
+const EDITED: &[Step] = &[
+    Step::Edits((true, true, true), &[]),
+    Step::Waiting(0, 0, false),
+    Step::Configures(0x8000_0900, 0x8000_0900),
+    Step::Waits(5),
+    Step::Waits(6),
+    Step::Waits(5),
+    Step::Waiting(3, 6, true),
+    Step::Edits((true, true, true), &[(5, NAMESPACE), (6, DISCOVERY)]),
+    Step::Waiting(1, 6, false),
+    Step::Edits((true, true, true), &[]),
+    Step::Edits((false, true, false), &[(5, ANA)]),
+    Step::Reads(Namespace, false),
+    Step::Reads(Ana, false),
+    Step::Edits((true, false, false), &[]),
+    Step::Edits((false, true, false), &[]),
+    Step::Completes(1, NAMESPACE),
+    Step::Completes(2, ANA),
+    Step::Waits(3),
+    Step::Waiting(1, 3, true),
+];
+
 #[test]
 fn calls_answer_by_the_states_of_kinds(rt: HostRuntime) {
-    for (script, steps) in [ONCE, PENDING, DISABLED, COUNTED].into_iter().enumerate() {
+    for (script, steps) in [ONCE, PENDING, DISABLED, COUNTED, EDITED]
+        .into_iter()
+        .enumerate()
+    {
         assert_eq!(rt;
             first_wrong(steps),
             0,
