@@ -1,7 +1,8 @@
--- A reply whose operation is performed does what its decision says.
-use Rattle.std.proofs.Common.{◌≡◌, ℕ, List, ◌++◌, Option, append_assoc, ap, subst, ◌∙◌}
+-- A reply does what its decision says, where its answer was known, and where its operation is performed.
+use Rattle.std.proofs.Common.{◌≡◌, ℕ, List, ◌++◌, Option, append_assoc, refl, ap, subst, ◌∙◌}
 use Rattle.block_store.specs.Stored.{Stored}
 use Rattle.io_queue.specs.declared.operation.Operation.{Operation}
+use Rattle.io_queue.specs.Act.{good}
 use Rattle.io_queue.specs.Execution.{Performs, SyncsIn, contents_at, returned}
 use Rattle.io_queue.specs.Operation.{disk_of}
 use Rattle.io_queue.specs.Reply.{returned_pdus}
@@ -9,6 +10,7 @@ use Rattle.nvt_fields.specs.declared.status.Status.{Status}
 use Rattle.pdu_cut.specs.Front.{Front}
 use Rattle.target_decision.specs.declared.decision.Answer.TheVariants as answer
 use Rattle.target_decision.specs.declared.decision.Decision.TheVariants as decision
+use Rattle.target_decision.specs.declared.decision.Given.{Given}
 use Rattle.target_decision.specs.declared.decision.Reply.{Reply}
 use Rattle.target_decision.specs.Act.{Does}
 use Rattle.target_decision.specs.Decision.{Brought, format_of, response_of}
@@ -29,3 +31,15 @@ operation_done alignment r op front b payload old new output mid appended status
 
   shown : List ℕ
   shown = returned_pdus (format_of r alignment) (returned op (contents_at old (disk_of op)) h.disk_outcome)
+
+pub given_sent : (alignment : ℕ) (r : Reply) (g : Given) (front : Front) (b : Brought) (payload : Option (List ℕ)) (disks : List Stored) (output mid appended : List ℕ)
+    → r.answer ≡ answer.Given g → mid ≡ output ++ returned_pdus (format_of r alignment) payload → appended ≡ mid ++ response_of r g.status g.result
+    → Does alignment (decision.Reply r) front b payload disks disks output appended
+given_sent alignment r g front b payload disks output mid appended is returns sends = record {
+  disk_outcome = good;
+  did = rw is (record { tells = record { good = λ ok d. refl; failed = λ bad. cc }; meets = refl; lasts = tt });
+  sends = rw is (sends ∙ ap (λ (l : List ℕ). l ++ response_of r g.status g.result) returns
+      ∙ append_assoc output (returned_pdus (format_of r alignment) payload) (response_of r g.status g.result));
+  contents = rw is (λ disk. refl);
+  sizes = refl;
+}
