@@ -1,5 +1,5 @@
 -- What each fault says of a line, of a script and of a replay.
-use Rattle.std.proofs.Common.{ℕ, Bool, List, Option, Result, Ok, Err, refl, inl, inr}
+use Rattle.std.proofs.Common.{ℕ, Bool, List, Option, Result, Ok, Err, absurd, refl, inl, inr}
 use Rattle.std.specs.Prelude.{IfErr, OnErr}
 use Rattle.line_words.specs.Lines.{lines_of}
 use Rattle.target_core.specs.Target.{TargetState}
@@ -10,7 +10,7 @@ use Rattle.replay_lines.specs.Fault.{EndsRun}
 use Rattle.replay_lines.specs.StreamLine.{Says}
 use Rattle.nvt_replay.specs.CutOff.{IsCutOff, PlaysInPart}
 use Rattle.nvt_replay.specs.Played.{Prints}
-use Rattle.nvt_replay.specs.Replay.{EndsAtLine, EndsScript, IsConfigured, LeavesLine, PlaysBefore, RefusesEdits, ReplaysBefore}
+use Rattle.nvt_replay.specs.Replay.{AcceptsAll, EndsAtLine, EndsScript, Explains, IsBeforeScript, IsConfigured, LeavesLine, PlaysBefore, RefusesEdits, ReplaysBefore}
 
 -- ---- a line that was begun
 
@@ -67,3 +67,22 @@ edits_before (fault.StreamLine m) edits stream units a refuses = absurd refuses
 edits_before fault.Memory edits stream units a refuses = inl refl
 edits_before fault.Io edits stream units a refuses = absurd refuses
 edits_before fault.Disks edits stream units a refuses = tt
+
+pub script_explained : (r : Result (Unit {0}) ReplayFault) (has_failed : Bool) (edits stream units : List ℕ) → AcceptsAll edits units
+    → IfErr r (λ f. EndsScript has_failed f (lines_of stream)) → IfErr r (λ f. Explains f edits stream units)
+script_explained (Ok done) has_failed edits stream units accepts ends = tt
+script_explained (Err (fault.EditLine m reply)) has_failed edits stream units accepts ends = absurd ends
+script_explained (Err (fault.StreamLine m)) has_failed edits stream units accepts ends = (accepts, ends)
+script_explained (Err fault.Memory) has_failed edits stream units accepts ends = tt
+script_explained (Err fault.Io) has_failed edits stream units accepts ends = accepts
+script_explained (Err fault.Disks) has_failed edits stream units accepts ends = absurd ends
+
+-- What was played is never before its script.
+pub script_began : (r : Result (Unit {0}) ReplayFault) (has_failed : Bool) (lines : List (List ℕ)) (P : Type 0) → IfErr r (λ f. EndsScript has_failed f lines)
+    → IfErr r (λ f. IsBeforeScript f → P)
+script_began (Ok done) has_failed lines P ends = tt
+script_began (Err (fault.EditLine m reply)) has_failed lines P ends = absurd ends
+script_began (Err (fault.StreamLine m)) has_failed lines P ends = λ before. absurd before
+script_began (Err fault.Memory) has_failed lines P ends = λ before. absurd before
+script_began (Err fault.Io) has_failed lines P ends = λ before. absurd before
+script_began (Err fault.Disks) has_failed lines P ends = absurd ends

@@ -1,7 +1,7 @@
-use Rattle.std.proofs.Common.{All}
+use Rattle.std.proofs.Common.{◌≡◌, All}
 use Rattle.std.proofs.lemmas.Result.{on_ok_weaker}
 use Rattle.line_words.specs.Lines.{lines_of}
-use Rattle.nvt_replay.proofs.Faulting.{edits_before, script_before}
+use Rattle.nvt_replay.proofs.Faulting.{edits_before, script_before, script_began, script_explained}
 use Rattle.nvt_replay.specs.Played.{PlaysAll, Prints}
 use Rattle.replay_lines.specs.StreamLine.{IsStreamLine}
 use Rattle.nvt_replay.proofs.playback.replay.Goals as goal
@@ -28,3 +28,12 @@ returns-in-Ok-clause-before g c =
 pub returns-in-Err-clause-before : goal.returns-in-Err-clause-before
 returns-in-Err-clause-before g c =
     edits_before c.in-Err.fault c.args.edits.now c.args.stream.now c.args.units.now (g.W.Write.contents c.args.out.now) c.in-Err.ensures.fault
+
+pub returns-in-Ok-clause-fault : goal.returns-in-Ok-clause-fault
+returns-in-Ok-clause-fault g c =
+    let edits = c.in-Ok.ensures in
+    script_explained c.run.result _ c.args.edits.now c.args.stream.now c.args.units.now (edits.disks, c.in-Ok.playback.connections.config, edits.ok) c.run.ensures.fault
+
+pub returns-in-Ok-clause-unwritten : goal.returns-in-Ok-clause-unwritten
+returns-in-Ok-clause-unwritten g c =
+    script_began c.run.result _ (lines_of c.args.stream.now) (g.W.Write.contents c.run.new.out ≡ g.W.Write.contents c.args.out.now) c.run.ensures.fault
