@@ -5,8 +5,8 @@ use Rattle.pdu_words.specs.declared.explanation.Explanation.{Explanation}
 use Rattle.pdu_words.specs.declared.subject.Subject.{Subject}
 use Rattle.pdu_words.specs.Explanation.{explanation_of}
 use Rattle.host_commands.specs.Hearing.{Hears}
-use Rattle.host_commands.specs.Outstanding.{Outstanding, none_outstanding, command_of_subject, without_subject}
-use Rattle.pdu_words.specs.Subject.{subject_of, completes}
+use Rattle.host_commands.specs.Outstanding.{Outstanding, none_outstanding, behind_subject, command_of_subject, without_subject}
+use Rattle.pdu_words.specs.Subject.{subject_of, completes, resets}
 
 -- what the host sent that is less than a PDU; whether a fault came; and the commands
 pub record Heard : Type 0 where
@@ -36,10 +36,12 @@ subject_said pdu = subject_of (explanation_of pdu None)
 abbrev pub words_said : Heard → List ℕ → Explanation
 words_said heard pdu = explanation_of pdu (command_by (subject_said pdu) heard)
 
--- the commands that are outstanding after a PDU
-abbrev pub commands_by : Option Subject → Bool → Outstanding → Outstanding
-commands_by None done o = o
-commands_by (Some subject) done o = if done then record o { sent = without_subject subject o.sent } else o
+-- the commands that are outstanding after a PDU: a reset drops those sent before it
+abbrev pub commands_by : Option Subject → Explanation → Outstanding → Outstanding
+commands_by None said o = o
+commands_by (Some subject) said o =
+    if resets said then record o { sent = behind_subject subject o.sent } else
+    if completes said then record o { sent = without_subject subject o.sent } else o
 
 abbrev pub saying : Heard → List ℕ → Heard
-saying heard pdu = record heard { commands = commands_by (subject_said pdu) (completes (explanation_of pdu None)) heard.commands }
+saying heard pdu = record heard { commands = commands_by (subject_said pdu) (words_said heard pdu) heard.commands }

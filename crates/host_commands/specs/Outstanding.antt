@@ -1,5 +1,5 @@
 -- The commands that a host has sent on a connection and that are not answered yet.
-use Rattle.std.specs.Prelude.{ℕ, ◌-◌, ◌==◌, Bool, List, [], ◌∷◌, ◌++◌, length, drop, reverse, slice_get, nat_lt, Option, Some, None, option_map, if◌then◌else◌}
+use Rattle.std.specs.Prelude.{ℕ, ◌+◌, ◌-◌, ◌==◌, Bool, List, [], ◌∷◌, ◌++◌, length, drop, reverse, slice_get, nat_lt, Option, Some, None, option_map, if◌then◌else◌}
 use Rattle.std.specs.List.{position, remove}
 use Rattle.pdu_codec.specs.Sqe.{cid_of}
 use Rattle.pdu_words.specs.declared.command.Queue.{Queue}
@@ -56,6 +56,10 @@ abbrev pub command_at : Option ℕ → List Sent → Option Command
 command_at None sent = None
 command_at (Some place) sent = option_map (λ (s : Sent). s.command) (slice_get sent place)
 
+abbrev pub behind_at : Option ℕ → List Sent → List Sent
+behind_at None sent = sent
+behind_at (Some place) sent = drop (place + 1) sent
+
 abbrev pub without_at : Option ℕ → List Sent → List Sent
 without_at None sent = sent
 without_at (Some place) sent = remove sent place
@@ -66,3 +70,7 @@ command_of_subject subject sent = command_at (place_of subject sent) sent
 
 abbrev pub without_subject : Subject → List Sent → List Sent
 without_subject subject sent = without_at (place_of subject sent) sent
+
+-- the commands that were sent after it
+abbrev pub behind_subject : Subject → List Sent → List Sent
+behind_subject subject sent = behind_at (place_of subject sent) sent

@@ -59,7 +59,8 @@ impl HostStream {
     }
 
     /// What a PDU is that is sent on the connection, with its command where that is kept. A response
-    /// completes its command.
+    /// completes its command, and one that answers a reset drops those sent before: an event request
+    /// that waits gets no answer then (Base 2.0, section 3.7.2).
     pub fn say(&mut self, pdu: &[u8]) -> Explanation
         ensures words { result ≡ words_said self.old pdu.now }
         ensures after { self.new ≡ saying self.old pdu.now }
@@ -69,9 +70,12 @@ impl HostStream {
             return bare;
         };
         let command = self.commands.command(subject);
-        if bare.completes() {
+        let explanation = explain(pdu, command);
+        if explanation.resets() {
+            self.commands.reset(subject);
+        } else if explanation.completes() {
             self.commands.complete(subject);
         }
-        explain(pdu, command)
+        explanation
     }
 }

@@ -1,8 +1,10 @@
 //! The commands that a host has sent on a connection and that are not answered yet.
-ghost use Rattle.std.specs.Prelude.{◌≡◌, ◌<◌, IfOk, IfSome, length, reverse};
+ghost use Rattle.std.specs.Prelude.{◌≡◌, ◌<◌, ◌≤◌, IfOk, IfSome, drop, length, reverse};
+ghost use Rattle.std.specs.Prelude.{vec_capacity};
 ghost use Rattle.std.specs.List.{position};
 ghost use Rattle.host_commands.specs.Outstanding.{none_outstanding, sent_after, remembered, place_of};
 ghost use Rattle.host_commands.specs.Outstanding.{command_of_subject, without_subject, queue_after};
+ghost use Rattle.host_commands.specs.Outstanding.{behind_subject};
 ghost use Rattle.host_commands.specs.Outstanding.{first_place_of, last_place_of, has_cid};
 
 use pdu_codec::Sqe;
@@ -83,6 +85,25 @@ impl OutstandingCommands {
         if let Some(place) = place(self.sent.as_slice(), subject) {
             self.sent.remove(place);
         }
+    }
+
+    /// Forgets the command that a PDU speaks of, if it is kept, and those sent before it.
+    pub fn reset(&mut self, subject: Subject)
+        ensures { self.new ≡ record self.old { sent = behind_subject subject self.old.sent } }
+    {
+        if let Some(place) = place(self.sent.as_slice(), subject) {
+            forget_first(&mut self.sent, place + 1);
+        }
+    }
+}
+
+fn forget_first(sent: &mut Vec<Sent>, count: usize)
+    requires { count ≤ length sent.old.items }
+    ensures items { sent.new.items ≡ drop count sent.old.items }
+    ensures capacity { vec_capacity sent.new ≡ vec_capacity sent.old }
+{
+    for _done in 0..count {
+        sent.remove(0);
     }
 }
 

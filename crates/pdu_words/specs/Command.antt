@@ -1,15 +1,21 @@
 -- Which command a submission queue entry is (Base 2.0, sections 5 and 6; NVM Command Set 1.0, section 3.2).
-use Rattle.std.specs.Prelude.{ℕ, ◌==◌, List, slice_index, if◌then◌else◌}
-use Rattle.pdu_codec.specs.Sqe.{opcode_of, fctype_of, connect_of, property_of, get_log_page_of}
+use Rattle.std.specs.Prelude.{ℕ, ◌%◌, ◌==◌, List, slice_index, if◌then◌else◌}
+use Rattle.pdu_codec.specs.Sqe.{opcode_of, fctype_of, connect_of, property_of, get_log_page_of, feature_of}
 use Rattle.pdu_words.specs.declared.command.Queue.{Queue}
 use Rattle.pdu_words.specs.declared.command.Queue.TheVariants as queue
 use Rattle.pdu_words.specs.declared.command.Command.{Command}
 use Rattle.pdu_words.specs.declared.command.Command.TheVariants as command
 
+abbrev pub set_property_command : List ℕ → Command
+set_property_command entry = command.PropertySet (property_of entry).ofst (property_of entry).value
+
+abbrev pub set_features_command : List ℕ → Command
+set_features_command entry = command.SetFeatures (feature_of entry).fid (feature_of entry).value
+
 -- by the Fabrics command type
 abbrev pub fabrics_type : ℕ → List ℕ → Command
 fabrics_type fctype entry =
-    if fctype == 0x00 then command.PropertySet (property_of entry).ofst else
+    if fctype == 0x00 then set_property_command entry else
     if fctype == 0x01 then command.Connect (connect_of entry).qid else
     if fctype == 0x04 then command.PropertyGet (property_of entry).ofst else
     command.Fabrics fctype
@@ -20,14 +26,15 @@ fabrics_command entry = fabrics_type (fctype_of entry) entry
 abbrev pub log_page_command : List ℕ → Command
 log_page_command entry = command.GetLogPage (get_log_page_of entry).lid (get_log_page_of entry).offset
 
--- by the opcode on an admin queue; CNS and the feature identifier are the low byte of CDW10
+-- by the opcode on an admin queue; CNS and the feature identifier are the low byte of CDW10, and Select of Get
+-- Features is bits 10:8 (Base 2.0, section 5.15)
 abbrev pub admin_opcode : ℕ → List ℕ → Command
 admin_opcode opcode entry =
     if opcode == 0x02 then log_page_command entry else
     if opcode == 0x06 then command.Identify (slice_index entry 40) else
     if opcode == 0x08 then command.Abort else
-    if opcode == 0x09 then command.SetFeatures (slice_index entry 40) else
-    if opcode == 0x0A then command.GetFeatures (slice_index entry 40) else
+    if opcode == 0x09 then set_features_command entry else
+    if opcode == 0x0A then command.GetFeatures (slice_index entry 40) (slice_index entry 41 % 8) else
     if opcode == 0x0C then command.AsynchronousEventRequest else
     if opcode == 0x18 then command.KeepAlive else
     command.Admin opcode

@@ -93,3 +93,21 @@ log_page_name lid =
     if lid == 0x0C then Some (codes "ANA log") else
     if lid == 0x70 then Some (codes "discovery log") else
     None
+
+-- the notices, by their Asynchronous Event Information (Base 2.0, section 5.2.1)
+unfoldable pub notice_name : ℕ → Option (List ℕ)
+notice_name information =
+    if information == 0x00 then Some (codes "namespace attribute changed") else
+    if information == 0x03 then Some (codes "asymmetric namespace access change") else
+    if information == 0xF0 then Some (codes "discovery log page change") else
+    None
+
+-- the states of Asymmetric Namespace Access (Base 2.0, section 8.1.1)
+unfoldable pub ana_state_name : ℕ → Option (List ℕ)
+ana_state_name state =
+    if state == 0x1 then Some (codes "optimized") else
+    if state == 0x2 then Some (codes "non-optimized") else
+    if state == 0x3 then Some (codes "inaccessible") else
+    if state == 0x4 then Some (codes "persistent loss") else
+    if state == 0xF then Some (codes "change") else
+    None

@@ -1,5 +1,6 @@
 -- Which command a PDU speaks of.
-use Rattle.std.specs.Prelude.{◌==◌, ◌&&◌, Bool, true, false, Option, Some, None, if◌then◌else◌}
+use Rattle.std.specs.Prelude.{◌==◌, ◌&&◌, ◌%◌, Bool, true, false, Option, Some, None, if◌then◌else◌}
+use Rattle.pdu_words.specs.declared.command.Command.TheVariants as command
 use Rattle.pdu_words.specs.declared.explanation.Completion.{Completion}
 use Rattle.pdu_words.specs.declared.explanation.Explanation.{Explanation}
 use Rattle.pdu_words.specs.declared.explanation.Explanation.TheVariants as explanation
@@ -26,3 +27,10 @@ abbrev pub completes : Explanation → Bool
 completes (explanation.CapsuleResp completion command) = true
 completes (explanation.C2hData head command) = head.success
 completes _ = false
+
+-- A Property Set of CC, with success, that clears EN is a reset: no command sent before it is outstanding after it
+-- (Base 2.0, section 3.7.2). EN is bit 0 of CC, and CC the property at 14h.
+abbrev pub resets : Explanation → Bool
+resets (explanation.CapsuleResp completion (Some (command.PropertySet offset value))) =
+    completion.status.sct == 0 && completion.status.sc == 0x00 && offset == 0x14 && value % 2 == 0
+resets _ = false

@@ -1,5 +1,5 @@
 -- The words of a PDU: one line, without its end.
-use Rattle.std.specs.Prelude.{ℕ, ◌==◌, ◌&&◌, ◌||◌, ◌%◌, ◌/◌, true, List, [], ◌++◌, codes, Option, Some, None, if◌then◌else◌}
+use Rattle.std.specs.Prelude.{ℕ, ◌==◌, ◌&&◌, ◌||◌, ◌%◌, ◌/◌, ◌^◌, Bool, true, nat_lt, List, [], ◌++◌, codes, Option, Some, None, if◌then◌else◌}
 use Rattle.std.specs.Fmt.{decimal, digits}
 use Rattle.nvt_fields.specs.declared.status.Status.{Status}
 use Rattle.pdu_codec.specs.declared.data_head.DataHead.{DataHead}
@@ -12,7 +12,7 @@ use Rattle.pdu_words.specs.declared.command.Command.TheVariants as command
 use Rattle.pdu_words.specs.declared.explanation.Completion.{Completion}
 use Rattle.pdu_words.specs.declared.explanation.Explanation.{Explanation}
 use Rattle.pdu_words.specs.declared.explanation.Explanation.TheVariants as explanation
-use Rattle.pdu_words.specs.Names.{fatal_error_name, identify_name, log_page_name, property_name, status_name}
+use Rattle.pdu_words.specs.Names.{fatal_error_name, identify_name, log_page_name, notice_name, property_name, status_name}
 
 -- ---- numbers in hex, with an `h` behind them
 
@@ -40,16 +40,36 @@ property_words_by (Some name) offset = name
 abbrev pub property_words : ℕ → List ℕ
 property_words offset = property_words_by (property_name offset) offset
 
+-- the kinds of events that Asynchronous Event Configuration enables: bit 8 is namespaces, 11 Asymmetric Namespace
+-- Access and 31 the discovery log page (Base 2.0, section 5.27.1.8)
+abbrev pub kinds_by : Bool → Bool → Bool → List ℕ
+kinds_by namespaces ana discovery =
+    if namespaces then
+    (if ana
+    then (if discovery then codes "events of namespaces, ANA, discovery" else codes "events of namespaces, ANA")
+    else (if discovery then codes "events of namespaces, discovery" else codes "events of namespaces"))
+    else
+    (if ana
+    then (if discovery then codes "events of ANA, discovery" else codes "events of ANA")
+    else (if discovery then codes "events of discovery" else codes "no events"))
+
+abbrev pub kinds_words : ℕ → List ℕ
+kinds_words value = kinds_by (value / 2 ^ 8 % 2 == 1) (value / 2 ^ 11 % 2 == 1) (value / 2 ^ 31 % 2 == 1)
+
+abbrev pub set_features_words : ℕ → ℕ → List ℕ
+set_features_words fid value =
+    if fid == 0x0B then codes "Set Features 0Bh: " ++ kinds_words value else numbered_words (codes "Set Features") fid
+
 abbrev pub command_words : Command → List ℕ
 command_words (command.Connect qid) = connect_words qid
 command_words (command.PropertyGet offset) = codes "Property Get " ++ property_words offset
-command_words (command.PropertySet offset) = codes "Property Set " ++ property_words offset
+command_words (command.PropertySet offset value) = codes "Property Set " ++ property_words offset
 command_words (command.Fabrics fctype) = numbered_words (codes "Fabrics command") fctype
 command_words (command.GetLogPage lid offset) = numbered_words (codes "Get Log Page") lid
 command_words (command.Identify cns) = numbered_words (codes "Identify") cns
 command_words command.Abort = codes "Abort"
-command_words (command.SetFeatures fid) = numbered_words (codes "Set Features") fid
-command_words (command.GetFeatures fid) = numbered_words (codes "Get Features") fid
+command_words (command.SetFeatures fid value) = set_features_words fid value
+command_words (command.GetFeatures fid select) = numbered_words (codes "Get Features") fid
 command_words command.AsynchronousEventRequest = codes "Asynchronous Event Request"
 command_words command.KeepAlive = codes "Keep Alive"
 command_words (command.Admin opcode) = numbered_words (codes "admin command") opcode
@@ -109,9 +129,36 @@ connect_result_words completion =
     then codes ", at byte " ++ decimal (completion.result % 0x10000) ++ codes " of the " ++ place_words completion.result else
     result_words completion.result
 
+abbrev pub succeeds : Status → Bool
+succeeds status = status.sct == 0 && status.sc == 0x00
+
+-- the event that a request tells: type 2, in bits 2:0, is a notice, and bits 15:8 say which (Base 2.0, section 5.2.1)
+unfoldable pub event_name : Completion → Option (List ℕ)
+event_name completion =
+    if succeeds completion.status && completion.result % 8 == 2 then notice_name (completion.result / 0x100 % 0x100) else None
+
+-- .. and the log page that the host is to read, in bits 23:16
+unfoldable pub log_to_read : ℕ → ℕ
+log_to_read result = result / 0x10000 % 0x100
+
+unfoldable pub notice_words : List ℕ → ℕ → List ℕ
+notice_words name log = codes ", " ++ name ++ codes ", read log " ++ byte_words log
+
+abbrev pub event_words_by : Option (List ℕ) → ℕ → List ℕ
+event_words_by None result = result_words result
+event_words_by (Some name) result = notice_words name (log_to_read result)
+
+-- Select 0 to 2 ask for the value of a feature (Base 2.0, section 5.15)
+abbrev pub feature_words : Completion → ℕ → ℕ → List ℕ
+feature_words completion fid select =
+    if succeeds completion.status && fid == 0x0B && nat_lt select 3
+    then codes ", " ++ kinds_words completion.result else result_words completion.result
+
 -- the result, by the command that it is of
 abbrev pub answer_words : Completion → Option Command → List ℕ
 answer_words completion (Some (command.Connect qid)) = connect_result_words completion
+answer_words completion (Some command.AsynchronousEventRequest) = event_words_by (event_name completion) completion.result
+answer_words completion (Some (command.GetFeatures fid select)) = feature_words completion fid select
 answer_words completion other = result_words completion.result
 
 abbrev pub completion_words : Completion → Option Command → List ℕ

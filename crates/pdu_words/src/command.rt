@@ -1,9 +1,9 @@
 //! What a command asks, in as far as the words for its response and its data need it.
 ghost use Rattle.std.specs.Prelude.{◌≡◌};
 ghost use Rattle.pdu_words.specs.Command.{command_of, fabrics_command, admin_command, io_command};
-ghost use Rattle.pdu_words.specs.Command.{log_page_command};
+ghost use Rattle.pdu_words.specs.Command.{log_page_command, set_property_command, set_features_command};
 
-use pdu_codec::{Connect, GetLogPage, Property, Sqe};
+use pdu_codec::{Connect, Feature, GetLogPage, Property, Sqe};
 
 /// The two kinds of queues, on which opcodes mean different commands.
 #[derive(Clone, Copy)]
@@ -19,7 +19,7 @@ pub enum Command {
     Connect { qid: u16 },
     /// The property at this offset, in bytes.
     PropertyGet { offset: u32 },
-    PropertySet { offset: u32 },
+    PropertySet { offset: u32, value: u64 },
     /// Another Fabrics command.
     Fabrics { fctype: u8 },
     /// The log page, from this offset in bytes.
@@ -27,8 +27,9 @@ pub enum Command {
     /// Controller or Namespace Structure.
     Identify { cns: u8 },
     Abort,
-    SetFeatures { fid: u8 },
-    GetFeatures { fid: u8 },
+    SetFeatures { fid: u8, value: u32 },
+    /// Which of the feature's values: 3 asks for what it can do in place of one.
+    GetFeatures { fid: u8, select: u8 },
     AsynchronousEventRequest,
     KeepAlive,
     /// Another command of an admin queue.
@@ -62,9 +63,7 @@ impl Command {
         ensures { result ≡ fabrics_command sqe.now.entry.now }
     {
         match sqe.fctype() {
-            0x00 => Command::PropertySet {
-                offset: Property::read(sqe).ofst,
-            },
+            0x00 => Command::set_property(sqe),
             0x01 => Command::Connect {
                 qid: Connect::read(sqe).qid,
             },
@@ -83,11 +82,34 @@ impl Command {
             0x02 => Command::log_page(sqe),
             0x06 => Command::Identify { cns: dword_10 },
             0x08 => Command::Abort,
-            0x09 => Command::SetFeatures { fid: dword_10 },
-            0x0A => Command::GetFeatures { fid: dword_10 },
+            0x09 => Command::set_features(sqe),
+            0x0A => Command::GetFeatures {
+                fid: dword_10,
+                select: sqe.entry[41] % 8,
+            },
             0x0C => Command::AsynchronousEventRequest,
             0x18 => Command::KeepAlive,
             opcode => Command::Admin { opcode },
+        }
+    }
+
+    fn set_property(sqe: &Sqe<'_>) -> Command
+        ensures { result ≡ set_property_command sqe.now.entry.now }
+    {
+        let set = Property::read(sqe);
+        Command::PropertySet {
+            offset: set.ofst,
+            value: set.value,
+        }
+    }
+
+    fn set_features(sqe: &Sqe<'_>) -> Command
+        ensures { result ≡ set_features_command sqe.now.entry.now }
+    {
+        let set = Feature::read(sqe);
+        Command::SetFeatures {
+            fid: set.fid,
+            value: set.value,
         }
     }
 

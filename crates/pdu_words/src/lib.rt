@@ -5,9 +5,11 @@
 pub mod command;
 pub mod explanation;
 mod names;
+pub mod pages;
 pub mod subject;
 mod words;
 
 pub use command::{Command, Queue};
 pub use explanation::{Completion, Explanation, explain};
+pub use pages::Described;
 pub use subject::{Subject, Which};

@@ -1,8 +1,8 @@
 //! Names that the standards give to numbers, in lower case but for abbreviations.
 ghost use Rattle.std.specs.Prelude.{◌≡◌, MatchOption, None, Some};
 ghost use Rattle.pdu_words.specs.Names.{command_specific_name, fatal_error_name, generic_name};
-ghost use Rattle.pdu_words.specs.Names.{identify_name, log_page_name, media_name, path_name};
-ghost use Rattle.pdu_words.specs.Names.{property_name, status_name};
+ghost use Rattle.pdu_words.specs.Names.{ana_state_name, identify_name, log_page_name};
+ghost use Rattle.pdu_words.specs.Names.{media_name, notice_name, path_name, property_name, status_name};
 
 use nvt_fields::Status;
 
@@ -135,6 +135,34 @@ pub(crate) fn log_page_name(lid: u8) -> Option<&'static str>
         0x04 => "changed namespace list",
         0x0C => "ANA log",
         0x70 => "discovery log",
+        _ => return None,
+    })
+}
+
+/// The name of a notice, by its Asynchronous Event Information (Base 2.0, section 5.2.1).
+#[tactic(auto, unfolding(crate::specs::Names::notice_name))]
+pub(crate) fn notice_name(information: u64) -> Option<&'static str>
+    ensures { MatchOption result (notice_name information ≡ None) (λ name. notice_name information ≡ Some name.now) }
+{
+    Some(match information {
+        0x00 => "namespace attribute changed",
+        0x03 => "asymmetric namespace access change",
+        0xF0 => "discovery log page change",
+        _ => return None,
+    })
+}
+
+/// The name of an Asymmetric Namespace Access state (Base 2.0, section 8.1.1).
+#[tactic(auto, unfolding(crate::specs::Names::ana_state_name))]
+pub(crate) fn ana_state_name(state: u8) -> Option<&'static str>
+    ensures { MatchOption result (ana_state_name state ≡ None) (λ name. ana_state_name state ≡ Some name.now) }
+{
+    Some(match state {
+        0x1 => "optimized",
+        0x2 => "non-optimized",
+        0x3 => "inaccessible",
+        0x4 => "persistent loss",
+        0xF => "change",
         _ => return None,
     })
 }

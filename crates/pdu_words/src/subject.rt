@@ -1,7 +1,8 @@
 //! Which command a PDU speaks of.
 ghost use Rattle.std.specs.Prelude.{◌≡◌};
-ghost use Rattle.pdu_words.specs.Subject.{subject_of, completes, subject_of_completion};
+ghost use Rattle.pdu_words.specs.Subject.{subject_of, completes, resets, subject_of_completion};
 
+use crate::command::Command;
 use crate::explanation::{Completion, Explanation};
 
 /// Which of the outstanding commands with one identifier. Only by a host's error are there several.
@@ -51,6 +52,23 @@ impl Explanation {
         match *self {
             Explanation::CapsuleResp { .. } => true,
             Explanation::C2hData { head, command: _ } => head.success,
+            _ => false,
+        }
+    }
+
+    /// Whether no command is outstanding after this PDU that was sent before its own: a Property Set
+    /// of CC that clears EN was answered with success (Base 2.0, section 3.7.2).
+    pub fn resets(&self) -> bool
+        ensures { result ≡ resets self.now }
+    {
+        match *self {
+            Explanation::CapsuleResp {
+                completion,
+                command: Some(Command::PropertySet { offset, value }),
+            } => {
+                let status = completion.status;
+                status.sct == 0 && status.sc == 0x00 && offset == 0x14 && value % 2 == 0
+            }
             _ => false,
         }
     }

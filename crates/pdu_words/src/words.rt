@@ -1,18 +1,22 @@
 //! The words of an explanation: one line with no end.
-ghost use Rattle.std.specs.Prelude.{◌≡◌, ◌++◌, Some};
+ghost use Rattle.std.specs.Prelude.{◌≡◌, ◌++◌, MatchOption, None, Some};
 ghost use Rattle.std.specs.Fmt.{WritesOnOk};
 ghost use Rattle.pdu_words.specs.Words.{answer_words, byte_words, command_words, connect_words};
 ghost use Rattle.pdu_words.specs.Words.{completion_words, connect_result_words, content_words};
+ghost use Rattle.pdu_words.specs.Words.{event_name, event_words_by, feature_words, kinds_words};
 ghost use Rattle.pdu_words.specs.Words.{data_words, fatal_error_words, flag_words, ic_req_words};
 ghost use Rattle.pdu_words.specs.Words.{ic_resp_words, identify_words_by, information_words};
 ghost use Rattle.pdu_words.specs.Words.{log_page_words_by, named_words, numbered_words, place_words};
-ghost use Rattle.pdu_words.specs.Words.{property_words, r2t_words, result_words, retry_words};
+ghost use Rattle.pdu_words.specs.Words.{log_to_read, notice_words, succeeds};
+ghost use Rattle.pdu_words.specs.Words.{property_words, r2t_words, result_words, retry_words, set_features_words};
 ghost use Rattle.pdu_words.specs.Words.{status_words, termination_words, words_of};
 ghost use Rattle.pdu_words.specs.Names.{identify_name, log_page_name};
 
 use crate::command::Command;
 use crate::explanation::{Completion, Explanation};
-use crate::names::{fatal_error_name, identify_name, log_page_name, property_name, status_name};
+use crate::names::{
+    fatal_error_name, identify_name, log_page_name, notice_name, property_name, status_name,
+};
 use nvt_fields::Status;
 use pdu_codec::{DataHead, IcReq, IcResp, R2t, TermReq};
 use std::fmt::{self, Formatter};
@@ -163,6 +167,8 @@ impl fmt::Display for Answer {
     fn fmt<W: fmt::Write>(&self, f: &mut Formatter<W>) -> fmt::Result {
         match self.1 {
             Some(Command::Connect { qid: _ }) => write_connect_result(f, self.0),
+            Some(Command::AsynchronousEventRequest) => write_event(f, self.0),
+            Some(Command::GetFeatures { fid, select }) => write_feature(f, self.0, fid, select),
             _ => write_result(f, self.0.result),
         }
     }
@@ -202,6 +208,84 @@ fn write_connect_result<W: fmt::Write>(f: &mut Formatter<W>, completion: Complet
         return write!(f, ", at byte {low} of the {place}");
     }
     write_result(f, completion.result)
+}
+
+fn succeeds(status: Status) -> bool
+    ensures { result ≡ succeeds status }
+{
+    status.sct == 0 && status.sc == 0x00
+}
+
+// The event that a request tells: type 2 is a notice.
+#[tactic(auto, unfolding(crate::specs::Words::event_name))]
+fn event_name(completion: Completion) -> Option<&'static str>
+    ensures { MatchOption result (event_name completion ≡ None) (λ name. event_name completion ≡ Some name.now) }
+{
+    if succeeds(completion.status) && completion.result % 8 == 2 {
+        return notice_name(completion.result / 0x100 % 0x100);
+    }
+    None
+}
+
+#[tactic(auto, unfolding(crate::specs::Words::log_to_read))]
+fn log_to_read(dwords: u64) -> u8
+    ensures { result ≡ log_to_read dwords }
+{
+    (dwords / 0x1_0000 % 0x100) as u8
+}
+
+// .. and the log page that the host is to read.
+fn write_event<W: fmt::Write>(f: &mut Formatter<W>, completion: Completion) -> fmt::Result
+    ensures { WritesOnOk W.write_str_gives f.old result
+        (event_words_by (event_name completion) completion.result) f.new }
+{
+    match event_name(completion) {
+        Some(name) => write_notice(f, name, log_to_read(completion.result)),
+        None => write_result(f, completion.result),
+    }
+}
+
+#[tactic(auto, unfolding(crate::specs::Words::notice_words))]
+fn write_notice<W: fmt::Write>(f: &mut Formatter<W>, name: &str, log: u8) -> fmt::Result
+    ensures { WritesOnOk W.write_str_gives f.old result (notice_words name.now log) f.new }
+{
+    let log = Byte(log);
+    write!(f, ", {name}, read log {log}")
+}
+
+// Select 0 to 2 ask for a value.
+fn write_feature<W: fmt::Write>(
+    f: &mut Formatter<W>,
+    completion: Completion,
+    fid: u8,
+    select: u8,
+) -> fmt::Result
+    ensures { WritesOnOk W.write_str_gives f.old result (feature_words completion fid select) f.new }
+{
+    if succeeds(completion.status) && fid == 0x0B && select < 3 {
+        let kinds = kinds_words(completion.result);
+        return write!(f, ", {kinds}");
+    }
+    write_result(f, completion.result)
+}
+
+// The kinds that Asynchronous Event Configuration enables (Base 2.0, section 5.27.1.8).
+fn kinds_words(value: u64) -> &'static str
+    ensures { result.now ≡ kinds_words value }
+{
+    let namespaces = value / 0x100 % 2 == 1;
+    let ana = value / 0x800 % 2 == 1;
+    let discovery = value / 0x8000_0000 % 2 == 1;
+    match (namespaces, ana, discovery) {
+        (false, false, false) => "no events",
+        (true, false, false) => "events of namespaces",
+        (false, true, false) => "events of ANA",
+        (true, true, false) => "events of namespaces, ANA",
+        (false, false, true) => "events of discovery",
+        (true, false, true) => "events of namespaces, discovery",
+        (false, true, true) => "events of ANA, discovery",
+        (true, true, true) => "events of namespaces, ANA, discovery",
+    }
 }
 
 // The header of a data PDU of this name.
@@ -309,15 +393,15 @@ impl fmt::Display for Command {
                 let property = Property(offset);
                 write!(f, "Property Get {property}")
             }
-            Command::PropertySet { offset } => {
+            Command::PropertySet { offset, value: _ } => {
                 let property = Property(offset);
                 write!(f, "Property Set {property}")
             }
             Command::Fabrics { fctype } => write_numbered(f, "Fabrics command", fctype),
             Command::GetLogPage { lid, offset: _ } => write_numbered(f, "Get Log Page", lid),
             Command::Identify { cns } => write_numbered(f, "Identify", cns),
-            Command::SetFeatures { fid } => write_numbered(f, "Set Features", fid),
-            Command::GetFeatures { fid } => write_numbered(f, "Get Features", fid),
+            Command::SetFeatures { fid, value } => write_set_features(f, fid, value),
+            Command::GetFeatures { fid, select: _ } => write_numbered(f, "Get Features", fid),
             Command::Admin { opcode } => write_numbered(f, "admin command", opcode),
             Command::Io { opcode } => write_numbered(f, "I/O command", opcode),
             Command::Abort => f.write_str("Abort"),
@@ -339,6 +423,16 @@ fn write_connect<W: fmt::Write>(f: &mut Formatter<W>, qid: u16) -> fmt::Result
         return f.write_str("Connect");
     }
     write!(f, "Connect QID {qid}")
+}
+
+fn write_set_features<W: fmt::Write>(f: &mut Formatter<W>, fid: u8, value: u32) -> fmt::Result
+    ensures { WritesOnOk W.write_str_gives f.old result (set_features_words fid value) f.new }
+{
+    if fid == 0x0B {
+        let kinds = kinds_words(u64::from(value));
+        return write!(f, "Set Features 0Bh: {kinds}");
+    }
+    write_numbered(f, "Set Features", fid)
 }
 
 // A property, by its offset.

@@ -2,21 +2,20 @@
 use Rattle.std.specs.Prelude.{◌≡◌, ℕ, ◌-◌, ◌==◌, not, ◌⊎◌, List, [], ◌∷◌, ◌++◌, codes, length, take, Option, Some, None, Ok}
 use Rattle.std.specs.Io.KnownBytes.{Appends}
 use Rattle.std.specs.List.{AllPass}
-use Rattle.pdu_words.specs.declared.explanation.Explanation.{Explanation}
-use Rattle.pdu_words.specs.Words.{words_of}
+use Rattle.pdu_words.specs.Pages.{described_words}
 use Rattle.host_commands.specs.HostStreams.{Known}
 use Rattle.replay_words.specs.declared.lines.ScriptLine.{ScriptLine}
 use Rattle.replay_words.specs.Lines.{SaysScript}
-use Rattle.replay_words.specs.Notes.{HearsSaid, NotesLine}
+use Rattle.replay_words.specs.Notes.{HearsSaid, Noted, NotesLine}
 
--- the line with more of it, up to 281 bytes: a number, ` pdu ` and 256 digits
+-- the line with more of it, up to 16,409 bytes: a number, ` pdu ` and 16,384 digits
 abbrev pub kept : List ℕ → List ℕ → List ℕ
-kept line piece = line ++ take (281 - length line) piece
+kept line piece = line ++ take (16409 - length line) piece
 
 -- ` # ` and the words of a note, if there is one
-abbrev pub words_behind : Option Explanation → List ℕ
+abbrev pub words_behind : Option Noted → List ℕ
 words_behind None = []
-words_behind (Some explanation) = codes " # " ++ words_of explanation
+words_behind (Some note) = codes " # " ++ described_words note.explanation note.bytes
 
 -- a part of a line, without an end: the bytes known of the writer below grow by it
 pub record GoesOn (line new_line : List ℕ) (old new : Known) (taken : List ℕ) (below new_below : Option (List ℕ)) : Type 0 where
@@ -29,7 +28,7 @@ pub record GoesOn (line new_line : List ℕ) (old new : Known) (taken : List ℕ
 pub record Ends (line new_line : List ℕ) (old new : Known) (taken : List ℕ) (below new_below : Option (List ℕ)) : Type 0 where
   pub is_end : taken ≡ 10 ∷ []
   pub begins : new_line ≡ []
-  pub note : Option Explanation
+  pub note : Option Noted
   pub noted : NotesLine line old new (Ok note)
   pub passed_on : Appends below new_below (words_behind note ++ 10 ∷ [])
 

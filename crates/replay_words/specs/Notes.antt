@@ -20,9 +20,9 @@ bytes_by (Err fault) = None
 abbrev pub bytes_of : List ℕ → Option (List ℕ)
 bytes_of hex = bytes_by (decode_of hex)
 
--- the digits of the longest header, 128 bytes: of a PDU the words say nothing that stands behind it
+-- the digits of the first 8,192 bytes: of a PDU the words say nothing that stands behind them
 abbrev pub head_of : List ℕ → List ℕ
-head_of hex = take 256 hex
+head_of hex = take 16384 hex
 
 -- a connection hears bytes, if there are any
 abbrev pub HearsBytes : ℕ → Option (List ℕ) → Known → Known → Type 0
@@ -39,19 +39,24 @@ abbrev pub HearsLine : List ℕ → Known → Known → Result (Unit {0}) AllocE
 HearsLine line old new (Ok done) = (said : ScriptLine) × SaysScript line said × HearsSaid said old new
 HearsLine line old new (Err fault) = Unit {0}
 
+-- what a PDU is, and the first of its bytes
+pub record Noted : Type 0 where
+  pub explanation : Explanation
+  pub bytes : List ℕ
+
 -- what is noted of a PDU, if its digits say bytes, and what is outstanding after it
-abbrev pub NotesPdu : ℕ → Option (List ℕ) → Known → Known → Option Explanation → Type 0
+abbrev pub NotesPdu : ℕ → Option (List ℕ) → Known → Known → Option Noted → Type 0
 NotesPdu number None old new note = (note ≡ None) × (new ≡ old)
 NotesPdu number (Some head) old new note =
-    (note ≡ Some (said_on (place old number) head)) × (new ≡ after_saying number (place old number) head old)
+    (note ≡ Some (record { explanation = said_on (place old number) head; bytes = head })) × (new ≡ after_saying number (place old number) head old)
 
 -- connections open and close, and PDUs are explained
-abbrev pub NotesSaid : PrintedLine → Known → Known → Option Explanation → Type 0
+abbrev pub NotesSaid : PrintedLine → Known → Known → Option Noted → Type 0
 NotesSaid (printed.Open number) old new note = (note ≡ None) × (new ≡ opened_at number old)
 NotesSaid (printed.Closed number) old new note = (note ≡ None) × (new ≡ without old number)
 NotesSaid (printed.Pdu number hex) old new note = NotesPdu number (bytes_of (head_of hex.now)) old new note
 NotesSaid printed.Other old new note = (note ≡ None) × (new ≡ old)
 
-abbrev pub NotesLine : List ℕ → Known → Known → Result (Option Explanation) AllocError → Type 0
+abbrev pub NotesLine : List ℕ → Known → Known → Result (Option Noted) AllocError → Type 0
 NotesLine line old new (Ok note) = (said : PrintedLine) × SaysPrinted line said × NotesSaid said old new note
 NotesLine line old new (Err fault) = Unit {0}

@@ -3,21 +3,19 @@ ghost use Rattle.std.specs.Io.KnownBytes.{Appends, Keeps, WriteAppends};
 ghost use Rattle.std.specs.Io.{WritesAtMost};
 ghost use Rattle.std.specs.Prelude.{◌∷◌, ◌++◌, ℕ, List, ◌≡◌, ◌≤◌, [], length, take, IfOk, OnErr, OnOk};
 ghost use Rattle.std.specs.Prelude.{None, replicate, Option, Ok};
-ghost use Rattle.pdu_words.specs.declared.explanation.Explanation.{Explanation};
 ghost use Rattle.replay_words.specs.Explained.{Passes, WasHeard, kept, words_behind};
-ghost use Rattle.replay_words.specs.Notes.{HearsLine, NotesLine};
+ghost use Rattle.replay_words.specs.Notes.{HearsLine, Noted, NotesLine};
 
-use crate::notes::Notes;
+use crate::notes::{Note, Notes};
 use line_words::find_byte;
-use pdu_words::Explanation;
 use std::alloc::{AllocError, Global};
 use std::io::{self, Write};
 
-// As much of a line as a note needs: a number, ` pdu ` and the digits of the longest header.
-const LINE_HEAD: usize = 20 + 5 + 256;
+// As much of a line as a note needs: a number, ` pdu ` and the digits of 8,192 bytes.
+const LINE_HEAD: usize = 20 + 5 + 16384;
 
 // No note is longer.
-const NOTE_MAX: usize = 256;
+const NOTE_MAX: usize = 2048;
 
 /// Passes on what is written to it, byte for byte, but for ` # ` and words behind each line `K pdu
 /// HEX`. After an error it is not known how much of the note at a line's end was passed on.
@@ -62,7 +60,7 @@ impl<'a, W: Write> Explained<'a, W> {
     // Passes on the end of a line, behind the words of its note.
     fn end_line(&mut self) -> io::Result<()>
         ensures line { OnOk result (self.new.line.items ≡ []) }
-        ensures noted { OnOk result ((note : Option Explanation)
+        ensures noted { OnOk result ((note : Option Noted)
             × NotesLine self.old.line.items self.old.notes self.new.notes (Ok note)
             × Appends (W.contents self.old.out.now) (W.contents self.new.out.now)
             (words_behind note ++ 10 ∷ [])) }
@@ -133,11 +131,14 @@ impl<W: Write> Write for Explained<'_, W> {
 }
 
 // Appends the words of a note, if there is one.
-fn write_words(text: &mut Vec<u8>, note: Option<Explanation>) -> io::Result<()>
+fn write_words(text: &mut Vec<u8>, note: Option<Note>) -> io::Result<()>
     ensures { OnOk result (text.new.items ≡ text.old.items ++ words_behind note) }
 {
     match note {
-        Some(explanation) => write!(text, " # {explanation}"),
+        Some(note) => {
+            let described = note.described();
+            write!(text, " # {described}")
+        }
         None => Ok(()),
     }
 }

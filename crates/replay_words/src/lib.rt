@@ -8,4 +8,4 @@ pub mod notes;
 
 pub use explained::Explained;
 pub use lines::{PrintedLine, ScriptLine, read_printed, read_script};
-pub use notes::Notes;
+pub use notes::{Note, Notes};

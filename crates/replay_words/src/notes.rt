@@ -5,12 +5,41 @@ ghost use Rattle.replay_words.specs.Notes.{HearsLine, NotesLine, bytes_of, head_
 use crate::lines::{PrintedLine, ScriptLine, read_printed, read_script};
 use hex::FromHexError;
 use host_commands::HostStreams;
-use pdu_words::Explanation;
+use pdu_words::{Described, Explanation};
 use std::alloc::{AllocError, Global};
 use std::marker::Model;
 
-// The digits of the longest header of a PDU, 128 bytes, which says all that the words say.
-const HEAD_DIGITS: usize = 256;
+// The digits of the first 8,192 bytes of a PDU. The words say nothing that stands behind them: of the
+// data, the pages that they speak of are shorter.
+const HEAD_DIGITS: usize = 16384;
+
+/// What a PDU is, and the first of its bytes.
+#[derive(Drop)]
+pub struct Note {
+    explanation: Explanation,
+    bytes: Vec<u8>,
+}
+
+impl Model for Note {
+    ghost use Rattle.replay_words.specs.Notes.{Noted};
+
+    ghost Value = { Noted };
+
+    ghost view = { λ n. record { explanation = n.explanation; bytes = n.bytes.items } };
+}
+
+impl Note {
+    /// What has the words.
+    pub fn described(&self) -> Described<'_>
+        ensures explanation { result.explanation ≡ self.now.explanation }
+        ensures bytes { result.bytes.now ≡ self.now.bytes }
+    {
+        Described {
+            explanation: self.explanation,
+            bytes: self.bytes.as_slice(),
+        }
+    }
+}
 
 /// What was heard of the connections of a replay.
 #[derive(Drop)]
@@ -57,7 +86,7 @@ impl Notes {
     }
 
     /// Takes note of a printed line, without its end: what its PDU is, if it has one.
-    pub fn note(&mut self, line: &[u8]) -> Result<Option<Explanation>, AllocError>
+    pub fn note(&mut self, line: &[u8]) -> Result<Option<Note>, AllocError>
         ensures noted { NotesLine line.now self.old self.new result }
         ensures err { OnErr result (self.new ≡ self.old) }
     {
@@ -74,14 +103,18 @@ impl Notes {
                 let Some(head) = decode(self.alloc, head_of(hex))? else {
                     return Ok(None);
                 };
-                Ok(Some(self.host_streams.said(number as usize, &head)))
+                let explanation = self.host_streams.said(number as usize, &head);
+                Ok(Some(Note {
+                    explanation,
+                    bytes: head,
+                }))
             }
             PrintedLine::Other => Ok(None),
         }
     }
 }
 
-// The digits of the PDU's header, or all where there are fewer.
+// The first digits of a PDU, or all where there are fewer.
 fn head_of(hex: &[u8]) -> &[u8]
     ensures { result.now ≡ head_of hex.now }
 {

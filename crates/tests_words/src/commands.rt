@@ -76,7 +76,7 @@ const ADMIN_COMMANDS: &[Turn] = &[
     Turn::Capsule(b"0a400300", b"0b"),
     Turn::Output(
         b"0 pdu 050018001800000000000000000000000100000003000000",
-        b"CapsuleResp CID 3 SQHD 1 success (Get Features 0Bh)",
+        b"CapsuleResp CID 3 SQHD 1 success, no events (Get Features 0Bh)",
     ),
     Turn::Capsule(b"0c400300", b""),
     Turn::Output(
@@ -190,7 +190,7 @@ const RESULTS: &[Turn] = &[
     Turn::Capsule(b"0c400300", b""),
     Turn::Output(
         b"0 pdu 050018001800000002f07000000000000100000003000000",
-        b"CapsuleResp CID 3 SQHD 1 success, result 70F002h (Asynchronous Event Request)",
+        b"CapsuleResp CID 3 SQHD 1 success, discovery log page change, read log 70h (Asynchronous Event Request)",
     ),
 ];
 

@@ -7,6 +7,10 @@ mod commands;
 #[cfg(test)]
 mod conversation;
 #[cfg(test)]
+mod events;
+#[cfg(test)]
+mod pages;
+#[cfg(test)]
 mod statuses;
 #[cfg(test)]
 mod talk;
