@@ -1,5 +1,5 @@
 -- What each fault says of a line, of a script and of a replay.
-use Rattle.std.proofs.Common.{ℕ, Bool, List, Option, Result, Ok, Err, absurd, refl, inl, inr}
+use Rattle.std.proofs.Common.{ℕ, Bool, List, Option, Result, Ok, Err, refl, inl, inr}
 use Rattle.std.specs.Prelude.{IfErr, OnErr}
 use Rattle.line_words.specs.Lines.{lines_of}
 use Rattle.target_core.specs.Target.{TargetState}
