@@ -43,7 +43,7 @@ impl Model for Events {
 }
 
 impl Events {
-    ghost use Rattle.std.specs.Prelude.{None, if◌then◌else◌, length, nat_eq};
+    ghost use Rattle.std.specs.Prelude.{◌≤◌, None, if◌then◌else◌, length, nat_eq};
     ghost use Rattle.std.specs.List.{list_any};
     ghost use Rattle.event_queue.specs.Changes.{counts_for};
     ghost use Rattle.event_queue.specs.Events.{after_edit, after_read, change_answer, changed};
@@ -94,7 +94,8 @@ impl Events {
 
     /// How many requests wait: at most 4.
     pub fn waiting(&self) -> usize
-        ensures { result ≡ length self.now.waiting }
+        ensures value { result ≡ length self.now.waiting }
+        ensures bound { result ≤ 4 }
     {
         self.waiting.len()
     }

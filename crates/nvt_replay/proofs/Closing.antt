@@ -72,7 +72,7 @@ only_gone k c old new known ended transition = record {
       ≡ (if same then None else place old.connections j)
   here j true = refl
   here j false =
-      sym (silent_at (meets old (given_up k)) j (place old.connections j) refl refl)
+      sym (silent_at (meets old (given_up k)) j (place old.connections j) refl refl refl)
       ∙ ap (λ (e : EndCause). option_map (settled e (ends_live (meets old (given_up k)))) (place old.connections j)) nothing
       ∙ same_at (ends_live (meets old (given_up k))) none (place old.connections j)
 

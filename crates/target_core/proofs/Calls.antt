@@ -26,7 +26,7 @@ use Rattle.target_decision.specs.declared.session.Session.TheVariants as session
 use Rattle.target_decision.specs.Session.{is_ended}
 use Rattle.target_history.specs.Event.{edited, given_up, opened, stepped}
 use Rattle.target_history.specs.Occurrence.{DisksAct, Occurrence}
-use Rattle.target_history.specs.History.{alignment_of, Admission, admission_of, connection_of, happened, has_ended, is_initialized, is_known, last_front, pdus_of, port_of, responses_since, sent, session_of, session_with}
+use Rattle.target_history.specs.History.{alignment_of, Admission, admission_of, connection_of, happened, has_ended, is_initialized, is_known, last_front, notices_of, pdus_of, port_of, responses_since, sent, session_of, session_with}
 use Rattle.target_core.proofs.Agreements.{meets_agree, transition_agrees, same_agrees}
 
 -- ---- events
@@ -204,13 +204,13 @@ ended_at : (h : List Occurrence) (k : ℕ) (o : Option KnownConnection)
 ended_at h k o agrees = by o (is_known h k) agrees where
   by : (o : Option KnownConnection) (known : Bool)
       → option_map (λ (c : KnownConnection). c.state) o
-      ≡ (if known then Some (record { port = port_of h k; session = session_of h k; alignment = alignment_of h k }) else None)
+      ≡ (if known then Some (record { port = port_of h k; session = session_of h k; alignment = alignment_of h k; notices = notices_of h k }) else None)
       → is_ended_at o ≡ (known && has_ended h k)
   by None true agrees = cc
   by None false agrees = refl
   by (Some c) false agrees = cc
   by (Some c) true agrees =
-      let same : c.state ≡ record { port = port_of h k; session = session_of h k; alignment = alignment_of h k } = cc in
+      let same : c.state ≡ record { port = port_of h k; session = session_of h k; alignment = alignment_of h k; notices = notices_of h k } = cc in
       ap (λ (v : ConnectionState). is_ended v.session) same ∙ ended_of h k
 
 pub ended_tells : (t : TargetState) (k : ℕ) (ended : Bool) → ended ≡ is_ended_at (place t.connections k) → EndedAgrees k t ended

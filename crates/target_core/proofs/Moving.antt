@@ -213,14 +213,15 @@ made_same made a b h k = cc
 pub edit_moves : (old new : TargetState) (edit : Edit) (before after : Configuration) → accept old.config edit ≡ Ok new.config → before ≡ old.config → after ≡ new.config
     → new.clock ≡ old.clock
     → ShowNext new.config old.shown new.shown → new.streams ≡ old.streams
-    → new.connections ≡ map (option_map (told_known before after (λ (c : ℕ). place new.rows c)))
-    (map (option_map (settled (cause_edited edit) (gone_by (cause_edited edit) new.config (tables_of old)))) old.connections)
+    → (ended : List (Option KnownConnection))
+    → ended ≡ map (option_map (settled (cause_edited edit) (gone_by (cause_edited edit) new.config (tables_of old)))) old.connections
+    → new.connections ≡ map (option_map (told_known before after (λ (c : ℕ). place new.rows c))) ended
     → ((c : ℕ) → place new.rows c ≡ (if gone_by (cause_edited edit) new.config (tables_of old) c then None else
     option_map (row_kept (cause_edited edit) c) (place old.rows c)))
     → ((c : ℕ) → place new.controllers c ≡ (if gone_by (cause_edited edit) new.config (tables_of old) c then None else place old.controllers c))
     → ((k t : ℕ) → part_at new.transfers k t ≡ (if ends_known (cause_edited edit) (gone_by (cause_edited edit) new.config (tables_of old)) (place old.connections k) then None else part_at old.transfers k t))
     → new.disks ≡ old.disks → Transition (edited edit) old new
-edit_moves old new edit before now accepted first last clock shown streams connections rows controllers parts disks =
+edit_moves old new edit before now accepted first last clock shown streams ended settles tells rows controllers parts disks =
     let x = meets old (edited edit) in
     let after : config_after (edited edit) old.config ≡ new.config = rw accepted refl in
     let gone = gone_after old (edited edit) new.config after in
@@ -233,7 +234,7 @@ edit_moves old new edit before now accepted first last clock shown streams conne
       clock = clock;
       shown = shown;
       connection = λ k. ap (λ (l : List (Option KnownConnection)). place l k)
-          (connections
+          (tells ∙ ap (map (option_map (told_known before now (λ (n : ℕ). place new.rows n)))) settles
           ∙ ap (λ (c : Configuration). map (option_map (told_known c now (λ (n : ℕ). place new.rows n)))
           (map (option_map (settled (cause_edited edit) (gone_by (cause_edited edit) new.config (tables_of old)))) old.connections)) first
           ∙ ap (λ (c : Configuration). map (option_map (told_known old.config c (λ (n : ℕ). place new.rows n)))

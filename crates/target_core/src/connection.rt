@@ -129,6 +129,8 @@ impl Connection {
             front,
             &carried,
         );
+        // prover: at most 4 requests wait, and there is room for their completions
+        self.state.notices.events().waiting();
         Ok(())
     }
 

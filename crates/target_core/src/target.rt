@@ -1,5 +1,5 @@
 //! The target: a configuration and the connections that hosts made.
-ghost use Rattle.std.specs.Prelude.{◌≡◌, ◌<◌, ◌≤◌, IfOk, IfErr, IsOkUnless, OnErr, OnOk, MatchOption, Some, None, [], drop, length, map, replicate, true};
+ghost use Rattle.std.specs.Prelude.{◌≡◌, ◌<◌, ◌≤◌, IfOk, IfErr, IsOk, IsOkUnless, Ok, OnErr, OnOk, MatchOption, Some, None, [], drop, length, map, replicate, true};
 ghost use Rattle.std.specs.Bool.{OnFalse, OnTrue};
 ghost use Rattle.std.specs.Option.{option_copied};
 ghost use Rattle.number_table.specs.Table.{place};
@@ -257,6 +257,18 @@ impl<D: Disk + Drop> Target<D> {
         ensures err { OnErr result (self.new ≡ self.old) }
     {
         self.config.check(edit)?;
+        self.commit_edit(edit)?;
+        Ok(())
+    }
+
+    // Makes an edit that is accepted: the configuration goes over, what it ends is ended, the hosts of
+    // the controllers that stay are told, and the views go over last. All growth comes first.
+    fn commit_edit(&mut self, edit: &Edit) -> Result<(), AllocError>
+        requires { IsOk (accept self.old.config edit.now) }
+        ensures ok { OnOk result (accept self.old.config edit.now ≡ Ok self.new.config) }
+        ensures transition { OnOk result (Transition (edited edit.now) self.old self.new) }
+        ensures err { OnErr result (self.new ≡ self.old) }
+    {
         let plans = self.views.prepare(&self.config, edit)?;
         let change = self.config.prepare(edit)?;
         self.config.commit(change);

@@ -201,8 +201,8 @@ module _ (disks : Opening) (events : List Event) (edit : Edit) (c : ℕ) (row : 
       connection_step x before k refl ∙ rw met (ap Some (whole (ap (λ (over : Bool). if over then Ended else completed_in v.session (completed_by (telling x v) v.notices)) here)))
     where
       whole : {s t : Session} → s ≡ t
-          → record { port = v.port; session = s; alignment = v.alignment; notices = noted_by (telling x v) v.notices }
-          ≡ (record { port = v.port; session = t; alignment = v.alignment; notices = noted_by (telling x v) v.notices } : ConnectionState)
+          → (let c : ConnectionState = record { port = v.port; session = s; alignment = v.alignment; notices = noted_by (telling x v) v.notices } in c)
+          ≡ (let c : ConnectionState = record { port = v.port; session = t; alignment = v.alignment; notices = noted_by (telling x v) v.notices } in c)
       whole p = rw p refl
 
 pub permitted_outlive_edits : PermittedOutliveEdits

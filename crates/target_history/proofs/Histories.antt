@@ -28,7 +28,6 @@ use Rattle.pdu_codec.specs.Sqe.{cid_of}
 use Rattle.pdu_cut.specs.Pdu.{Pdu, data_part}
 use Rattle.property_regs.specs.declared.regs.Change.{Change}
 use Rattle.property_regs.specs.declared.regs.Change.TheVariants as change
-use Rattle.target_decision.specs.declared.capsule.Served.TheVariants.{Answered, Asked, Waits}
 use Rattle.target_decision.specs.declared.consequence.Consequence.TheVariants as consequence
 use Rattle.target_decision.specs.declared.consequence.Update.TheVariants as update
 use Rattle.target_decision.specs.declared.controller.Controller.{Controller}
@@ -37,7 +36,7 @@ use Rattle.target_decision.specs.declared.decision.Decision.TheVariants as decis
 use Rattle.target_decision.specs.declared.decision.Reply.{Reply}
 use Rattle.target_decision.specs.declared.session.Session.{Session}
 use Rattle.target_decision.specs.declared.transfer.WaitingCommand.{WaitingCommand}
-use Rattle.target_decision.specs.Capsule.{answered_with, command, finished, owed, refused_with}
+use Rattle.target_decision.specs.Capsule.{command, finished, owed}
 use Rattle.target_decision.specs.Carry.{CarriesWell, waiting_at}
 use Rattle.target_decision.specs.Connect.{admitted}
 use Rattle.target_decision.specs.Notice.{notices_after, notices_changed, notices_followed}
@@ -55,7 +54,7 @@ use Rattle.target_decision.specs.Decision.{decide, entry_of}
 use Rattle.target_decision.specs.Session.{is_ended}
 use Rattle.io_queue.specs.Act.{DiskOutcome}
 use Rattle.target_decision.specs.World.{World, admin_controller_by}
-use Rattle.target_decision.proofs.Deciding.{command_is, decision_is, finished_is}
+use Rattle.target_decision.proofs.Deciding.{command_is, decision_is, finished_is, owed_is}
 use Rattle.target_history.specs.Event.{Event, edited, front_in, given_up, gives_up, disk_outcome_in, opened, opens, stepped, steps, ticked}
 use Rattle.target_history.specs.Occurrence.{Occurrence, completes, completes_at, config_after, decided, decided_on, edit_made, ends, noted_at, notices_decided, replies_to, responses_decided, sends, sends_on, tags_decided, telling, told_at}
 use Rattle.target_history.specs.History.{Opening, alignment_of, blocks_of, config_of, connection_of, generation_after, generation_of, happened, has_ended, is_known, notices_of, part_of, port_of, meets_after, sent, session_of, world_of}
@@ -167,8 +166,8 @@ waits_balances front tags s cid few =
     record { most = omega (arith, more); few = few }
 
 -- what is answered leaves no more requests waiting
-abbrev NotedWell : NoticeState → Outcome → Type 0
-NotedWell s (Ok (Answered success)) = waits (notices_followed s success.consequence) ≤ waits s
+abbrev NotedWell : NoticeState → Decision → Type 0
+NotedWell s (decision.Reply r) = waits (notices_followed s r.consequence) ≤ waits s
 NotedWell s _ = Unit {0}
 
 set_notes : (s : NoticeState) (c : Change) → waits (notices_changed c s) ≤ waits s
@@ -177,9 +176,9 @@ set_notes s change.Enable = omega arith
 set_notes s change.Shutdown = omega arith
 set_notes s change.Stay = omega arith
 
-admitted_notes : (s : NoticeState) (a : AdmitAs) (entry : List ℕ) → NotedWell s (admitted a entry)
-admitted_notes s (admit.Queue cntlid qid) entry = omega arith
-admitted_notes s (admit.Controller new) entry = omega arith
+admitted_notes : (n : NoticeState) (s : Session) (cid : ℕ) (a : AdmitAs) (entry : List ℕ) → NotedWell n (owed s cid None (admitted a entry))
+admitted_notes n s cid (admit.Queue cntlid qid) entry = omega arith
+admitted_notes n s cid (admit.Controller new) entry = omega arith
 
 effect_notes : (s : NoticeState) (e : Effect) (cntlid : ℕ) → waiting_after e s ≡ s.events.waiting
     → waits (notices_followed s (consequence.Update cntlid (update.Command e))) ≤ waits s
@@ -208,26 +207,30 @@ answered_notes s cid (Ok (accepted.Answered t)) success is h =
 answered_notes s cid (Ok accepted.Waits) success is h = cc
 answered_notes s cid (Err status) success is h = cc
 
-command_notes : (w : World) (v : ConnectionState) (tags : Tags) (entry bytes : List ℕ) → NotedWell v.notices (command w v tags entry bytes)
-command_notes w v tags entry bytes = command_is w v entry bytes (NotedWell v.notices) (record {
-  refuses = λ r. tt;
-  admits = λ none a is. admitted_notes v.notices a entry;
-  tells = λ value. omega arith;
-  configures = λ cntlid role s. set_notes v.notices s.change;
-  administers = λ cntlid role c own s is.
-      let same = own_notices v.notices cntlid (w.row cntlid) (w.controller cntlid) c own in
-      effect_notes v.notices s.effect cntlid (rw same at (answered_notes c.notices (cid_of entry) (admin w.pages w.config c entry) s is (answered_once w.pages w.config c entry)));
-  waits = λ cntlid role c own is. tt;
-  performs = λ cntlid qid role port subsystem op is. omega arith;
-  asks = λ cntlid qid role port subsystem len is. tt;
-}) tags
+command_notes : (w : World) (v : ConnectionState) (tags : Tags) (cid : ℕ) (entry bytes : List ℕ)
+    → NotedWell v.notices (owed v.session cid None (command w v tags entry bytes))
+command_notes w v tags cid entry bytes =
+    command_is w v entry bytes (λ o. NotedWell v.notices (owed v.session cid None o)) (record {
+      refuses = λ r. omega arith;
+      admits = λ none a is. admitted_notes v.notices v.session cid a entry;
+      tells = λ value. omega arith;
+      configures = λ cntlid role s. set_notes v.notices s.change;
+      administers = λ cntlid role c own s is.
+          let same = own_notices v.notices cntlid (w.row cntlid) (w.controller cntlid) c own in
+          effect_notes v.notices s.effect cntlid
+          (rw same at (answered_notes c.notices (cid_of entry) (admin w.pages w.config c entry) s is (answered_once w.pages w.config c entry)));
+      waits = λ cntlid role c own is. tt;
+      performs = λ cntlid qid role port subsystem op is. omega arith;
+      asks = λ cntlid qid role port subsystem len is. tt;
+    }) tags
 
-owed_balances : (front : Front) (tags : Tags) (n : NoticeState) (s : Session) (cid : ℕ) (o : Outcome) → FewTags tags → NotedWell n o → CarriesWell tags (owed s cid None o) front
-    → Balances true front tags n (Some (owed s cid None o))
-owed_balances front tags n s cid (Ok (Answered success)) few noted well = replied_balances front tags n (answered_with s cid None success) refl noted few
-owed_balances front tags n s cid (Ok (Asked len)) few noted well = asked_balances front tags n cid len few well.0
-owed_balances front tags n s cid (Ok Waits) few noted well = waits_balances front tags n cid few
-owed_balances front tags n s cid (Err refusal) few noted well = replied_balances front tags n (refused_with s cid None refusal) refl (omega arith) few
+owed_balances : (front : Front) (tags : Tags) (n : NoticeState) (s : Session) (cid : ℕ) (o : Outcome) → FewTags tags → NotedWell n (owed s cid None o)
+    → CarriesWell tags (owed s cid None o) front → Balances true front tags n (Some (owed s cid None o))
+owed_balances front tags n s cid o few =
+    owed_is (λ d. NotedWell n d → CarriesWell tags d front → Balances true front tags n (Some d)) s cid None
+    (λ r none head noted well. replied_balances front tags n r none noted few)
+    (λ len noted well. asked_balances front tags n cid len few well.0)
+    (λ noted well. waits_balances front tags n cid few) o
 
 -- the tag of a transfer that is there
 tag_within : (tags : Tags) (ttag : ℕ) (part : Part WaitingCommand) → FewTags tags → tags ttag ≡ Some part → ttag < 63
@@ -281,7 +284,7 @@ front_balances w v tags front few = decision_is w v tags front (λ d. CarriesWel
   initializes = λ opened alignment well. record { most = omega arith; few = few };
   answers = λ pdu is kind room well.
       capsule_front pdu is kind (owed_balances front tags v.notices v.session (cid_of (entry_of pdu)) (command w v tags (entry_of pdu) (data_part pdu)) few
-      (command_notes w v tags (entry_of pdu) (data_part pdu)) well);
+      (command_notes w v tags (cid_of (entry_of pdu)) (entry_of pdu) (data_part pdu)) well);
   receives = λ pdu part brings well. received_balances (is_capsule front) front tags v.notices (head_in pdu).ttag part few brings.found;
   completes = λ pdu part brings well.
       finished_balances w (is_capsule front) front tags v.notices v.session (head_in pdu).cccid (head_in pdu).ttag part part.command.entry

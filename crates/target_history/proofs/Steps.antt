@@ -206,6 +206,6 @@ connection_step x before k met = by (opens x.event k) (gives_up x.event k) (is_k
   by false false false met = refl
   by false false true met = ap Some (whole (session_step x before k met) (ap (λ (o : Option ConnectionState). noted_at x o (notices_decided (notices_of before k) (decided x k))) met)) where
     whole : {s t : Session} {m n : NoticeState} → s ≡ t → m ≡ n
-        → record { port = port_of before k; session = s; alignment = alignment_decided (alignment_of before k) (decided x k); notices = m }
-        ≡ (record { port = port_of before k; session = t; alignment = alignment_decided (alignment_of before k) (decided x k); notices = n } : ConnectionState)
+        → (let v : ConnectionState = record { port = port_of before k; session = s; alignment = alignment_decided (alignment_of before k) (decided x k); notices = m } in v)
+        ≡ (let v : ConnectionState = record { port = port_of before k; session = t; alignment = alignment_decided (alignment_of before k) (decided x k); notices = n } in v)
     whole p q = rw (p, q) refl

@@ -23,8 +23,8 @@ returns-in-Ok-act g c =
     let complete = sym c.is_incomplete.ensures ∙ c.if-is_incomplete.false in
     rw (← c.self.view_is, stream, known)
     (step_done _ _ _ _ _ _ _ _ _ _ _ _ stream known lasts c.peek-front.ensures.front complete
-    (rw (c.world-world.ensures, c.pages-pages.ensures, c.state.ensures) at c.decide-decision.ensures.decision)
-    (rw c.state.ensures at c.of_decision.ensures) c.consequence_of.ensures (rw c.state.ensures at c.in-Ok.ensures)
+    (rw (c.world-world.ensures, c.pages-pages.ensures, c.state-before.ensures) at c.decide-decision.ensures.decision)
+    (rw c.state-before.ensures at c.of_decision.ensures) c.consequence_of.ensures (rw c.state-before.ensures at c.in-Ok.ensures)
     refl refl refl
     (acts_known _ _ _ _ _ _ _ _ _ _ _ known (rw (c.world-world.ensures, c.pages-pages.ensures) at c.in-Ok-act.ensures.acts)) c.settle.ensures.connections
     (rw c.consumed_of-len.ensures at (acted_known _ _ _ _ _ _ stream c.consume.ensures))

@@ -1,0 +1,27 @@
+use Rattle.std.proofs.Common.{◌≡◌, Ok, refl, ap, sym, ◌∙◌}
+use Rattle.ana_view.specs.View.{Planned}
+use Rattle.target_core.proofs.Moving.{edit_moves, made_same}
+use Rattle.target_core.proofs.Places.{map_is_target}
+use Rattle.target_views.proofs.Shows.{planned_next}
+use Rattle.target_views.proofs.Units.{edit_keeps_units}
+use Rattle.target_core.proofs.target.Target.commit_edit.Goals as goal
+
+pub invariant_of-self-2 : goal.invariant_of-self-2
+invariant_of-self-2 g c = record {
+  tables = rw c.tell.ensures (map_is_target _ _ _ (rw c.settle.ensures.connections (map_is_target _ _ _ c.self.invariant.tables)));
+  units = edit_keeps_units c.self.inside.config c.commit.new.self c.args.edit.now (c.in_ok-change.ensures.makes ∙ ap Ok (sym c.commit.ensures)) ∙ c.self.invariant.units;
+}
+
+pub returns-clause-ok : goal.returns-clause-ok
+returns-clause-ok g c = rw (← c.self.view_is) (c.in_ok-change.ensures.makes ∙ ap Ok (sym c.commit.ensures))
+
+pub returns-clause-transition : goal.returns-clause-transition
+returns-clause-transition g c =
+    let accepted = c.in_ok-change.ensures.makes ∙ ap Ok (sym c.commit.ensures) in
+    let first = ap (λ (p : Planned). p.old) c.edit.ensures ∙ c.in_ok-plans.ensures.old in
+    let last = ap (λ (p : Planned). p.new) c.edit.ensures ∙ made_same _ _ _ c.in_ok-plans.ensures.new accepted in
+    rw (← c.self.view_is)
+    (edit_moves _ _ c.args.edit.now _ _ accepted first last refl
+    (planned_next _ _ _ _ _ c.in_ok-plans.ensures.new accepted (rw c.prepare.ensures.kept at c.commit-2.ensures)) refl
+    c.settle.new.connections (rw c.of_edit.ensures at c.settle.ensures.connections) c.tell.ensures (λ n. rw c.of_edit.ensures at (c.settle.ensures.rows n))
+    (λ n. rw c.of_edit.ensures at (c.settle.ensures.own n)) (λ k t. rw c.of_edit.ensures at (c.settle.ensures.parts k t)) refl)
