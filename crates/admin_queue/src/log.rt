@@ -149,9 +149,7 @@ fn groups_len(pages: &Pages<'_>, controller: &AdminController<'_>, groups_only: 
         result ≡ length (ana_groups c.subsystem (pages_in pages.now) c groups_only) }
 {
     match controller.subsystem {
-        Some(nqn) => pages
-            .ana
-            .len(nqn.as_bytes(), controller.port, groups_only),
+        Some(nqn) => pages.ana.len(nqn.as_bytes(), controller.port, groups_only),
         None => 0,
     }
 }

@@ -13,9 +13,9 @@ ghost use Rattle.target_decision.specs.Session.{is_ended};
 ghost use Rattle.target_decision.specs.World.{world_in};
 ghost use Rattle.target_history.specs.Occurrence.{views_of};
 
+use ana_view::Plan;
 use block_store::{Disk, Store};
 use bytes::BytesMut;
-use ana_view::Plan;
 use controller_tables::ControllerTables;
 use data_transfer::Transfers;
 use fabrics_connect::Row;

@@ -12,12 +12,7 @@ use nvt_fields::Status;
 use pdu_codec::Sqe;
 
 /// Answers an admin command of the controller of this identifier, which has to be ready.
-pub(crate) fn command(
-    world: &World<'_>,
-    notices: &Notices,
-    cntlid: u16,
-    sqe: &Sqe<'_>,
-) -> Outcome
+pub(crate) fn command(world: &World<'_>, notices: &Notices, cntlid: u16, sqe: &Sqe<'_>) -> Outcome
     ensures { result ≡ admin_at (world_in world.now) notices.now cntlid sqe.now.entry.now }
 {
     match world.admin_controller(notices, cntlid) {

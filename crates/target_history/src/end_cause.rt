@@ -63,9 +63,7 @@ impl EndCause {
             Decision::Initialize(_)
             | Decision::Request(_)
             | Decision::Receive { .. }
-            | Decision::Wait { .. } => {
-                EndCause::Nothing
-            }
+            | Decision::Wait { .. } => { EndCause::Nothing }
             Decision::Reply(reply) => EndCause::of_consequence(&reply.consequence),
             Decision::Terminate(_) | Decision::Close => EndCause::of_loss(session),
         }
