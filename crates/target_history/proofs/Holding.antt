@@ -120,7 +120,7 @@ module _ (disks : Opening) (before : List Occurrence) (event : Event) (earlier :
     by false is = refl
   not_begun_by _ c port h lives = refl
 
-  not_begun : (c port : ℕ) → LivesOn before c port → begins x c ≡ None
+  pub not_begun : (c port : ℕ) → LivesOn before c port → begins x c ≡ None
   not_begun c port lives = not_begun_by (consequence_of x) c port admitted lives
 
   lives_on : (c port : ℕ) → LivesOn before c port → ends_live x c ≡ false → LivesOn (x ∷ before) c port

@@ -9,6 +9,7 @@ pub mod Histories
 pub mod Holding
 pub mod Identifiers
 pub mod Lives
+pub mod Noticing
 pub mod Permissions
 pub mod Roles
 pub mod Serving

@@ -2,6 +2,7 @@
 //! it, and what identifier a controller's own row has. Each of these functions does nothing: its contract is the
 //! law, for whatever happened.
 ghost use Rattle.target_history.specs.Identifiers.{RowsHaveTheirIdentifiers};
+ghost use Rattle.target_history.specs.Noticing.{HostsAreToldByLookingBack};
 ghost use Rattle.target_history.specs.Terminations.{EndedHaveNoTransfers, StepsEndTheirOwn};
 
 /// A connection whose own step ends it was not ended before that step, and is after it; another step
@@ -21,4 +22,12 @@ pub fn ended_have_no_transfers()
 #[tactic(auto, using(crate::proofs::Identifiers::rows_have_their_identifiers))]
 pub fn rows_have_their_identifiers()
     ensures { RowsHaveTheirIdentifiers }
+{}
+
+/// What the host of a controller is told on its admin queue is what the look-backs over all that happened to
+/// the controller say of its own views: over the accepted edits that it outlived, its host's own reads, requests
+/// and settings, its resets and enablings. Each edit completes the requests that are owed then.
+#[tactic(auto, using(crate::proofs::Noticing::hosts_are_told_by_looking_back))]
+pub fn hosts_are_told_by_looking_back()
+    ensures { HostsAreToldByLookingBack }
 {}
