@@ -22,10 +22,14 @@ const CHANGED_NAMESPACES: u8 = 0x04;
 
 const CHANGED_NAMESPACES_LEN: u16 = 4_096;
 
+const CHANGED_NAMESPACES_ANSWER: usize = 2 * HEADER_LEN + CHANGED_NAMESPACES_LEN as usize;
+
 const ANA: u8 = 0x0C;
 
 // As much as the page of 32 groups and 1,024 namespaces has.
 const ANA_LEN: u16 = 5_136;
+
+const ANA_ANSWER: usize = 2 * HEADER_LEN + ANA_LEN as usize;
 
 // What a host sends after an event.
 #[derive(Drop)]
@@ -48,11 +52,11 @@ impl Capsules {
         })
     }
 
-    // The read of a log page, and how many bytes the page has.
+    // The read of a log page, and how many bytes it is answered.
     fn read(&self, page: u8) -> Option<(&[u8], usize)> {
         match page {
-            CHANGED_NAMESPACES => Some((&self.changed_namespaces, CHANGED_NAMESPACES_LEN as usize)),
-            ANA => Some((&self.ana, ANA_LEN as usize)),
+            CHANGED_NAMESPACES => Some((&self.changed_namespaces, CHANGED_NAMESPACES_ANSWER)),
+            ANA => Some((&self.ana, ANA_ANSWER)),
             _ => None,
         }
     }
@@ -168,7 +172,7 @@ impl Hosts {
         let (Some(page), Some(cid)) = (log_page(sent), sent.get(20)) else {
             return false;
         };
-        let (Some((read, len)), Some(request)) = (
+        let (Some((read, answer_len)), Some(request)) = (
             self.capsules.read(page),
             self.capsules.request(*cid),
         ) else {
@@ -177,7 +181,7 @@ impl Hosts {
         sent.len() == HEADER_LEN
             && self.target.empties(k)
             && self.target.takes(k, read)
-            && self.target.sent(k).len() == HEADER_LEN + len + HEADER_LEN
+            && self.target.sent(k).len() == answer_len
             && self.target.empties(k)
             && self.target.takes(k, request)
             && self.target.sent(k).is_empty()
