@@ -9,7 +9,9 @@ use std::rt::Clock;
 pub fn measure<R: Clock + Print + AllocGlobal>(rt: &R) -> Result<(), BenchFault> {
     measure_one(rt, Work::Read, 2_000_000)?;
     measure_one(rt, Work::Write, 2_000_000)?;
-    measure_one(rt, Work::LongRead, 500_000)
+    measure_one(rt, Work::LongRead, 500_000)?;
+    measure_one(rt, Work::LongestRead, 100_000)?;
+    measure_one(rt, Work::LongestWrite, 100_000)
 }
 
 // The time of the commands has that of the connection in it, less than a thousandth.

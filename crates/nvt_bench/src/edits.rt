@@ -45,9 +45,8 @@ fn measure_all<R: Clock + Print + AllocGlobal>(
     config: &Config,
     lines: &[u8],
 ) -> Result<(), BenchFault> {
-    let mut edits = Vec::new(rt.alloc());
     let begun = now(rt)?;
-    read_all(rt.alloc(), lines, &mut edits)?;
+    let edits = read_all(rt.alloc(), lines)?;
     report(rt, "read", edits.len(), begun)?;
     write_all(rt, &edits, lines)?;
     let begun = now(rt)?;
@@ -56,14 +55,16 @@ fn measure_all<R: Clock + Print + AllocGlobal>(
     print(rt, "accepted by the configuration", accepted)
 }
 
-fn read_all(alloc: Global, lines: &[u8], edits: &mut Vec<Edit>) -> Result<(), BenchFault> {
+/// Reads each line of a file.
+pub fn read_all(alloc: Global, lines: &[u8]) -> Result<Vec<Edit>, BenchFault> {
+    let mut edits = Vec::new(alloc);
     for line in Lines::of(lines) {
         let edit = read_edit(alloc, line)?;
         if edits.push(edit).is_err() {
             return Err(BenchFault::Memory);
         }
     }
-    Ok(())
+    Ok(edits)
 }
 
 // Writes the lines of the edits, each with its end, and compares them afterwards.

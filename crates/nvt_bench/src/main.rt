@@ -1,13 +1,16 @@
 //! Measures the edit language: how many lines of edits a second are read, written back and checked
-//! against a configuration. `nvt_bench SETUP LINES` takes two files of edits: SETUP makes the
-//! configuration, over 256 disks, and the edits of LINES are measured. Then it measures I/O commands on
-//! a target over a disk in memory, against bare copies of as many bytes.
+//! against a configuration. `nvt_bench SETUP LINES SERVED CHANGES` takes four files of edits: SETUP makes
+//! the configuration, over 256 disks, and the edits of LINES are measured. Then it measures I/O commands
+//! on a target over a disk in memory, against bare copies of as many bytes. Then SERVED makes the
+//! configuration of a target with hosts, and the edits of CHANGES are measured, each told to the hosts,
+//! and what the hosts read.
 #![tactic(auto)]
 
 mod clock;
 mod commands;
 mod edits;
 mod fault;
+mod told;
 
 use fault::BenchFault;
 use std::alloc::Global;
@@ -22,10 +25,10 @@ const FAULT: u8 = 1;
 const BAD_ARGUMENTS: u8 = 2;
 
 fn main(rt: HostRuntime) -> ExitCode {
-    match paths(&rt) {
-        Some((setup, lines)) => finish(&rt, run(&rt, &setup, &lines)),
+    match read_paths(&rt) {
+        Some(paths) => finish(&rt, run(&rt, &paths)),
         None => {
-            let _ = eprintln!(rt; "usage: nvt_bench SETUP LINES");
+            let _ = eprintln!(rt; "usage: nvt_bench SETUP LINES SERVED CHANGES");
             ExitCode::from(BAD_ARGUMENTS)
         }
     }
@@ -41,28 +44,55 @@ fn finish(rt: &impl Eprint, outcome: Result<(), BenchFault>) -> ExitCode {
     }
 }
 
-// The two files that the arguments name.
-fn paths<R: Env + AllocGlobal>(rt: &R) -> Option<(String, String)> {
+// The files that the arguments name.
+#[derive(Drop)]
+struct Paths {
+    setup: String,
+    lines: String,
+    served: String,
+    changes: String,
+}
+
+fn read_paths<R: Env + AllocGlobal>(rt: &R) -> Option<Paths> {
     let mut words = env::args(rt).ok()?;
     let _ = words.next()?;
     let setup = words.next()?;
     let lines = words.next()?;
+    let served = words.next()?;
+    let changes = words.next()?;
     if words.next().is_some() {
         return None;
     }
-    Some((setup, lines))
+    Some(Paths {
+        setup,
+        lines,
+        served,
+        changes,
+    })
 }
 
-fn run<R: Files + Clock + Print + AllocGlobal>(
+fn run<R: Files + Clock + Print + AllocGlobal>(rt: &R, paths: &Paths) -> Result<(), BenchFault> {
+    measure_edits(rt, paths)?;
+    commands::measure(rt)?;
+    measure_told(rt, paths)
+}
+
+fn measure_edits<R: Files + Clock + Print + AllocGlobal>(
     rt: &R,
-    setup: &str,
-    lines: &str,
+    paths: &Paths,
 ) -> Result<(), BenchFault> {
-    let alloc = rt.alloc();
-    let setup = read_file(rt, alloc, setup)?;
-    let lines = read_file(rt, alloc, lines)?;
-    edits::measure(rt, &setup, &lines)?;
-    commands::measure(rt)
+    let setup = read_file(rt, rt.alloc(), &paths.setup)?;
+    let lines = read_file(rt, rt.alloc(), &paths.lines)?;
+    edits::measure(rt, &setup, &lines)
+}
+
+fn measure_told<R: Files + Clock + Print + AllocGlobal>(
+    rt: &R,
+    paths: &Paths,
+) -> Result<(), BenchFault> {
+    let served = read_file(rt, rt.alloc(), &paths.served)?;
+    let changes = read_file(rt, rt.alloc(), &paths.changes)?;
+    told::measure(rt, &served, &changes)
 }
 
 fn read_file<R: Files>(rt: &R, alloc: Global, path: &str) -> Result<Vec<u8>, BenchFault> {

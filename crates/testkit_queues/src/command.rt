@@ -20,6 +20,9 @@ pub const COMPARE_FAILURE: [u8; 2] = [0x0A, 0x85];
 
 pub const LBA_OUT_OF_RANGE: [u8; 2] = [0x00, 0x81];
 
+// The type of the SGL descriptor of data that are not in the capsule.
+const NOT_IN_CAPSULE: u8 = 0x5A;
+
 /// The commands, by their opcodes.
 #[derive(Clone, Copy, PartialEq, Eq)]
 pub enum Opcode {
@@ -45,7 +48,7 @@ impl Opcode {
     fn sgl_type(self) -> u8 {
         match self {
             Opcode::Write | Opcode::Compare => 0x01,
-            Opcode::Read | Opcode::Flush | Opcode::WriteZeroes => 0x5A,
+            Opcode::Read | Opcode::Flush | Opcode::WriteZeroes => NOT_IN_CAPSULE,
         }
     }
 }
@@ -59,6 +62,8 @@ pub struct Command {
     pub first: u16,
     pub blocks: u16,
     pub fua: bool,
+    /// Its data are asked for by an R2T.
+    pub asked_for: bool,
 }
 
 impl Command {
@@ -71,11 +76,20 @@ impl Command {
             first,
             blocks,
             fua: false,
+            asked_for: false,
         }
     }
 
     pub fn with_fua(self, fua: bool) -> Command {
         Command { fua, ..self }
+    }
+
+    /// It with data that are asked for.
+    pub fn with_data_asked_for(self) -> Command {
+        Command {
+            asked_for: true,
+            ..self
+        }
     }
 
     // Its submission queue entry.
@@ -84,7 +98,11 @@ impl Command {
         let opcode = self.opcode.code();
         entry[..5].copy_from_slice(&[opcode, 0x40, self.cid, 0, self.nsid]);
         entry[32..36].copy_from_slice(&self.len().to_le_bytes());
-        entry[39] = self.opcode.sgl_type();
+        entry[39] = if self.asked_for {
+            NOT_IN_CAPSULE
+        } else {
+            self.opcode.sgl_type()
+        };
         entry[40..42].copy_from_slice(&self.first.to_le_bytes());
         entry[48..50].copy_from_slice(&self.blocks.saturating_sub(1).to_le_bytes());
         entry[51] = if self.fua { 0x40 } else { 0 };
@@ -109,21 +127,29 @@ pub fn block_len(nsid: u8) -> u32 {
 
 /// A Connect of CID 1 with SQSIZE 31 to a queue of a controller.
 pub fn connect(alloc: Global, queue: u8, controller: [u8; 2]) -> Result<Vec<u8>, AllocError> {
+    connect_as(alloc, queue, &connect_data(controller, A, H1))
+}
+
+/// A Connect of CID 1 with SQSIZE 31 that asks a subsystem for a controller of a host.
+pub fn connect_to(alloc: Global, subsystem: &[u8], host: &[u8]) -> Result<Vec<u8>, AllocError> {
+    connect_as(alloc, 0, &connect_data([0xFF; 2], subsystem, host))
+}
+
+fn connect_as(alloc: Global, queue: u8, data: &[u8; 1024]) -> Result<Vec<u8>, AllocError> {
     let mut entry = [0u8; 64];
     entry[..5].copy_from_slice(&[0x7F, 0x40, 1, 0, 1]);
     entry[33] = 4;
     entry[39] = 1;
     entry[42] = queue;
     entry[44] = 31;
-    capsule(alloc, &entry, &connect_data(controller))
+    capsule(alloc, &entry, data)
 }
 
-// The data of a Connect: the controller's identifier, the subsystem and the host.
-fn connect_data(controller: [u8; 2]) -> [u8; 1024] {
+fn connect_data(controller: [u8; 2], subsystem: &[u8], host: &[u8]) -> [u8; 1024] {
     let mut data = [0u8; 1024];
     put(&mut data, 16, &controller);
-    put(&mut data, 256, A);
-    put(&mut data, 512, H1);
+    put(&mut data, 256, subsystem);
+    put(&mut data, 512, host);
     data
 }
 

@@ -6,10 +6,13 @@ mod command;
 mod driver;
 mod plain;
 mod script;
+mod transfer;
 
 pub use command::{
-    COMPARE_FAILURE, Command, LBA_OUT_OF_RANGE, Opcode, READ_ERROR, SUCCESS, WRITE_FAULT, block_len,
+    COMPARE_FAILURE, Command, LBA_OUT_OF_RANGE, Opcode, READ_ERROR, SUCCESS, WRITE_FAULT,
+    block_len, connect_to, enable,
 };
 pub use driver::{Driver, SMALL};
 pub use plain::{fill, part, put};
 pub use script::{Script, holds_over};
+pub use transfer::{H2C_DATA_MAX, h2c_data};

@@ -1,5 +1,6 @@
 //! A target over disks of a test's own.
 use block_store::Disk;
+use nvt_config::Edit;
 use std::alloc::Global;
 use target_core::{Stepped, Target};
 use testkit_edits::{Line, edit};
@@ -20,12 +21,17 @@ impl<D: Disk + Drop> TestTarget<D> {
         }
     }
 
-    /// Whether this edit is accepted.
+    /// Whether the edit of this line is accepted.
     pub fn edits(&mut self, line: Line<'_>) -> bool {
         match edit(self.alloc, line) {
-            Ok(edit) => self.target.edit(&edit) == Ok(()),
+            Ok(edit) => self.makes(&edit),
             Err(_) => false,
         }
+    }
+
+    /// Whether this edit is accepted.
+    pub fn makes(&mut self, edit: &Edit) -> bool {
+        self.target.edit(edit) == Ok(())
     }
 
     /// Whether the connection that opens on port 1 is this one.

@@ -1,0 +1,189 @@
+//! Hosts that wait to be told of edits.
+use crate::capsules::{enable_events, event_request, log_page, log_read};
+use block_store::MemoryDisk;
+use nvt_config::Edit;
+use std::alloc::{AllocError, Global};
+use testkit_edits::{ic_req, memory_disks};
+use testkit_queues::{connect_to, enable};
+use testkit_targets::TestTarget;
+
+const DISKS: usize = 256;
+
+const UNITS: u64 = 64;
+
+const HEADER_LEN: usize = 24;
+
+// The event requests of a host that wait have the CIDs from this one on.
+const FIRST_REQUEST: u8 = 0x20;
+
+const REQUESTS: u8 = 4;
+
+const CHANGED_NAMESPACES: u8 = 0x04;
+
+const CHANGED_NAMESPACES_LEN: u16 = 4_096;
+
+const CHANGED_NAMESPACES_ANSWER: usize = 2 * HEADER_LEN + CHANGED_NAMESPACES_LEN as usize;
+
+const ANA: u8 = 0x0C;
+
+// As much as the page of 32 groups and 1,024 namespaces has.
+const ANA_LEN: u16 = 5_136;
+
+const ANA_ANSWER: usize = 2 * HEADER_LEN + ANA_LEN as usize;
+
+// What a host sends after an event.
+#[derive(Drop)]
+struct Capsules {
+    requests: Vec<Vec<u8>>,
+    changed_namespaces: Vec<u8>,
+    ana: Vec<u8>,
+}
+
+impl Capsules {
+    fn new(alloc: Global) -> Result<Capsules, AllocError> {
+        let mut requests = Vec::new(alloc);
+        for number in 0..REQUESTS {
+            requests.push(event_request(alloc, FIRST_REQUEST + number)?)?;
+        }
+        Ok(Capsules {
+            requests,
+            changed_namespaces: log_read(alloc, CHANGED_NAMESPACES, CHANGED_NAMESPACES_LEN)?,
+            ana: log_read(alloc, ANA, ANA_LEN)?,
+        })
+    }
+
+    // The read of a log page, and how many bytes it is answered.
+    fn read(&self, page: u8) -> Option<(&[u8], usize)> {
+        match page {
+            CHANGED_NAMESPACES => Some((&self.changed_namespaces, CHANGED_NAMESPACES_ANSWER)),
+            ANA => Some((&self.ana, ANA_ANSWER)),
+            _ => None,
+        }
+    }
+
+    // The event request of a CID.
+    fn request(&self, cid: u8) -> Option<&[u8]> {
+        match self
+            .requests
+            .get(usize::from(cid.wrapping_sub(FIRST_REQUEST)))
+        {
+            Some(request) => Some(request),
+            None => None,
+        }
+    }
+}
+
+/// A target over disks in memory, and hosts on it, each with the admin queue of an I/O controller on
+/// which four event requests wait.
+#[derive(Drop)]
+pub struct Hosts {
+    target: TestTarget<MemoryDisk>,
+    capsules: Capsules,
+    count: usize,
+}
+
+impl Hosts {
+    /// Makes the edits, and connects each host that one of them lets use the subsystem that the first
+    /// one adds; nothing where a call does not go as it has to.
+    pub fn connected(alloc: Global, edits: &[Edit]) -> Option<Hosts> {
+        let disks = memory_disks(alloc, &[UNITS; DISKS]).ok()?;
+        let capsules = Capsules::new(alloc).ok()?;
+        let target = TestTarget::over(alloc, disks)?;
+        let mut hosts = Hosts {
+            target,
+            capsules,
+            count: 0,
+        };
+        if hosts.begin(alloc, edits) {
+            Some(hosts)
+        } else {
+            None
+        }
+    }
+
+    fn begin(&mut self, alloc: Global, edits: &[Edit]) -> bool {
+        let Some(Edit::SubsystemAdd { nqn, .. }) = edits.first() else {
+            return false;
+        };
+        let mut begins = true;
+        for edit in edits {
+            begins &= self.target.makes(edit);
+        }
+        for edit in edits {
+            if let Edit::AllowAdd { subsystem, host } = edit
+                && subsystem == nqn
+            {
+                begins &= self.connects(alloc, subsystem.as_bytes(), host.as_bytes());
+            }
+        }
+        begins
+    }
+
+    // Connects a host, and leaves its event requests with the target.
+    fn connects(&mut self, alloc: Global, subsystem: &[u8], host: &[u8]) -> bool {
+        let k = self.count;
+        self.count = k.saturating_add(1);
+        let connects = self.target.opens(k)
+            && self.takes(k, ic_req(alloc))
+            && self.takes(k, connect_to(alloc, subsystem, host))
+            && self.takes(k, enable(alloc))
+            && self.takes(k, enable_events(alloc));
+        let mut waits = connects;
+        for request in &self.capsules.requests {
+            waits &= self.target.takes(k, request);
+        }
+        waits && self.target.sent(k).len() == 128 + 3 * HEADER_LEN && self.target.empties(k)
+    }
+
+    fn takes(&mut self, k: usize, pdu: Result<Vec<u8>, AllocError>) -> bool {
+        match pdu {
+            Ok(bytes) => self.target.takes(k, &bytes),
+            Err(AllocError) => false,
+        }
+    }
+
+    /// How many hosts there are.
+    pub fn count(&self) -> usize {
+        self.count
+    }
+
+    /// Whether an edit is accepted.
+    pub fn makes(&mut self, edit: &Edit) -> bool {
+        self.target.makes(edit)
+    }
+
+    /// Each host that was told reads the log page that it was told of, and sends an event request for
+    /// the one that was completed. How many did, where all was answered as it has to be.
+    pub fn read(&mut self) -> Option<usize> {
+        let mut told: usize = 0;
+        for k in 0..self.count {
+            if !self.target.sent(k).is_empty() {
+                if !self.reads(k) {
+                    return None;
+                }
+                told = told.saturating_add(1);
+            }
+        }
+        Some(told)
+    }
+
+    fn reads(&mut self, k: usize) -> bool {
+        let sent = self.target.sent(k);
+        let (Some(page), Some(cid)) = (log_page(sent), sent.get(20)) else {
+            return false;
+        };
+        let (Some((read, answer_len)), Some(request)) = (
+            self.capsules.read(page),
+            self.capsules.request(*cid),
+        ) else {
+            return false;
+        };
+        sent.len() == HEADER_LEN
+            && self.target.empties(k)
+            && self.target.takes(k, read)
+            && self.target.sent(k).len() == answer_len
+            && self.target.empties(k)
+            && self.target.takes(k, request)
+            && self.target.sent(k).is_empty()
+    }
+}
