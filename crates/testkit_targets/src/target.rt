@@ -36,12 +36,42 @@ impl<D: Disk + Drop> TestTarget<D> {
 
     /// Whether the connection that opens on port 1 is this one.
     pub fn opens(&mut self, k: usize) -> bool {
-        self.target.open(1) == Ok(k)
+        self.opens_on(1, k)
+    }
+
+    /// Whether the connection that opens on this port is this one.
+    pub fn opens_on(&mut self, port: u16, k: usize) -> bool {
+        self.target.open(port) == Ok(k)
+    }
+
+    // Whether all these bytes are received, and the step behind them comes to this.
+    fn steps(&mut self, k: usize, bytes: &[u8], stepped: Stepped) -> bool {
+        self.target.receive(k, bytes) == Ok(bytes.len()) && self.target.step(k) == Ok(stepped)
     }
 
     /// Whether a whole PDU is received, and stepped.
     pub fn takes(&mut self, k: usize, bytes: &[u8]) -> bool {
-        self.target.receive(k, bytes) == Ok(bytes.len()) && self.target.step(k) == Ok(Stepped::One)
+        self.steps(k, bytes, Stepped::One)
+    }
+
+    /// Whether a PDU is received that ends its connection.
+    pub fn ends_by(&mut self, k: usize, bytes: &[u8]) -> bool {
+        self.steps(k, bytes, Stepped::Ended)
+    }
+
+    /// Whether bytes are received that are no whole PDU.
+    pub fn waits_for_more(&mut self, k: usize, bytes: &[u8]) -> bool {
+        self.steps(k, bytes, Stepped::Idle)
+    }
+
+    /// Whether a connection is ended and not given up.
+    pub fn is_ended(&self, k: usize) -> bool {
+        self.target.ended(k)
+    }
+
+    /// Gives a connection up.
+    pub fn gives_up(&mut self, k: usize) {
+        self.target.end(k);
     }
 
     /// What was sent on a connection and is not taken away.
