@@ -28,13 +28,6 @@ impl Text {
         &self.bytes
     }
 
-    /// The bytes, handed back without taking memory.
-    pub fn into_vec(self) -> Vec<u8>
-        ensures { result.items ≡ self }
-    {
-        self.bytes
-    }
-
     /// Whether it is 1 byte to as many as `most`, each from 21h to 7Eh.
     pub fn is_word(&self, most: usize) -> bool
         ensures { result ≡ is_word most self.now }

@@ -4,7 +4,9 @@
 #![tactic(auto)]
 
 pub mod check;
+pub mod disks;
 pub mod laws;
 pub mod lists;
 
+pub use disks::{DISK_UNITS_MAX, DISKS_MAX, are_disks};
 pub use lists::Lists;

@@ -1,8 +1,7 @@
 //! The configuration, and the edits applied to it.
-ghost use Rattle.std.specs.Prelude.{◌≡◌, ◌==◌, ◌^◌, IfErr, IfOk, IsOk, IsOkUnless, OnErr, OnOk};
-ghost use Rattle.std.specs.Prelude.{find, nat_le};
+ghost use Rattle.std.specs.Prelude.{◌≡◌, ◌==◌, IfErr, IfOk, IsOk, IsOkUnless, OnErr, OnOk};
+ghost use Rattle.std.specs.Prelude.{find};
 ghost use Rattle.std.specs.Bool.{OnFalse, OnTrue};
-ghost use Rattle.std.specs.List.{list_all};
 ghost use Rattle.std.specs.Option.{option_copied};
 ghost use Rattle.std.specs.Str.{bytes_eq};
 ghost use Rattle.config_rules.specs.Accept.{accept, verdict};
@@ -24,13 +23,9 @@ use config_lists::link::Link;
 use config_lists::namespace::{Namespace, Setting};
 use config_lists::port::Port;
 use config_lists::subsystem::Subsystem;
-use config_rules::Lists;
+use config_rules::{Lists, are_disks};
 use std::alloc::{AllocError, Global};
 use std::marker::Model;
-
-const DISKS_MAX: usize = 256;
-
-const DISK_UNITS_MAX: u64 = 1 << 40;
 
 /// The disks' sizes in units of 512 bytes, and the lists, each in the order in which its items were
 /// added. There are at most 256 disks of at most 2^40 units, 32 subsystems, 16 ports, 256 hosts, those
@@ -353,16 +348,4 @@ fn find_subsystem<'a>(subsystems: &'a [Subsystem], nqn: &[u8]) -> Option<&'a Sub
     subsystems
         .iter()
         .find(|subsystem| subsystem.nqn.as_bytes() == nqn)
-}
-
-fn are_disks(units: &[u64]) -> bool
-    ensures { result ≡ are_disks units.now }
-{
-    units.len() <= DISKS_MAX && are_disk_sizes(units)
-}
-
-fn are_disk_sizes(units: &[u64]) -> bool
-    ensures { result ≡ list_all (λ n. nat_le n (2 ^ 40)) units.now }
-{
-    units.iter().all(|n| *n <= DISK_UNITS_MAX)
 }

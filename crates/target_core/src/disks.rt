@@ -5,13 +5,8 @@ ghost use Rattle.block_store.specs.Stored.{Stored};
 ghost use Rattle.config_rules.specs.Configuration.{are_disks};
 
 use block_store::{Disk, Store};
+use config_rules::{DISK_UNITS_MAX, DISKS_MAX};
 use std::alloc::{AllocError, Global};
-
-/// The most disks.
-const DISKS_MAX: usize = 256;
-
-/// The most units of a disk, of 512 bytes each.
-const DISK_UNITS_MAX: u64 = 1 << 40;
 
 /// Whether a target may have these disks.
 pub(crate) fn are_disks<D: Disk>(disks: &[D]) -> bool

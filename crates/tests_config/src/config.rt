@@ -182,15 +182,15 @@ fn finds_items_by_name(rt: HostRuntime) -> Outcome {
     holds(rt.alloc(), Script::Names)
 }
 
-fn check_handed_back(alloc: Global, bytes: &[u8]) -> Outcome {
+fn check_copied(alloc: Global, bytes: &[u8]) -> Outcome {
     let text = Text::from(Vec::from_slice(alloc, bytes)?);
-    let copy = text.clone()?.into_vec();
-    check_bytes(&copy, bytes)
+    let copy = text.clone()?;
+    check_bytes(copy.as_bytes(), bytes)
 }
 
 #[test]
-fn hands_a_text_back(rt: HostRuntime) -> Outcome {
-    check_handed_back(rt.alloc(), b"a b")
+fn copies_a_text(rt: HostRuntime) -> Outcome {
+    check_copied(rt.alloc(), b"a b")
 }
 
 // How many disks a configuration of these sizes has.

@@ -69,8 +69,8 @@ fn is_subsystem_copied(subsystem: &Subsystem) -> Result<bool, AllocError> {
 }
 
 fn is_text_copied(text: &Text, bytes: &[u8]) -> Result<bool, AllocError> {
-    let copy = text.clone()?.into_vec();
-    Ok(copy.as_slice() == bytes)
+    let copy = text.clone()?;
+    Ok(copy.as_bytes() == bytes)
 }
 
 fn is_port_copied(port: &Port) -> Result<bool, AllocError> {
