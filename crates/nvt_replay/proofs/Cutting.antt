@@ -19,8 +19,8 @@ use Rattle.replay_lines.specs.Printed.{edit_made_line, event_line, output_lines,
 use Rattle.replay_lines.specs.StreamLine.{Says}
 use Rattle.replay_lines.specs.Writing.{AppendsFront}
 use Rattle.replay_lines.proofs.Fronts.{begins_left, front_behind, front_left}
-use Rattle.nvt_replay.specs.CutOff.{EditsInPart, EndsInPart, HandsOutInPart, IsCutOff, OpensInPart, PlaysInPart, ReceivesInPart, SettlesInPart, TicksInPart}
-use Rattle.nvt_replay.specs.Played.{ArePrinted, PlaysAll, PlaysOpen, Prints, Receives, Settles, StepBelow, connection_lines, lines_below, number_taken}
+use Rattle.nvt_replay.specs.CutOff.{EditsInPart, EndsInPart, HandsOutInPart, IsCutOff, OpensInPart, PlaysInPart, ReceivesInPart, DrainsInPart, TicksInPart}
+use Rattle.nvt_replay.specs.Played.{ArePrinted, PlaysAll, PlaysOpen, Prints, Receives, Drains, StepBelow, connection_lines, lines_below, number_taken}
 use Rattle.nvt_replay.specs.Replies.{MakesLine, Refuses}
 use Rattle.nvt_replay.proofs.Prints.{lines_are, lines_below-more, not_yet}
 
@@ -47,7 +47,7 @@ closing_begun k o a b c output is ended printed part =
     subst (AppendsFront a c) (sym (lines_with k o output is ∙ ap (λ e. output_lines k output ++ closing k e) ended))
     (front_behind a b c (output_lines k output) (event_line k (codes "closed")) printed part)
 
--- ---- a settling
+-- ---- a draining
 
 one_more : (k : ℕ) (t : TargetState) → lines_below (suc k) t ≡ lines_below k t ++ connection_lines k (place t.connections k)
 unfolding lines_below
@@ -64,14 +64,14 @@ lines_begin (suc m) n t front few begins =
     ]
 
 -- without memory for the steps nothing is printed
-pub stepping_cut : (old : TargetState) (a : Option (List ℕ)) → Prints a a (λ text. SettlesInPart old text)
+pub stepping_cut : (old : TargetState) (a : Option (List ℕ)) → Prints a a (λ text. DrainsInPart old text)
 stepping_cut old a = ([], Appends-nil a, inl refl)
 
 -- of the lines of connection k a beginning is printed, behind those below it
-pub settling_cut : (k : ℕ) (old idle mid : TargetState) (a b c : Option (List ℕ)) → k < 64 → StepBelow connections_max old idle
+pub draining_cut : (k : ℕ) (old idle mid : TargetState) (a b c : Option (List ℕ)) → k < 64 → StepBelow connections_max old idle
     → ArePrinted (λ j. nat_lt j k) idle mid → Appends a b (lines_below k idle)
-    → AppendsFront b c (connection_lines k (place mid.connections k)) → Prints a c (λ text. SettlesInPart old text)
-settling_cut k old idle mid a b c known steps first before here =
+    → AppendsFront b c (connection_lines k (place mid.connections k)) → Prints a c (λ text. DrainsInPart old text)
+draining_cut k old idle mid a b c known steps first before here =
     let own : AppendsFront b c (connection_lines k (place idle.connections k)) =
     subst (λ (o : Option KnownConnection). AppendsFront b c (connection_lines k o)) (not_yet k idle mid first) here in
     let part : AppendsFront a c (lines_below (k + 1) idle) =
@@ -81,25 +81,25 @@ settling_cut k old idle mid a b c known steps first before here =
 
 -- ---- the bytes of an `rx`
 
--- the settling after a piece is cut off
+-- the draining after a piece is cut off
 pub piece_cut : (k len : ℕ) (bytes text : List ℕ) (old mid : TargetState) → len ≡ number_taken k bytes old → 0 < len
-    → Receives k (take len bytes) old mid → SettlesInPart mid text → HandsOutInPart 0 k bytes old text
-piece_cut k len bytes text old mid is some received settles =
-    (mid, subst (λ m. 0 < m) is some, subst (λ m. Receives k (take m bytes) old mid) is received, settles)
+    → Receives k (take len bytes) old mid → DrainsInPart mid text → HandsOutInPart 0 k bytes old text
+piece_cut k len bytes text old mid is some received drains =
+    (mid, subst (λ m. 0 < m) is some, subst (λ m. Receives k (take m bytes) old mid) is received, drains)
 
 -- a piece, what is printed of it, and what is printed of the rest
-pub piece_before : (k n len : ℕ) (bytes rest : List ℕ) (old mid settled : TargetState) (first text : List ℕ) → len ≡ number_taken k bytes old → 0 < len
-    → Receives k (take len bytes) old mid → Settles mid first settled → rest ≡ drop len bytes → HandsOutInPart n k rest settled text
+pub piece_before : (k n len : ℕ) (bytes rest : List ℕ) (old mid drained : TargetState) (first text : List ℕ) → len ≡ number_taken k bytes old → 0 < len
+    → Receives k (take len bytes) old mid → Drains mid first drained → rest ≡ drop len bytes → HandsOutInPart n k rest drained text
     → HandsOutInPart (suc n) k bytes old (first ++ text)
-piece_before k n len bytes rest old mid settled first text is some received settles after more = (
+piece_before k n len bytes rest old mid drained first text is some received drains after more = (
   mid,
-  settled,
+  drained,
   first,
   text,
   subst (λ m. 0 < m) is some,
   subst (λ m. Receives k (take m bytes) old mid) is received,
-  settles,
-  subst (λ r. HandsOutInPart n k r settled text) (after ∙ ap (λ m. drop m bytes) is) more,
+  drains,
+  subst (λ r. HandsOutInPart n k r drained text) (after ∙ ap (λ m. drop m bytes) is) more,
   refl,
 )
 
@@ -162,7 +162,7 @@ handing_cut (Err fault) k hex bytes old new a b is decoded part =
 pub ending_cut : {E : Type 0} (r : Result (Unit {0}) E) (k : ℕ) (old mid new : TargetState) (a b : Option (List ℕ))
     → is_some (place old.connections k) ≡ true
     → MatchOption (place old.connections k) (mid ≡ old) (λ c. Transition (given_up k) old mid)
-    → OnErr r (Prints a b (λ text. SettlesInPart mid text)) → OnErr r (Prints a b (λ text. EndsInPart k old text new))
+    → OnErr r (Prints a b (λ text. DrainsInPart mid text)) → OnErr r (Prints a b (λ text. EndsInPart k old text new))
 ending_cut (Ok done) k old mid new a b is ends part = tt
 ending_cut (Err fault) k old mid new a b is ends part = (
   part.0,
@@ -172,7 +172,7 @@ ending_cut (Err fault) k old mid new a b is ends part = (
 )
 
 pub ticking_cut : {E : Type 0} (r : Result (Unit {0}) E) (ms : ℕ) (old mid : TargetState) (a b : Option (List ℕ)) → Transition (ticked ms) old mid
-    → OnErr r (Prints a b (λ text. SettlesInPart mid text)) → OnErr r (Prints a b (λ text. TicksInPart ms old text))
+    → OnErr r (Prints a b (λ text. DrainsInPart mid text)) → OnErr r (Prints a b (λ text. TicksInPart ms old text))
 ticking_cut (Ok done) ms old mid a b transition part = tt
 ticking_cut (Err fault) ms old mid a b transition part = (part.0, part.1, (mid, transition, part.2))
 
@@ -183,7 +183,7 @@ replying_cut line old new a b makes part = (part.0, part.1, inr (inl (new, makes
 
 -- what an edit that is made makes the target send
 pub editing_cut : {E : Type 0} (r : Result (Unit {0}) E) (line : List ℕ) (old mid new : TargetState) (a b c : Option (List ℕ)) → MakesLine line old mid
-    → Appends a b edit_made_line → OnErr r (Prints b c (λ text. SettlesInPart mid text))
+    → Appends a b edit_made_line → OnErr r (Prints b c (λ text. DrainsInPart mid text))
     → OnErr r (Prints a c (λ text. EditsInPart line old text new))
 editing_cut (Ok done) line old mid new a b c makes made part = tt
 editing_cut (Err fault) line old mid new a b c makes made part = (

@@ -4,7 +4,7 @@ use Rattle.number_table.specs.Table.{place}
 use Rattle.number_table.proofs.Tables.{with_value_same}
 use Rattle.target_core.specs.Connection.{KnownConnection}
 use Rattle.target_core.specs.Target.{TargetState, with_stream}
-use Rattle.nvt_replay.specs.Played.{HandsOut, Receives, Settles, given, number_taken}
+use Rattle.nvt_replay.specs.Played.{HandsOut, Receives, Drains, given, number_taken}
 
 given_nothing : (k : ℕ) (s : Option (List ℕ)) (o : Option KnownConnection) (t : TargetState) → place t.streams k ≡ s → given k s o [] t ≡ t
 given_nothing k None o t known = refl
@@ -25,17 +25,17 @@ none_taken k n bytes old new is none received =
     )
 
 -- a piece, what is printed of it, and what the rest prints
-pub piece_more : (k n len : ℕ) (bytes rest : List ℕ) (old mid settled last : TargetState) (first text : List ℕ) → len ≡ number_taken k bytes old → 0 < len
-    → Receives k (take len bytes) old mid → Settles mid first settled → rest ≡ drop len bytes → HandsOut n k rest settled text last
+pub piece_more : (k n len : ℕ) (bytes rest : List ℕ) (old mid drained last : TargetState) (first text : List ℕ) → len ≡ number_taken k bytes old → 0 < len
+    → Receives k (take len bytes) old mid → Drains mid first drained → rest ≡ drop len bytes → HandsOut n k rest drained text last
     → HandsOut (suc n) k bytes old (first ++ text) last
-piece_more k n len bytes rest old mid settled last first text is some received settles after more = (
+piece_more k n len bytes rest old mid drained last first text is some received drains after more = (
   mid,
-  settled,
+  drained,
   first,
   text,
   subst (λ m. 0 < m) is some,
   subst (λ m. Receives k (take m bytes) old mid) is received,
-  settles,
-  subst (λ r. HandsOut n k r settled text last) (after ∙ ap (λ m. drop m bytes) is) more,
+  drains,
+  subst (λ r. HandsOut n k r drained text last) (after ∙ ap (λ m. drop m bytes) is) more,
   refl,
 )

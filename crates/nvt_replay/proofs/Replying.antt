@@ -10,7 +10,7 @@ use Rattle.line_words.specs.declared.fault.LineFaultKind.TheVariants.{TooLong, E
 use Rattle.line_words.specs.Fault.{memory_fault}
 use Rattle.line_words.specs.Words.{line_fault}
 use Rattle.target_core.specs.Target.{TargetState}
-use Rattle.nvt_replay.specs.Played.{PlaysEdit, Prints, Settles}
+use Rattle.nvt_replay.specs.Played.{PlaysEdit, Prints, Drains}
 use Rattle.replay_lines.specs.declared.reply.Reply.{Reply}
 use Rattle.replay_lines.specs.Printed.{edit_made_line, reply_line}
 use Rattle.nvt_replay.specs.Replies.{IsRefused, MakesLine, Refuses, not_read, not_read_by}
@@ -42,12 +42,12 @@ pub refused_by : (c : Configuration) (line : List ℕ) (fault : LineFault)
     → MatchOption (line_fault line) (IsOkUnless (failed fault) memory_fault) (λ f. failed fault ≡ Err f) → IsRefused c line (not_read fault)
 refused_by c line fault told = by_fault c line fault (line_fault line) refl told
 
--- an edit that is made prints that it is, and then what the settling target prints
-pub made_and_settled : {E : Type 0} (r : Result (Unit {0}) E) (line : List ℕ) (old mid new : TargetState) (a b c : Option (List ℕ)) → MakesLine line old mid → Appends a b edit_made_line
-    → OnOk r (Prints b c (λ text. Settles mid text new)) → OnOk r (Prints a c (λ text. PlaysEdit line old text new))
-made_and_settled (Ok done) line old mid new a b c makes made settled =
-    (edit_made_line ++ settled.0, Appends-trans a b c edit_made_line settled.0 made settled.1, inl (mid, makes, settled.0, settled.2, refl))
-made_and_settled (Err fault) line old mid new a b c makes made settled = tt
+-- an edit that is made prints that it is, and then what the draining target prints
+pub made_and_drained : {E : Type 0} (r : Result (Unit {0}) E) (line : List ℕ) (old mid new : TargetState) (a b c : Option (List ℕ)) → MakesLine line old mid → Appends a b edit_made_line
+    → OnOk r (Prints b c (λ text. Drains mid text new)) → OnOk r (Prints a c (λ text. PlaysEdit line old text new))
+made_and_drained (Ok done) line old mid new a b c makes made drained =
+    (edit_made_line ++ drained.0, Appends-trans a b c edit_made_line drained.0 made drained.1, inl (mid, makes, drained.0, drained.2, refl))
+made_and_drained (Err fault) line old mid new a b c makes made drained = tt
 
 -- an edit that is refused prints the reply
 pub refused_and_told : {E : Type 0} (r : Result (Unit {0}) E) (line : List ℕ) (old new : TargetState) (reply : Reply) (a b : Option (List ℕ)) → Refuses old.config line reply → new ≡ old

@@ -13,30 +13,30 @@ use Rattle.replay_lines.specs.declared.stream_line.StreamLine.{StreamLine}
 use Rattle.replay_lines.specs.declared.stream_line.StreamLine.TheVariants as line
 use Rattle.replay_lines.specs.Printed.{edit_made_line, event_line, reply_line}
 use Rattle.replay_lines.specs.StreamLine.{Says}
-use Rattle.nvt_replay.specs.Played.{PlaysAll, PlaysOpen, Prints, Receives, Settles, StepBelow, lines_below, number_taken}
+use Rattle.nvt_replay.specs.Played.{PlaysAll, PlaysOpen, Prints, Receives, Drains, StepBelow, lines_below, number_taken}
 use Rattle.nvt_replay.specs.Replies.{MakesLine, Refuses}
 
 -- nothing is printed, and nothing changed
 abbrev pub IsUntouched : TargetState → List ℕ → TargetState → Type 0
 IsUntouched old printed new = (printed ≡ []) × (new ≡ old)
 
--- The target settles in part: nothing is printed while the connections step, and then a beginning of the lines of
+-- The target drains in part: nothing is printed while the connections step, and then a beginning of the lines of
 -- all.
-abbrev pub SettlesInPart : TargetState → List ℕ → Type 0
-SettlesInPart old printed =
+abbrev pub DrainsInPart : TargetState → List ℕ → Type 0
+DrainsInPart old printed =
     (printed ≡ [])
     ⊎ ((idle : TargetState) × StepBelow connections_max old idle × StartsWith (lines_below connections_max idle) printed)
 
--- connection k receives n pieces, after each of which the target settles, and one more, after which it settles in
+-- connection k receives n pieces, after each of which the target drains, and one more, after which it drains in
 -- part
 abbrev pub HandsOutInPart : ℕ → ℕ → List ℕ → TargetState → List ℕ → Type 0
 HandsOutInPart zero k bytes old printed =
     (mid : TargetState) × (0 < number_taken k bytes old) × Receives k (take (number_taken k bytes old) bytes) old mid
-    × SettlesInPart mid printed
+    × DrainsInPart mid printed
 HandsOutInPart (suc n) k bytes old printed =
-    (mid : TargetState) × (settled : TargetState) × (first : List ℕ) × (rest : List ℕ)
+    (mid : TargetState) × (drained : TargetState) × (first : List ℕ) × (rest : List ℕ)
     × (0 < number_taken k bytes old) × Receives k (take (number_taken k bytes old) bytes) old mid
-    × Settles mid first settled × HandsOutInPart n k (drop (number_taken k bytes old) bytes) settled rest
+    × Drains mid first drained × HandsOutInPart n k (drop (number_taken k bytes old) bytes) drained rest
     × (printed ≡ first ++ rest)
 
 -- a beginning of the line of a connection that is not open
@@ -54,20 +54,20 @@ ReceivesInPart k hex old printed new = MatchOption (place old.connections k) (Pr
     (λ c. IsUntouched old printed new
     ⊎ ((bytes : List ℕ) × (decode_of hex ≡ Ok bytes) × (n : ℕ) × HandsOutInPart n k bytes old printed))
 
--- `end K`: the connection is given up, and the target settles in part
+-- `end K`: the connection is given up, and the target drains in part
 abbrev pub EndsInPart : ℕ → TargetState → List ℕ → TargetState → Type 0
 EndsInPart k old printed new = MatchOption (place old.connections k) (PrintsNoneInPart k old printed new)
-    (λ c. (mid : TargetState) × Transition (given_up k) old mid × SettlesInPart mid printed)
+    (λ c. (mid : TargetState) × Transition (given_up k) old mid × DrainsInPart mid printed)
 
--- `tick MS`: the clock is set, and the target settles in part
+-- `tick MS`: the clock is set, and the target drains in part
 abbrev pub TicksInPart : ℕ → TargetState → List ℕ → Type 0
-TicksInPart ms old printed = (mid : TargetState) × Transition (ticked ms) old mid × SettlesInPart mid printed
+TicksInPart ms old printed = (mid : TargetState) × Transition (ticked ms) old mid × DrainsInPart mid printed
 
--- an edit that is made: a beginning of its reply, or the reply and what the target prints that settles in part
+-- an edit that is made: a beginning of its reply, or the reply and what the target prints that drains in part
 abbrev pub MadeInPart : TargetState → List ℕ → TargetState → Type 0
 MadeInPart mid printed new =
     (StartsWith edit_made_line printed × (new ≡ mid))
-    ⊎ ((rest : List ℕ) × SettlesInPart mid rest × (printed ≡ edit_made_line ++ rest))
+    ⊎ ((rest : List ℕ) × DrainsInPart mid rest × (printed ≡ edit_made_line ++ rest))
 
 -- `edit LINE`: nothing, or a beginning of what it prints once it is made or refused
 abbrev pub EditsInPart : List ℕ → TargetState → List ℕ → TargetState → Type 0

@@ -119,7 +119,7 @@ pub record ArePrinted (these : ℕ → Bool) (old new : TargetState) : Type 0 wh
   pub blocks : (d : ℕ) → contents_at new.disks d ≡ contents_at old.disks d
 
 -- all connections step until they are idle, and then the lines of all are printed
-pub record Settles (old : TargetState) (printed : List ℕ) (new : TargetState) : Type 0 where
+pub record Drains (old : TargetState) (printed : List ℕ) (new : TargetState) : Type 0 where
   pub idle : TargetState
   pub steps : StepBelow connections_max old idle
   pub prints : printed ≡ lines_below connections_max idle
@@ -128,13 +128,13 @@ pub record Settles (old : TargetState) (printed : List ℕ) (new : TargetState) 
 -- ---- the lines of a script
 
 -- Connection k receives these bytes in n pieces, of which each is as long as there is room for, and after each
--- the target settles. No bytes are left then, or no room, as where the connection has ended.
+-- the target drains. No bytes are left then, or no room, as where the connection has ended.
 abbrev pub HandsOut : ℕ → ℕ → List ℕ → TargetState → List ℕ → TargetState → Type 0
 HandsOut zero k bytes old printed new = (number_taken k bytes old ≡ 0) × (printed ≡ []) × (new ≡ old)
 HandsOut (suc n) k bytes old printed new =
-    (mid : TargetState) × (settled : TargetState) × (first : List ℕ) × (rest : List ℕ)
+    (mid : TargetState) × (drained : TargetState) × (first : List ℕ) × (rest : List ℕ)
     × (0 < number_taken k bytes old) × Receives k (take (number_taken k bytes old) bytes) old mid
-    × Settles mid first settled × HandsOut n k (drop (number_taken k bytes old) bytes) settled rest new
+    × Drains mid first drained × HandsOut n k (drop (number_taken k bytes old) bytes) drained rest new
     × (printed ≡ first ++ rest)
 
 -- a line of a connection that is not open
@@ -156,20 +156,20 @@ abbrev pub PlaysReceive : ℕ → List ℕ → TargetState → List ℕ → Targ
 PlaysReceive k hex old printed new = MatchOption (place old.connections k) (PrintsNone k old printed new)
     (λ c. (bytes : List ℕ) × (decode_of hex ≡ Ok bytes) × (n : ℕ) × HandsOut n k bytes old printed new)
 
--- `end K`: the connection is given up, and the target settles; K is not open then, so nothing is printed of it
+-- `end K`: the connection is given up, and the target drains; K is not open then, so nothing is printed of it
 abbrev pub PlaysEnd : ℕ → TargetState → List ℕ → TargetState → Type 0
 PlaysEnd k old printed new = MatchOption (place old.connections k) (PrintsNone k old printed new)
-    (λ c. (mid : TargetState) × Transition (given_up k) old mid × Settles mid printed new)
+    (λ c. (mid : TargetState) × Transition (given_up k) old mid × Drains mid printed new)
 
--- `tick MS`: the clock is set, and the target settles
+-- `tick MS`: the clock is set, and the target drains
 abbrev pub PlaysTick : ℕ → TargetState → List ℕ → TargetState → Type 0
-PlaysTick ms old printed new = (mid : TargetState) × Transition (ticked ms) old mid × Settles mid printed new
+PlaysTick ms old printed new = (mid : TargetState) × Transition (ticked ms) old mid × Drains mid printed new
 
--- `edit LINE`: the edit is made and the target settles, or it is refused
+-- `edit LINE`: the edit is made and the target drains, or it is refused
 abbrev pub PlaysEdit : List ℕ → TargetState → List ℕ → TargetState → Type 0
 PlaysEdit text old printed new =
     ((mid : TargetState) × MakesLine text old mid
-    × (rest : List ℕ) × Settles mid rest new × (printed ≡ edit_made_line ++ rest))
+    × (rest : List ℕ) × Drains mid rest new × (printed ≡ edit_made_line ++ rest))
     ⊎ ((reply : Reply) × Refuses old.config text reply × (printed ≡ reply_line reply) × (new ≡ old))
 
 abbrev pub Plays : StreamLine → TargetState → List ℕ → TargetState → Type 0

@@ -11,7 +11,7 @@ ghost use Rattle.line_words.specs.Lines.{lines_of};
 ghost use Rattle.number_table.specs.Table.{place};
 ghost use Rattle.target_core.specs.Target.{IsNewTarget, TargetState};
 ghost use Rattle.nvt_replay.specs.CutOff.{EditsInPart, EndsInPart, HandsOutInPart, OpensInPart};
-ghost use Rattle.nvt_replay.specs.CutOff.{PlaysInPart, ReceivesInPart, SettlesInPart, TicksInPart};
+ghost use Rattle.nvt_replay.specs.CutOff.{PlaysInPart, ReceivesInPart, DrainsInPart, TicksInPart};
 ghost use Rattle.nvt_replay.specs.Replay.{AcceptsAll, Configures, EndsScript, Explains};
 ghost use Rattle.nvt_replay.specs.Replay.{EndsAtLine, IsBeforeScript, IsConfigured, LeavesLine};
 ghost use Rattle.nvt_replay.specs.Replay.{TransitionByLine, TransitionsByLines, PlaysBefore};
@@ -19,7 +19,7 @@ ghost use Rattle.nvt_replay.specs.Replay.{Replays, ReplaysBefore};
 ghost use Rattle.nvt_replay.specs.Replay.{RefusesDisks, RefusesEdits, RefusesLines, TakesLine, zeroed};
 ghost use Rattle.nvt_replay.specs.Played.{ArePrinted, HandsOut, Plays, PlaysAll, PlaysLine};
 ghost use Rattle.nvt_replay.specs.Played.{PlaysEdit, PlaysEnd, PlaysOpen, PlaysReceive, Prints};
-ghost use Rattle.nvt_replay.specs.Played.{PlaysTick, Settles};
+ghost use Rattle.nvt_replay.specs.Played.{PlaysTick, Drains};
 ghost use Rattle.nvt_replay.specs.Played.{connection_lines, refused_line};
 ghost use Rattle.replay_lines.specs.Fault.{EndsRun};
 ghost use Rattle.replay_lines.specs.StreamLine.{HasHex, IsHex, IsStreamLine};
@@ -227,7 +227,7 @@ impl Playback {
         match self.connections.edit(*self.bytes.allocator(), line) {
             Ok(()) => {
                 self.printer.edit_made(out)?;
-                settle(&mut self.connections, &mut self.printer, out)
+                drain(&mut self.connections, &mut self.printer, out)
             }
             Err(NotMade::Memory) => Err(ReplayFault::Memory),
             Err(NotMade::Refused(reply)) => self.printer.refused_edit(out, reply),
@@ -288,7 +288,7 @@ impl Playback {
             return self.printer.event(out, connection, "none");
         }
         self.connections.end(k);
-        settle(&mut self.connections, &mut self.printer, out)
+        drain(&mut self.connections, &mut self.printer, out)
     }
 
     fn tick<W: Write>(&mut self, ms: u64, out: &mut W) -> Result<(), ReplayFault>
@@ -299,7 +299,7 @@ impl Playback {
             (λ text. TicksInPart ms self.old.connections text)) }
     {
         self.connections.tick(ms);
-        settle(&mut self.connections, &mut self.printer, out)
+        drain(&mut self.connections, &mut self.printer, out)
     }
 }
 
@@ -340,21 +340,21 @@ fn hand_out<W: Write>(
             return Ok(());
         }
         rest = &rest[len..];
-        settle(connections, printer, out)?;
+        drain(connections, printer, out)?;
     }
 }
 
 // Lets all connections step until they are idle, and prints what they owe and which have ended.
-fn settle<W: Write>(
+fn drain<W: Write>(
     connections: &mut Connections,
     printer: &mut Printer,
     out: &mut W,
 ) -> Result<(), ReplayFault>
     ensures fault { IfErr result (EndsRun printer.new.writes.has_failed) }
-    ensures settled { OnOk result (Prints (W.contents out.old) (W.contents out.new)
-        (λ text. Settles connections.old text connections.new)) }
+    ensures drained { OnOk result (Prints (W.contents out.old) (W.contents out.new)
+        (λ text. Drains connections.old text connections.new)) }
     ensures begun { OnErr result (Prints (W.contents out.old) (W.contents out.new)
-        (λ text. SettlesInPart connections.old text)) }
+        (λ text. DrainsInPart connections.old text)) }
 {
     connections.step()?;
     for k in 0..CONNECTIONS {

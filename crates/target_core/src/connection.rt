@@ -24,7 +24,7 @@ use pdu_cut::Cut;
 use std::alloc::{AllocError, Global};
 use std::marker::Model;
 use target_decision::{
-    ConnectionState, Decision, Role, Session, WaitingCommand, World, perform, prepare,
+    ConnectionState, Decision, Role, Session, WaitingCommand, World, fulfil, prepare,
 };
 use target_history::EndCause;
 
@@ -120,7 +120,7 @@ impl Connection {
             decision,
             front,
         )?;
-        perform(
+        fulfil(
             world,
             stores,
             &mut self.state,

@@ -1,4 +1,3 @@
-pub mod Act
 pub mod Alignment
 pub mod Begin
 pub mod Capsule
@@ -8,6 +7,7 @@ pub mod Consequence
 pub mod Controller
 pub mod Data
 pub mod Decision
+pub mod Fulfil
 pub mod Notice
 pub mod Outcome
 pub mod Queue

@@ -2,11 +2,10 @@
 //! stream, and at what a decision may look at beside it, and answers a value: a reply with what
 //! follows from it, a wish for its data, or the connection's end. `new_row` makes what other connections will
 //! see of a controller that this begins. `prepare` makes room for all that it sends, and carries on the
-//! transfer that it is about; `perform` then does the operation, writes what is sent, and moves the session.
+//! transfer that it is about; `fulfil` then does the operation, writes what is sent, and moves the session.
 //! Nothing here keeps anything.
 #![tactic(auto)]
 
-mod act;
 mod admin;
 mod alignment;
 mod capsule;
@@ -17,6 +16,7 @@ mod controller;
 mod data;
 mod decision;
 mod fabrics;
+mod fulfil;
 mod io;
 mod notice;
 mod queue;
@@ -27,12 +27,12 @@ mod transfer;
 mod wire;
 mod world;
 
-pub use act::{consumed_of, new_row, perform, prepare};
 pub use alignment::Alignment;
 pub use carry::Carried;
 pub use consequence::{Beginning, ConfigurationSet, Consequence, Joining, Update};
 pub use controller::Controller;
 pub use decision::{Answer, DataRequest, Decision, Given, Reply, Termination, decide};
+pub use fulfil::{consumed_of, fulfil, new_row, prepare};
 pub use queue::Queue;
 pub use session::{ConnectionState, Role, Session};
 pub use tell::TOLD_ROOM;

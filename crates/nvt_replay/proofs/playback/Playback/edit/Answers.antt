@@ -1,13 +1,13 @@
 use Rattle.std.proofs.lemmas.Result.{err_from_is_err_and}
 use Rattle.nvt_replay.proofs.Cutting.{editing_cut, refusing_cut, replying_cut}
-use Rattle.nvt_replay.proofs.Replying.{made_and_settled, refused_and_told}
+use Rattle.nvt_replay.proofs.Replying.{made_and_drained, refused_and_told}
 use Rattle.nvt_replay.proofs.playback.Playback.edit.Goals as goal
 
 pub returns-in_ok-edit_made-in-Ok-clause-played : goal.returns-in_ok-edit_made-in-Ok-clause-played
 returns-in_ok-edit_made-in-Ok-clause-played g c =
-    made_and_settled c.settle.result c.args.line.now c.args.self.now.connections c.edit.new.self c.settle.new.connections
-    (g.W.Write.contents c.args.out.now) (g.W.Write.contents c.edit_made.new.out) (g.W.Write.contents c.settle.new.out)
-    c.in-Ok.ensures.made c.in_ok-edit_made-in-Ok.ensures.printed c.settle.ensures.settled
+    made_and_drained c.drain.result c.args.line.now c.args.self.now.connections c.edit.new.self c.drain.new.connections
+    (g.W.Write.contents c.args.out.now) (g.W.Write.contents c.edit_made.new.out) (g.W.Write.contents c.drain.new.out)
+    c.in-Ok.ensures.made c.in_ok-edit_made-in-Ok.ensures.printed c.drain.ensures.drained
 
 pub returns-in-Err-Refused-clause-played : goal.returns-in-Err-Refused-clause-played
 returns-in-Err-Refused-clause-played g c =
@@ -23,9 +23,9 @@ returns-in_err-edit_made-in-Ok-clause-begun g c =
 
 pub returns-in_ok-edit_made-in-Ok-clause-begun : goal.returns-in_ok-edit_made-in-Ok-clause-begun
 returns-in_ok-edit_made-in-Ok-clause-begun g c =
-    editing_cut c.settle.result c.args.line.now c.args.self.now.connections c.edit.new.self c.settle.new.connections
-    (g.W.Write.contents c.args.out.now) (g.W.Write.contents c.edit_made.new.out) (g.W.Write.contents c.settle.new.out)
-    c.in-Ok.ensures.made c.in_ok-edit_made-in-Ok.ensures.printed c.settle.ensures.begun
+    editing_cut c.drain.result c.args.line.now c.args.self.now.connections c.edit.new.self c.drain.new.connections
+    (g.W.Write.contents c.args.out.now) (g.W.Write.contents c.edit_made.new.out) (g.W.Write.contents c.drain.new.out)
+    c.in-Ok.ensures.made c.in_ok-edit_made-in-Ok.ensures.printed c.drain.ensures.begun
 
 pub returns-in-Err-Refused-clause-begun : goal.returns-in-Err-Refused-clause-begun
 returns-in-Err-Refused-clause-begun g c =

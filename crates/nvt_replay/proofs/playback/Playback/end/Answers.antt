@@ -9,5 +9,5 @@ returns-then-not-is_open-clause-begun g c =
 
 pub returns-clause-begun : goal.returns-clause-begun
 returns-clause-begun g c =
-    ending_cut c.settle.result c.args.connection c.args.self.now.connections c.end.new.self c.settle.new.connections
-    (g.W.Write.contents c.args.out.now) (g.W.Write.contents c.settle.new.out) (sym c.if-not-is_open.ensures) c.end.ensures c.settle.ensures.begun
+    ending_cut c.drain.result c.args.connection c.args.self.now.connections c.end.new.self c.drain.new.connections
+    (g.W.Write.contents c.args.out.now) (g.W.Write.contents c.drain.new.out) (sym c.if-not-is_open.ensures) c.end.ensures c.drain.ensures.begun

@@ -1,7 +1,7 @@
 use Rattle.std.specs.Io.KnownBytes.{Appends}
 use Rattle.std.specs.Prelude.{nat_lt}
 use Rattle.nvt_replay.specs.Played.{ArePrinted, lines_below}
-use Rattle.nvt_replay.proofs.playback.settle.Given as goal
+use Rattle.nvt_replay.proofs.playback.drain.Given as goal
 
 abbrev pub invariant-loop-k : goal.invariant-loop-k
 invariant-loop-k g l = record {
