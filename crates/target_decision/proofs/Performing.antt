@@ -12,7 +12,7 @@ use Rattle.target_decision.specs.declared.decision.Answer.TheVariants as answer
 use Rattle.target_decision.specs.declared.decision.Decision.TheVariants as decision
 use Rattle.target_decision.specs.declared.decision.Given.{Given}
 use Rattle.target_decision.specs.declared.decision.Reply.{Reply}
-use Rattle.target_decision.specs.Fulfil.{Does}
+use Rattle.target_decision.specs.Fulfilment.{Does}
 use Rattle.target_decision.specs.Decision.{Brought, format_of, response_of}
 
 pub operation_done : (alignment : ℕ) (r : Reply) (op : Operation) (front : Front) (b : Brought) (payload : Option (List ℕ)) (old new : List Stored) (output mid appended : List ℕ)

@@ -7,7 +7,7 @@ pub mod Consequence
 pub mod Controller
 pub mod Data
 pub mod Decision
-pub mod Fulfil
+pub mod Fulfilment
 pub mod Notice
 pub mod Outcome
 pub mod Queue

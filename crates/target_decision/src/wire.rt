@@ -5,7 +5,7 @@ ghost use Rattle.target_decision.specs.Data.{bytes_in, bytes_of, len_in};
 ghost use Rattle.io_queue.specs.Execution.{sizes};
 ghost use Rattle.io_queue.specs.Reply.{data_pdus, data_room, piece_pdu, returned_pdus};
 ghost use Rattle.pdu_cut.specs.Cut.{front_shown};
-ghost use Rattle.target_decision.specs.Fulfil.{Does, room_in, room_of};
+ghost use Rattle.target_decision.specs.Fulfilment.{Does, room_in, room_of};
 ghost use Rattle.target_decision.specs.Carry.{brought_in};
 ghost use Rattle.target_decision.specs.Decision.{PerformsWithin, WithinIn, bytes_at, format_of, head_of, operation_in, response_of};
 ghost use Rattle.nvt_fields.specs.FatalErrorStatus.{fatal_code_of};

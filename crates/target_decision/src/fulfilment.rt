@@ -8,7 +8,7 @@ ghost use Rattle.pdu_cut.specs.Front.{whole};
 ghost use Rattle.fabrics_connect.specs.Row.{row_begun};
 ghost use Rattle.pdu_cut.specs.Pdu.{data_part};
 ghost use Rattle.target_decision.specs.Begin.{NamesIn, NamesWell, row_decided};
-ghost use Rattle.target_decision.specs.Fulfil.{Does, room_for, room_of};
+ghost use Rattle.target_decision.specs.Fulfilment.{Does, room_for, room_of};
 ghost use Rattle.target_decision.specs.Carry.{CarriesWell, brought_by, brought_in, tags_after, with_own};
 ghost use Rattle.target_decision.specs.Decision.{PerformsWithin, consumed_of, data_of, entry_of, head_of};
 ghost use Rattle.target_decision.specs.Session.{turned};
