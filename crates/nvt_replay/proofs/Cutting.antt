@@ -21,7 +21,7 @@ use Rattle.replay_lines.specs.Writing.{AppendsFront}
 use Rattle.replay_lines.proofs.Fronts.{begins_left, front_behind, front_left}
 use Rattle.nvt_replay.specs.CutOff.{EditsInPart, EndsInPart, HandsOutInPart, IsCutOff, OpensInPart, PlaysInPart, ReceivesInPart, DrainsInPart, TicksInPart}
 use Rattle.nvt_replay.specs.Played.{ArePrinted, PlaysAll, PlaysOpen, Prints, Receives, Drains, StepBelow, connection_lines, lines_below, number_taken}
-use Rattle.nvt_replay.specs.Replies.{MakesLine, Refuses}
+use Rattle.edit_lines.specs.Line.{MakesLine, Refuses}
 use Rattle.nvt_replay.proofs.Prints.{lines_are, lines_below-more, not_yet}
 
 -- ---- the lines of a connection

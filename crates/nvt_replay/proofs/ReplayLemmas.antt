@@ -13,7 +13,7 @@ use Rattle.config_rules.specs.Configuration.{Configuration, are_disks, disks_alo
 use Rattle.config_text.specs.EditLine.{IsLineOf}
 use Rattle.line_words.specs.Lines.{lines_of}
 use Rattle.nvt_replay.specs.Replay.{RefusesDisks, AcceptsAll, Configures, EndsScript, Explains, IsFirstMalformed, RefusesEdits, RefusesLine, RefusesLines}
-use Rattle.nvt_replay.specs.Replies.{Refuses}
+use Rattle.edit_lines.specs.Line.{Refuses}
 use Rattle.replay_lines.specs.StreamLine.{IsStreamLine, Says}
 use Rattle.replay_lines.specs.declared.stream_line.StreamLine.{StreamLine}
 use Rattle.replay_lines.specs.declared.stream_line.StreamLine.TheVariants as stream

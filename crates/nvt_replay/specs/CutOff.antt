@@ -14,7 +14,7 @@ use Rattle.replay_lines.specs.declared.stream_line.StreamLine.TheVariants as lin
 use Rattle.replay_lines.specs.Printed.{edit_made_line, event_line, reply_line}
 use Rattle.replay_lines.specs.StreamLine.{Says}
 use Rattle.nvt_replay.specs.Played.{PlaysAll, PlaysOpen, Prints, Receives, Drains, StepBelow, lines_below, number_taken}
-use Rattle.nvt_replay.specs.Replies.{MakesLine, Refuses}
+use Rattle.edit_lines.specs.Line.{MakesLine, Refuses}
 
 -- nothing is printed, and nothing changed
 abbrev pub IsUntouched : TargetState → List ℕ → TargetState → Type 0

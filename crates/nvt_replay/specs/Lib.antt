@@ -1,4 +1,3 @@
 pub mod CutOff
 pub mod Played
-pub mod Replies
 pub mod Replay

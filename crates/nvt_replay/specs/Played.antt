@@ -20,7 +20,7 @@ use Rattle.replay_lines.specs.declared.reply.Reply.{Reply}
 use Rattle.replay_lines.specs.declared.stream_line.StreamLine.{StreamLine}
 use Rattle.replay_lines.specs.declared.stream_line.StreamLine.TheVariants as line
 use Rattle.replay_lines.specs.Printed.{edit_made_line, event_line, output_lines, reply_line}
-use Rattle.nvt_replay.specs.Replies.{MakesLine, Refuses}
+use Rattle.edit_lines.specs.Line.{MakesLine, Refuses}
 use Rattle.replay_lines.specs.StreamLine.{Says}
 
 -- a writer's known bytes grew by some text of which this holds

@@ -12,7 +12,7 @@ use Rattle.target_history.specs.Event.{edited}
 use Rattle.target_history.specs.History.{Opening}
 use Rattle.nvt_replay.specs.CutOff.{IsCutOff, PlaysLineInPart}
 use Rattle.nvt_replay.specs.Played.{PlaysAll, Prints}
-use Rattle.nvt_replay.specs.Replies.{Refuses}
+use Rattle.edit_lines.specs.Line.{Refuses}
 use Rattle.replay_lines.specs.declared.fault.ReplayFault.{ReplayFault}
 use Rattle.replay_lines.specs.declared.fault.ReplayFault.TheVariants.{EditLine, StreamLine, Memory, Io, Disks}
 use Rattle.replay_lines.specs.declared.reply.Reply.{Reply}

@@ -9,10 +9,10 @@ ghost use Rattle.target_history.specs.Event.{given_up, opened, ticked};
 ghost use Rattle.target_decision.specs.World.{connections_max};
 ghost use Rattle.nvt_replay.specs.Played.{Receives, StepBelow, StepsUntilIdle, TakesOutput};
 ghost use Rattle.nvt_replay.specs.Played.{HasNone, number_taken};
-ghost use Rattle.nvt_replay.specs.Replies.{IsRefused, MakesLine};
+ghost use Rattle.edit_lines.specs.Line.{IsRefused, MakesLine};
 
-use crate::reply::{NotMade, make_line};
 use block_store::MemoryDisk;
+use edit_lines::{NotMade, make_line};
 use std::alloc::{AllocError, Global};
 use std::marker::Model;
 use target_core::{OpenFault, StepFault, Stepped, Target};

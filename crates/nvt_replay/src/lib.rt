@@ -5,7 +5,6 @@
 mod connections;
 mod disks;
 pub mod playback;
-pub mod reply;
 
 pub use config_text::Lines;
 pub use playback::{Playback, replay};

@@ -27,9 +27,9 @@ ghost use Rattle.replay_lines.specs.Writing.{AppendsFront};
 
 use crate::connections::{CONNECTIONS, Connections};
 use crate::disks::memory_disks;
-use crate::reply::NotMade;
 use config_rules::are_disks;
 use config_text::Lines;
+use edit_lines::NotMade;
 use replay_lines::{Printer, ReplayFault, StreamLine, read_stream_line};
 use std::alloc::{AllocError, Global};
 use std::io::Write;

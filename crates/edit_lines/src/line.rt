@@ -4,9 +4,9 @@ ghost use Rattle.std.specs.Prelude.{◌≡◌, IfErr, Ok, OnErr, OnOk};
 ghost use Rattle.config_rules.specs.Accept.{accept};
 ghost use Rattle.target_core.specs.Transition.{Transition};
 ghost use Rattle.target_history.specs.Event.{edited};
-ghost use Rattle.nvt_replay.specs.Replies.{IsEditRefused, IsRefused, MakesLine, not_read};
+ghost use Rattle.edit_lines.specs.Line.{IsEditRefused, IsRefused, MakesLine, not_read};
 
-use block_store::MemoryDisk;
+use block_store::Disk;
 use config_text::{LineFault, LineFaultKind, read_edit};
 use nvt_config::{Edit, EditFault};
 use replay_lines::Reply;
@@ -21,8 +21,12 @@ pub enum NotMade {
     Memory,
 }
 
-/// Makes the edit that a line says.
-pub fn make_line(alloc: Global, target: &mut Target<MemoryDisk>, line: &[u8]) -> Result<(), NotMade>
+/// Makes the edit that a line says. After a refusal, `Memory` included, the target is as it was.
+pub fn make_line<D: Disk + Drop>(
+    alloc: Global,
+    target: &mut Target<D>,
+    line: &[u8],
+) -> Result<(), NotMade>
     ensures made { OnOk result (MakesLine line.now target.old target.new) }
     ensures refused { IfErr result (IsRefused target.old.config line.now) }
     ensures err { OnErr result (target.new ≡ target.old) }
@@ -33,7 +37,7 @@ pub fn make_line(alloc: Global, target: &mut Target<MemoryDisk>, line: &[u8]) ->
     }
 }
 
-fn make_edit(target: &mut Target<MemoryDisk>, edit: &Edit) -> Result<(), NotMade>
+fn make_edit<D: Disk + Drop>(target: &mut Target<D>, edit: &Edit) -> Result<(), NotMade>
     ensures made { OnOk result (accept target.old.config edit.now ≡ Ok target.new.config) }
     ensures transition { OnOk result (Transition (edited edit.now) target.old target.new) }
     ensures refused { IfErr result (IsEditRefused target.old.config edit.now) }

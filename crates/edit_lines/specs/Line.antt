@@ -11,8 +11,8 @@ use Rattle.line_words.specs.Words.{line_fault}
 use Rattle.target_core.specs.Transition.{Transition}
 use Rattle.target_core.specs.Target.{TargetState}
 use Rattle.target_history.specs.Event.{edited}
-use Rattle.nvt_replay.specs.declared.reply.NotMade.{NotMade}
-use Rattle.nvt_replay.specs.declared.reply.NotMade.TheVariants.{Refused, Memory}
+use Rattle.edit_lines.specs.declared.line.NotMade.{NotMade}
+use Rattle.edit_lines.specs.declared.line.NotMade.TheVariants.{Refused, Memory}
 use Rattle.replay_lines.specs.declared.reply.Reply.{Reply}
 use Rattle.replay_lines.specs.declared.reply.Reply.TheVariants as reply
 

@@ -1,0 +1,5 @@
+use Rattle.std.proofs.Common.{◌≡◌, ℕ, List, map, replicate, []}
+use Rattle.nvt_ports.proofs.memory.MemoryPorts.new.Given as goal
+
+abbrev pub invariant-loop : goal.invariant-loop
+invariant-loop l = map (λ v. v.items) l.took.items ≡ replicate l.counter []
