@@ -9,11 +9,11 @@ use Rattle.data_transfer.specs.Parts.{part_at}
 use Rattle.number_table.specs.Table.{place}
 use Rattle.number_table.proofs.Tables.{place-with_value_held}
 use Rattle.controller_tables.proofs.Staying.{nothing_goes, nothing_gone, nothing_leaves}
-use Rattle.target_core.specs.Connection.{KnownConnection, ends_known, drained}
+use Rattle.target_core.specs.Connection.{KnownConnection, ends_known, settled}
 use Rattle.target_core.specs.Transition.{Transition, known_moved}
 use Rattle.target_core.specs.Target.{TargetState, is_ended_at, meets, with_connection}
 use Rattle.target_core.proofs.Moving.{part_at-silent, silent_at, stream_stays}
-use Rattle.target_core.proofs.Draining.{nothing_drops, same_at}
+use Rattle.target_core.proofs.Settling.{nothing_drops, same_at}
 use Rattle.target_decision.specs.declared.session.Session.{Session}
 use Rattle.target_decision.specs.declared.session.Session.TheVariants as session
 use Rattle.target_decision.specs.Session.{is_ended}
@@ -73,7 +73,7 @@ only_gone k c old new known ended transition = record {
   here j true = refl
   here j false =
       sym (silent_at (meets old (given_up k)) j (place old.connections j) refl refl refl)
-      ∙ ap (λ (e : EndCause). option_map (drained e (ends_live (meets old (given_up k)))) (place old.connections j)) nothing
+      ∙ ap (λ (e : EndCause). option_map (settled e (ends_live (meets old (given_up k)))) (place old.connections j)) nothing
       ∙ same_at (ends_live (meets old (given_up k))) none (place old.connections j)
 
   stream_here : (j : ℕ) (same : Bool) → (if same then None else option_map (λ held. held) (place old.streams j))
