@@ -1,5 +1,5 @@
 -- What is taken in a slot, over a list of what each slot took.
-use Rattle.std.proofs.Common.{◌≡◌, ℕ, ◌<◌, ◌++◌, List, [], length, map, slice_index_or, slice_set, Result, Ok, Err, OnOk, OnErr, Bool, true, false, refl, sym, ap, ◌∙◌, if◌then◌else◌}
+use Rattle.std.proofs.Common.{◌≡◌, ℕ, ◌<◌, ◌++◌, List, [], length, map, slice_index_or, slice_set, Result, Ok, Err, OnOk, OnErr, sym, ap, ◌∙◌, if◌then◌else◌}
 use Rattle.std.specs.Result.{is_ok}
 use Rattle.std.proofs.lemmas.List.{get_or-map, map-set}
 use Rattle.std.proofs.Math.Seq.{map-set_same}

@@ -1,4 +1,4 @@
-use Rattle.std.proofs.Common.{◌≡◌, ℕ, List, map, replicate, []}
+use Rattle.std.proofs.Common.{◌≡◌, map, replicate, []}
 use Rattle.nvt_ports.proofs.memory.MemoryPorts.new.Given as goal
 
 abbrev pub invariant-loop : goal.invariant-loop
