@@ -1,22 +1,16 @@
-//! Random scripts with many commands outstanding at once, on several I/O queues of several controllers, beside
-//! a plain program. It keeps lists, reads the bytes of each PDU and each edit itself, and says what is owed to
-//! each: which status, which data, under which tag data are asked for, what every disk holds then, and which
-//! connections end. What it expects is typed from the formats and the rules of NVMe over TCP.
+//! Random scripts with many commands outstanding at once, on several I/O queues of several controllers: a target
+//! beside a plain program, which says what is owed to each PDU and each edit.
 #![tactic(auto)]
 
 #[cfg(test)]
-mod answers;
-#[cfg(test)]
-mod blocks;
-#[cfg(test)]
-mod changes;
+mod commands;
 #[cfg(test)]
 mod draw;
 #[cfg(test)]
-mod pdus;
-#[cfg(test)]
-mod plain;
+mod edits;
 #[cfg(test)]
 mod random;
 #[cfg(test)]
 mod script;
+#[cfg(test)]
+mod step;

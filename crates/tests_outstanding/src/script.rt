@@ -1,13 +1,15 @@
 //! A target and the plain program, to which the same happens.
-use super::changes::{Change, FIRST, UNITS, line_of};
-use super::draw::whole_read;
-use super::pdus::{QUEUES, configure, connect, place_of, qid_of};
-use super::plain::{GONE, Plain, Seen, Stage};
+use crate::commands::whole_read;
 use block_store::MemoryDisk;
+use nvt_config::Access;
 use std::alloc::{AllocError, Global};
-use testkit_edits::{ic_req, memory_disks};
+use testkit_edits::{Line, memory_disks};
+use testkit_plain_queues::{
+    A, Change, Plain, QUEUES, Seen, Stage, UNITS, configure, connect, host_name, ic_req, line_of,
+    place_of, qid_of, term_req,
+};
+use testkit_tables::{Outcome, check, check_bytes};
 use testkit_targets::TestTarget;
-use testkit_tables::{Outcome, check, check_bytes, pass};
 
 /// The values of CC: a controller is enabled, shut down, or reset.
 pub const ENABLED: u32 = 0x0046_0001;
@@ -24,158 +26,206 @@ struct Begun {
     len: usize,
 }
 
-/// A target beside the plain program. What the target sends is taken away at each event.
+/// A target beside the plain program. What the target sends is taken away at each event. The first thing that
+/// is not as it is wanted is kept, and what comes after it says nothing.
 #[derive(Drop)]
 pub struct Script {
-    pub alloc: Global,
     target: TestTarget<MemoryDisk>,
     pub plain: Plain,
+    /// The PDU that a host sends next.
+    pub pdu: Vec<u8>,
     begun: Vec<Begun>,
+    alloc: Global,
+    pub outcome: Outcome,
 }
 
 impl Script {
     pub fn new(alloc: Global, seen: Seen) -> Option<Script> {
         match new_target(alloc) {
             Some(target) => Some(Script {
-                alloc,
                 target,
                 plain: Plain::new(alloc, seen),
+                pdu: Vec::new(alloc),
                 begun: Vec::new(alloc),
+                alloc,
+                outcome: Ok(()),
             }),
             None => None,
         }
     }
 
-    /// Makes the edits that come first.
-    pub fn set_up(&mut self) -> Outcome {
-        self.plain.lay_disks()?;
-        for line in FIRST {
-            pass!(check(self.target.edits(*line), "an edit that comes first"));
+    // What failed first is kept.
+    fn keep(&mut self, outcome: Outcome) {
+        if self.outcome.is_ok() {
+            self.outcome = outcome;
         }
-        Ok(())
+    }
+
+    /// This fact is to hold.
+    pub fn wants(&mut self, holds: bool, fact: &'static str) {
+        self.keep(check(holds, fact));
+    }
+
+    /// There is to be memory for this.
+    pub fn makes(&mut self, made: Result<(), AllocError>) {
+        self.wants(made.is_ok(), "memory");
+    }
+
+    /// Lays the disks, and makes the edits that come first.
+    pub fn set_up(&mut self) {
+        let laid = self.plain.lay_disks();
+        self.makes(laid);
+        self.adds(Line::SubsystemAdd(A, b"SN-A", Access::Closed));
+        for number in 1..4u64 {
+            self.adds(Line::PortAdd(number, b"127.0.0.1", 4420));
+            self.adds(Line::LinkAdd(number, A));
+        }
+        for host in 0..3usize {
+            self.adds(Line::HostAdd(host_name(host)));
+            self.adds(Line::AllowAdd(A, host_name(host)));
+        }
+    }
+
+    fn adds(&mut self, line: Line<'_>) {
+        let is_made = self.target.edits(line);
+        self.wants(is_made, "an edit that comes first");
     }
 
     /// Makes an edit, or is refused.
-    pub fn edits(&mut self, change: Change) -> Outcome {
+    pub fn edits(&mut self, change: Change) {
         let accepts = self.plain.layout.accepts(change);
         let is_accepted = self.target.edits(line_of(change));
         if accepts {
             self.plain.edit(change);
         }
-        pass!(check(is_accepted == accepts, "whether the edit is accepted"));
-        self.check_queues(QUEUES, &[])
-    }
-
-    fn number(&self, queue: usize) -> usize {
-        self.plain.queues[queue % 12].number
+        self.wants(is_accepted == accepts, "whether the edit is accepted");
+        self.checks_queues(QUEUES);
     }
 
     // What each connection is sent is what it is owed, which is nothing but for that of this queue; those are
     // ended that have to be.
-    fn check_queues(&mut self, queue: usize, owed: &[u8]) -> Outcome {
+    fn checks_queues(&mut self, queue: usize) {
         for it in 0..QUEUES {
-            let owed = if it == queue { owed } else { &[] };
-            pass!(self.check_queue(it, owed));
+            if self.plain.stage(it) != Stage::Closed {
+                self.checks_queue(it, it == queue);
+            }
         }
-        self.forget_ended();
-        Ok(())
+        self.forgets_ended();
     }
 
-    fn check_queue(&mut self, queue: usize, owed: &[u8]) -> Outcome {
-        let number = self.number(queue);
-        let stage = self.plain.stage(queue);
-        if stage == Stage::Closed {
-            return Ok(());
-        }
-        pass!(check_bytes(self.target.sent(number), owed));
-        let is_ended = self.target.is_ended(number) == (stage == Stage::Ended);
-        check(
-            self.target.empties(number) && is_ended,
+    fn checks_queue(&mut self, queue: usize, is_owed: bool) {
+        let number = self.plain.number(queue);
+        let owed = if is_owed {
+            self.plain.owed.as_slice()
+        } else {
+            &[]
+        };
+        let outcome = check_bytes(self.target.sent(number), owed);
+        self.keep(outcome);
+        let is_empty = self.target.empties(number);
+        let is_ended = self.target.is_ended(number);
+        let ends = self.plain.stage(queue) == Stage::Ended;
+        self.wants(
+            is_empty && is_ended == ends,
             "whether a connection is ended",
-        )
+        );
     }
 
     // A PDU that is not whole goes with its connection.
-    fn forget_ended(&mut self) {
+    fn forgets_ended(&mut self) {
         for begun in &mut self.begun {
             if self.plain.stage(begun.queue) != Stage::Connected {
-                begun.queue = GONE;
+                begun.queue = QUEUES;
             }
         }
     }
 
-    /// A connection opens.
-    fn opens(&mut self, queue: usize) -> Outcome {
+    // A connection opens, on the least number that is free.
+    fn opens(&mut self, queue: usize) {
         let port = (place_of(queue).port % 4) as u16;
-        self.plain.open(queue);
-        let number = self.number(queue);
-        check(self.target.opens_on(port, number), "the least free number")
+        let number = self.plain.open(queue);
+        let is_open = self.target.opens_on(port, number);
+        self.wants(is_open, "the least free number");
     }
 
     /// Opens a connection, and asks for a queue on it; gives it up where that is refused.
-    pub fn connects(&mut self, queue: usize) -> Outcome {
-        pass!(self.opens(queue));
-        let request = ic_req(self.alloc)?;
-        pass!(self.brings(queue, &request, 0));
+    pub fn connects(&mut self, queue: usize) {
+        self.opens(queue);
+        self.pdu.clear();
+        let made = ic_req(&mut self.pdu);
+        self.makes(made);
+        self.brings(queue, 0);
+        self.asks_for_queue(queue);
+        if self.plain.stage(queue) != Stage::Connected {
+            self.gives_up(queue);
+        }
+    }
+
+    fn asks_for_queue(&mut self, queue: usize) {
         let cntlid = if qid_of(queue) == 0 {
             0xFFFF
         } else {
             self.plain.controller(queue).cntlid
         };
-        let request = connect(self.alloc, queue, cntlid)?;
-        pass!(self.brings(queue, &request, 0));
-        if self.plain.stage(queue) == Stage::Connected {
-            Ok(())
-        } else {
-            self.gives_up(queue)
-        }
+        self.pdu.clear();
+        let made = connect(&mut self.pdu, queue, cntlid);
+        self.makes(made);
+        self.brings(queue, 0);
     }
 
     /// Sets CC of a controller.
-    pub fn configures(&mut self, queue: usize, cc: u32) -> Outcome {
-        let request = configure(self.alloc, 2, cc)?;
-        self.brings(queue, &request, 0)
+    pub fn configures(&mut self, queue: usize, cc: u32) {
+        self.pdu.clear();
+        let made = configure(&mut self.pdu, 2, cc);
+        self.makes(made);
+        self.brings(queue, 0);
+    }
+
+    /// Sends an H2CTermReq.
+    pub fn terminates(&mut self, queue: usize) {
+        self.pdu.clear();
+        let made = term_req(&mut self.pdu);
+        self.makes(made);
+        self.brings(queue, 0);
     }
 
     /// Gives a connection up.
-    pub fn gives_up(&mut self, queue: usize) -> Outcome {
-        let number = self.number(queue);
+    pub fn gives_up(&mut self, queue: usize) {
+        let number = self.plain.number(queue);
         self.target.gives_up(number);
         self.plain.give_up(queue);
-        self.check_queues(QUEUES, &[])
+        self.checks_queues(QUEUES);
     }
 
-    /// Brings a PDU from one byte on, before which all came: what is owed to it is sent.
-    pub fn brings(&mut self, queue: usize, pdu: &[u8], at: usize) -> Outcome {
-        let mut owed = Vec::new(self.alloc);
-        self.plain.take(queue, pdu, &mut owed)?;
-        let rest = pdu.get(at..).unwrap_or(&[]);
-        self.answers(queue, rest, &owed)
-    }
-
-    fn answers(&mut self, queue: usize, rest: &[u8], owed: &[u8]) -> Outcome {
-        let number = self.number(queue);
+    /// Brings the PDU from one byte on, before which all came: what is owed to it is sent.
+    pub fn brings(&mut self, queue: usize, at: usize) {
+        let taken = self.plain.take(queue, &self.pdu);
+        self.makes(taken);
+        let number = self.plain.number(queue);
+        let rest = self.pdu.get(at..).unwrap_or(&[]);
         let is_taken = if self.plain.stage(queue) == Stage::Ended {
             self.target.ends_by(number, rest)
         } else {
             self.target.takes(number, rest)
         };
-        pass!(check(is_taken, "what a step takes"));
-        self.check_queues(queue, owed)
+        self.wants(is_taken, "what a step takes");
+        self.checks_queues(queue);
     }
 
-    /// Brings the first bytes of a PDU, to which nothing is owed.
-    pub fn begins(&mut self, queue: usize, pdu: Vec<u8>, len: usize) -> Outcome {
-        let len = len.min(pdu.len().saturating_sub(1));
-        let number = self.number(queue);
-        let front = pdu.get(..len).unwrap_or(&[]);
+    /// Brings the first bytes of the PDU and not all, to which nothing is owed.
+    pub fn begins(&mut self, queue: usize, len: usize) {
+        let len = len.min(self.pdu.len().saturating_sub(1));
+        let number = self.plain.number(queue);
+        let front = self.pdu.get(..len).unwrap_or(&[]);
         let is_idle = self.target.waits_for_more(number, front);
-        self.keep(queue, pdu, len)?;
-        pass!(check(is_idle, "an idle step"));
-        self.check_queues(QUEUES, &[])
+        self.wants(is_idle, "an idle step");
+        let kept = self.keeps_pdu(queue, len);
+        self.makes(kept);
+        self.checks_queues(QUEUES);
     }
 
-    fn keep(&mut self, queue: usize, pdu: Vec<u8>, len: usize) -> Result<(), AllocError> {
+    fn keeps_pdu(&mut self, queue: usize, len: usize) -> Result<(), AllocError> {
+        let pdu = Vec::from_slice(self.alloc, &self.pdu)?;
         self.begun.push(Begun { queue, pdu, len })?;
         Ok(())
     }
@@ -196,23 +246,22 @@ impl Script {
     }
 
     /// Brings the rest of the queue's PDU that is not whole.
-    pub fn goes_on(&mut self, queue: usize) -> Outcome {
+    pub fn goes_on(&mut self, queue: usize) {
         let place = self.place_begun(queue);
         if place < self.begun.len() {
             let begun = self.begun.remove(place);
-            return self.brings(queue, &begun.pdu, begun.len);
+            self.pdu = begun.pdu;
+            self.brings(queue, begun.len);
         }
-        Ok(())
     }
 
     /// Reads all of a namespace, if it is there.
-    pub fn reads(&mut self, nsid: usize) -> Outcome {
-        match self.plain.layout.namespace(nsid) {
-            Some(namespace) => {
-                let request = whole_read(self.alloc, nsid, &namespace)?;
-                self.brings(1, &request, 0)
-            }
-            None => Ok(()),
+    pub fn reads(&mut self, nsid: usize) {
+        if let Some(namespace) = self.plain.layout.namespace(nsid) {
+            self.pdu.clear();
+            let made = whole_read(&mut self.pdu, nsid, &namespace);
+            self.makes(made);
+            self.brings(1, 0);
         }
     }
 }

@@ -1,5 +1,5 @@
 //! Edits, and what a plain program knows of the configuration that they leave.
-use super::pdus::{A, H0, H1, H2, PLACES, host_name};
+use crate::places::{A, host_name, place_of};
 use nvt_config::{Access, AnaState};
 use testkit_edits::{Blocks, Line};
 
@@ -42,7 +42,7 @@ pub struct Layout {
     pub states: [[AnaState; 3]; 4],
 }
 
-/// What is there after the edits of `FIRST`.
+/// What is there before the first namespace: three ports and three hosts, each linked and allowed.
 pub const AT_FIRST: Layout = Layout {
     namespaces: [None; 4],
     is_open: false,
@@ -50,23 +50,6 @@ pub const AT_FIRST: Layout = Layout {
     linked: [false, true, true, true],
     states: [[AnaState::Optimized; 3]; 4],
 };
-
-/// The edits that come first.
-pub const FIRST: &[Line<'static>] = &[
-    Line::PortAdd(1, b"127.0.0.1", 4420),
-    Line::PortAdd(2, b"127.0.0.1", 4421),
-    Line::PortAdd(3, b"127.0.0.1", 4422),
-    Line::SubsystemAdd(A, b"SN-A", Access::Closed),
-    Line::HostAdd(H0),
-    Line::HostAdd(H1),
-    Line::HostAdd(H2),
-    Line::AllowAdd(A, H0),
-    Line::AllowAdd(A, H1),
-    Line::AllowAdd(A, H2),
-    Line::LinkAdd(1, A),
-    Line::LinkAdd(2, A),
-    Line::LinkAdd(3, A),
-];
 
 /// The line of an edit.
 pub fn line_of(change: Change) -> Line<'static> {
@@ -115,10 +98,15 @@ impl Layout {
         self.namespaces.get(nsid).copied().flatten()
     }
 
-    /// Whether the host of a controller may use the subsystem by its port.
-    pub fn may(&self, controller: usize) -> bool {
-        let place = PLACES[controller % 4];
-        self.linked[place.port % 4] && (self.is_open || self.allowed[place.host % 3])
+    /// Whether the subsystem is linked to a port.
+    pub fn is_linked(&self, port: usize) -> bool {
+        self.linked[port % 4]
+    }
+
+    /// Whether the host of a queue may use the subsystem by its port.
+    pub fn may(&self, queue: usize) -> bool {
+        let place = place_of(queue);
+        self.is_linked(place.port) && (self.is_open || self.allowed[place.host % 3])
     }
 
     /// The state of a group on a port.

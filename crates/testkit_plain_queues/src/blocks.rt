@@ -1,8 +1,7 @@
 //! The rules of I/O commands (NVM Command Set 1.0, section 3), and disks as one plain list of bytes.
-use super::changes::{Layout, Namespace, UNITS};
-use super::pdus::{
-    COMPARE, Command, FLUSH, IN_CAPSULE, READ, TRANSPORT, WRITE, WRITE_ZEROES, part,
-};
+use crate::bytes::{pad, part};
+use crate::changes::{Layout, Namespace, UNITS};
+use crate::pdus::{COMPARE, Command, FLUSH, IN_CAPSULE, READ, TRANSPORT, WRITE, WRITE_ZEROES};
 use nvt_config::AnaState;
 use std::alloc::AllocError;
 
@@ -56,10 +55,7 @@ pub enum Begun {
 
 /// Lays zeros for all disks' bytes.
 pub fn lay_zeros(bytes: &mut Vec<u8>) -> Result<(), AllocError> {
-    for _ in 0..3 * DISK_LEN {
-        bytes.push(0)?;
-    }
-    Ok(())
+    pad(bytes, 3 * DISK_LEN)
 }
 
 // How many bytes a command's blocks have in this namespace.
@@ -162,7 +158,7 @@ pub fn finish(layout: &Layout, port: usize, command: &Command, came: usize) -> R
 pub fn act(disks: &mut [u8], opcode: u8, range: Range, data: &[u8]) -> u16 {
     match opcode {
         WRITE => put(disks, range.at, data),
-        WRITE_ZEROES => put(disks, range.at, part(&[0; DISK_LEN], 0, range.len)),
+        WRITE_ZEROES => clear(disks, range),
         COMPARE => {
             if *part(disks, range.at, range.len) != *data {
                 return COMPARE_FAILURE;
@@ -174,8 +170,16 @@ pub fn act(disks: &mut [u8], opcode: u8, range: Range, data: &[u8]) -> u16 {
 }
 
 fn put(disks: &mut [u8], at: usize, data: &[u8]) {
-    for (place, byte) in disks.iter_mut().skip(at).zip(data) {
-        *place = *byte;
+    if let Some(places) = disks.get_mut(at..at.saturating_add(data.len()))
+        && places.len() == data.len()
+    {
+        places.copy_from_slice(data);
+    }
+}
+
+fn clear(disks: &mut [u8], range: Range) {
+    if let Some(places) = disks.get_mut(range.at..range.at.saturating_add(range.len)) {
+        places.fill(0);
     }
 }
 
