@@ -95,7 +95,11 @@ fn fits(disk: usize, blocks: u32, block_size: u32) -> bool {
 impl Layout {
     /// A namespace, if it is there.
     pub fn namespace(&self, nsid: usize) -> Option<Namespace> {
-        self.namespaces.get(nsid).copied().flatten()
+        if nsid < 4 {
+            self.namespaces[nsid]
+        } else {
+            None
+        }
     }
 
     /// Whether the subsystem is linked to a port.

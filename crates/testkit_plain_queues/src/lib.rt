@@ -21,5 +21,5 @@ pub use pdus::{
     begin_h2c_data, begin_io_capsule, configure, connect, ic_req, term_req,
 };
 pub use places::{A, CONTROLLERS, QUEUES, admin_of, host_name, place_of, qid_of};
-pub use plain::{Controller, Plain, Stage, Transfer};
+pub use plain::{Controller, Plain, Transfer};
 pub use seen::{NOTHING_SEEN, Seen};

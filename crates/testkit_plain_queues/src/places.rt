@@ -34,14 +34,9 @@ const PLACES: [Place; 4] = [
 
 const SQSIZES: [u16; 12] = [31, 31, 31, 31, 63, 5, 31, 63, 31, 31, 2, 63];
 
-/// The controller of a queue.
-pub fn controller_of(queue: usize) -> usize {
-    queue / 3 % 4
-}
-
 /// The admin queue of a queue's controller.
 pub fn admin_of(queue: usize) -> usize {
-    controller_of(queue) * 3
+    queue / 3 % 4 * 3
 }
 
 /// The identifier of a queue, which is 0 for an admin queue.

@@ -7,18 +7,18 @@ use crate::blocks::{
 use crate::bytes::{byte_at, half_at, part, word_at};
 use crate::changes::{AT_FIRST, Change, Layout};
 use crate::pdus::{Command, READ, command_in};
-use crate::places::{CONTROLLERS, controller_of, place_of, qid_of, sqsize_of};
+use crate::places::{CONTROLLERS, QUEUES, place_of, qid_of, sqsize_of};
 use crate::seen::Seen;
 use std::alloc::{AllocError, Global};
 
-/// How far a connection is.
-#[derive(Clone, Copy, PartialEq, Eq)]
-pub enum Stage {
+// How far a connection is.
+#[derive(Clone, Copy)]
+enum Stage {
     Closed,
     Opened,
     Initialized,
     Connected,
-    /// The target ended it, and it is not given up yet.
+    // The target ended it, and it is not given up yet.
     Ended,
 }
 
@@ -99,9 +99,24 @@ impl Plain {
         self.queues[queue % 12].number
     }
 
-    /// How far a queue is.
-    pub fn stage(&self, queue: usize) -> Stage {
+    // How far a queue is.
+    fn stage(&self, queue: usize) -> Stage {
         self.queues[queue % 12].stage
+    }
+
+    /// Whether a connection is a queue.
+    pub fn is_connected(&self, queue: usize) -> bool {
+        matches!(self.stage(queue), Stage::Connected)
+    }
+
+    /// Whether the target ended a connection, which is not given up yet.
+    pub fn is_ended(&self, queue: usize) -> bool {
+        matches!(self.stage(queue), Stage::Ended)
+    }
+
+    /// Whether there is no connection.
+    pub fn is_closed(&self, queue: usize) -> bool {
+        matches!(self.stage(queue), Stage::Closed)
     }
 
     fn set_stage(&mut self, queue: usize, stage: Stage) {
@@ -110,7 +125,7 @@ impl Plain {
 
     /// The controller of a queue.
     pub fn controller(&self, queue: usize) -> Controller {
-        self.controllers[controller_of(queue)]
+        self.controllers[queue / 3 % 4]
     }
 
     /// Whether a controller takes commands.
@@ -126,6 +141,14 @@ impl Plain {
             count = count.saturating_add(usize::from(transfer.queue == queue));
         }
         count
+    }
+
+    /// The queue of the command at this place of those that wait.
+    pub fn waits_on(&self, place: usize) -> Option<usize> {
+        match self.transfers.get(place) {
+            Some(transfer) => Some(transfer.queue),
+            None => None,
+        }
     }
 
     /// Whether no more commands of a queue may wait.
@@ -163,8 +186,8 @@ impl Plain {
     }
 
     fn has_number(&self, number: usize) -> bool {
-        for queue in &self.queues {
-            if queue.stage != Stage::Closed && queue.number == number {
+        for queue in 0..QUEUES {
+            if !self.is_closed(queue) && self.number(queue) == number {
                 return true;
             }
         }
@@ -222,11 +245,11 @@ impl Plain {
 
     // A connection goes, and its controller with an admin queue.
     fn go(&mut self, queue: usize, stage: Stage) {
-        let was = self.stage(queue);
+        let was_connected = self.is_connected(queue);
         self.leave(queue, stage);
-        if was == Stage::Connected && qid_of(queue) == 0 {
+        if was_connected && qid_of(queue) == 0 {
             self.end_io_queues(queue);
-            self.controllers[controller_of(queue)] = NO_CONTROLLER;
+            self.controllers[queue / 3 % 4] = NO_CONTROLLER;
         }
     }
 
@@ -238,7 +261,7 @@ impl Plain {
     // Those of the controller that has this admin queue.
     fn end_io_queues(&mut self, admin: usize) {
         for queue in [admin.saturating_add(1), admin.saturating_add(2)] {
-            if self.stage(queue) == Stage::Connected {
+            if self.is_connected(queue) {
                 self.leave(queue, Stage::Ended);
             }
         }
@@ -249,7 +272,7 @@ impl Plain {
         self.layout.make(change);
         for controller in 0..CONTROLLERS {
             let queue = controller % 4 * 3;
-            if self.stage(queue) == Stage::Connected && !self.layout.may(queue) {
+            if self.is_connected(queue) && !self.layout.may(queue) {
                 self.go(queue, Stage::Ended);
             }
         }
@@ -286,13 +309,12 @@ impl Plain {
 
     // The response counts on its queue, where there is one: SQHD.
     fn count_response(&mut self, queue: usize) -> u16 {
-        let place = queue % 12;
-        if self.queues[place].stage != Stage::Connected {
+        if !self.is_connected(queue) {
             return 0;
         }
         let entries = sqsize_of(queue).saturating_add(1).max(1);
-        let head = self.queues[place].responses.saturating_add(1) % entries;
-        self.queues[place].responses = head;
+        let head = self.queues[queue % 12].responses.saturating_add(1) % entries;
+        self.queues[queue % 12].responses = head;
         head
     }
 
@@ -319,7 +341,7 @@ impl Plain {
             self.terminate(queue, TOO_MANY, pdu, 72)
         } else if self.has_cid(queue, cid) {
             self.answer(queue, cid, CID_CONFLICT)
-        } else if self.stage(queue) != Stage::Connected {
+        } else if !self.is_connected(queue) {
             self.connect(queue, half_at(pdu, 72 + 16))
         } else if qid_of(queue) == 0 {
             self.configure(queue, word_at(entry, 48));
@@ -347,7 +369,7 @@ impl Plain {
 
     fn begin_controller(&mut self, queue: usize) -> Result<(), AllocError> {
         let cntlid = self.least_cntlid();
-        self.controllers[controller_of(queue)].cntlid = cntlid;
+        self.controllers[queue / 3 % 4].cntlid = cntlid;
         self.set_stage(queue, Stage::Connected);
         self.respond(queue, 1, u32::from(cntlid), SUCCESS)
     }
@@ -360,7 +382,7 @@ impl Plain {
         if was.is_enabled && !is_enabled {
             self.end_io_queues(queue);
         }
-        self.controllers[controller_of(queue)] = Controller {
+        self.controllers[queue / 3 % 4] = Controller {
             is_enabled,
             is_shut: stays_shut || cc / 0x4000 % 4 != 0,
             ..was

@@ -186,14 +186,18 @@ fn spoil(random: &mut Pcg32, head: &mut Head) {
     }
 }
 
-/// An H2CData for this command that waits; where it is to be wrong, of too many bytes, or with another field.
+/// An H2CData for the command at this place of those that wait; where it is to be wrong, of too many bytes, or
+/// with another field.
 pub fn piece(
     out: &mut Vec<u8>,
     random: &mut Pcg32,
     plain: &Plain,
-    transfer: &Transfer,
+    place: usize,
     is_wrong: bool,
 ) -> Result<(), AllocError> {
+    let Some(transfer) = plain.transfers.get(place) else {
+        return Ok(());
+    };
     let at = transfer.bytes.len();
     let command = &transfer.command;
     let left = (command.sgl_len as usize).saturating_sub(at);

@@ -5,7 +5,7 @@ use nvt_config::Access;
 use std::alloc::{AllocError, Global};
 use testkit_edits::{Line, memory_disks};
 use testkit_plain_queues::{
-    A, Change, Plain, QUEUES, Seen, Stage, UNITS, configure, connect, host_name, ic_req, line_of,
+    A, Change, Plain, QUEUES, Seen, UNITS, configure, connect, host_name, ic_req, line_of, part,
     place_of, qid_of, term_req,
 };
 use testkit_tables::{Outcome, check, check_bytes};
@@ -106,7 +106,7 @@ impl Script {
     // ended that have to be.
     fn checks_queues(&mut self, queue: usize) {
         for it in 0..QUEUES {
-            if self.plain.stage(it) != Stage::Closed {
+            if !self.plain.is_closed(it) {
                 self.checks_queue(it, it == queue);
             }
         }
@@ -115,29 +115,25 @@ impl Script {
 
     fn checks_queue(&mut self, queue: usize, is_owed: bool) {
         let number = self.plain.number(queue);
-        let owed = if is_owed {
-            self.plain.owed.as_slice()
-        } else {
-            &[]
-        };
-        let outcome = check_bytes(self.target.sent(number), owed);
+        let outcome = self.checks_sent(number, is_owed);
         self.keep(outcome);
         let is_empty = self.target.empties(number);
-        let is_ended = self.target.is_ended(number);
-        let ends = self.plain.stage(queue) == Stage::Ended;
-        self.wants(
-            is_empty && is_ended == ends,
-            "whether a connection is ended",
-        );
+        let is_ended = self.target.is_ended(number) == self.plain.is_ended(queue);
+        self.wants(is_empty && is_ended, "whether a connection is ended");
+    }
+
+    fn checks_sent(&self, number: usize, is_owed: bool) -> Outcome {
+        if is_owed {
+            check_bytes(self.target.sent(number), &self.plain.owed)
+        } else {
+            check_bytes(self.target.sent(number), &[])
+        }
     }
 
     // A PDU that is not whole goes with its connection.
     fn forgets_ended(&mut self) {
-        for begun in &mut self.begun {
-            if self.plain.stage(begun.queue) != Stage::Connected {
-                begun.queue = QUEUES;
-            }
-        }
+        let plain = &self.plain;
+        self.begun.retain(|begun| plain.is_connected(begun.queue));
     }
 
     // A connection opens, on the least number that is free.
@@ -156,7 +152,7 @@ impl Script {
         self.makes(made);
         self.brings(queue, 0);
         self.asks_for_queue(queue);
-        if self.plain.stage(queue) != Stage::Connected {
+        if !self.plain.is_connected(queue) {
             self.gives_up(queue);
         }
     }
@@ -202,11 +198,10 @@ impl Script {
         let taken = self.plain.take(queue, &self.pdu);
         self.makes(taken);
         let number = self.plain.number(queue);
-        let rest = self.pdu.get(at..).unwrap_or(&[]);
-        let is_taken = if self.plain.stage(queue) == Stage::Ended {
-            self.target.ends_by(number, rest)
+        let is_taken = if self.plain.is_ended(queue) {
+            self.target.ends_by(number, behind(&self.pdu, at))
         } else {
-            self.target.takes(number, rest)
+            self.target.takes(number, behind(&self.pdu, at))
         };
         self.wants(is_taken, "what a step takes");
         self.checks_queues(queue);
@@ -216,8 +211,7 @@ impl Script {
     pub fn begins(&mut self, queue: usize, len: usize) {
         let len = len.min(self.pdu.len().saturating_sub(1));
         let number = self.plain.number(queue);
-        let front = self.pdu.get(..len).unwrap_or(&[]);
-        let is_idle = self.target.waits_for_more(number, front);
+        let is_idle = self.target.waits_for_more(number, part(&self.pdu, 0, len));
         self.wants(is_idle, "an idle step");
         let kept = self.keeps_pdu(queue, len);
         self.makes(kept);
@@ -264,6 +258,10 @@ impl Script {
             self.brings(1, 0);
         }
     }
+}
+
+fn behind(bytes: &[u8], at: usize) -> &[u8] {
+    bytes.get(at..).unwrap_or(&[])
 }
 
 fn new_target(alloc: Global) -> Option<TestTarget<MemoryDisk>> {

@@ -5,7 +5,7 @@ use crate::edits::change;
 use crate::script::{ENABLED, RESET, SHUT, Script};
 use rand_core::utils::NextWord;
 use rand_pcg::Pcg32;
-use testkit_plain_queues::{Head, Stage, admin_of, begin_h2c_data};
+use testkit_plain_queues::{Head, admin_of, begin_h2c_data};
 
 /// How the steps of a script are drawn.
 #[derive(Clone, Copy)]
@@ -79,7 +79,7 @@ fn deliver(script: &mut Script, random: &mut Pcg32, queue: usize) {
 // A queue that is not connected, or whose controller is not ready, comes a step nearer to it.
 fn restore(script: &mut Script, random: &mut Pcg32, queue: usize) {
     let admin = admin_of(queue);
-    if script.plain.stage(admin) != Stage::Connected {
+    if !script.plain.is_connected(admin) {
         renew(script, admin);
     } else if script.plain.is_ready(queue) {
         renew(script, queue);
@@ -92,10 +92,10 @@ fn restore(script: &mut Script, random: &mut Pcg32, queue: usize) {
 
 // A connection that ended is given up, and one that is closed opens.
 fn renew(script: &mut Script, queue: usize) {
-    match script.plain.stage(queue) {
-        Stage::Ended => script.gives_up(queue),
-        Stage::Closed => script.connects(queue),
-        _ => {}
+    if script.plain.is_ended(queue) {
+        script.gives_up(queue);
+    } else if script.plain.is_closed(queue) {
+        script.connects(queue);
     }
 }
 
@@ -125,7 +125,7 @@ fn submit(script: &mut Script, random: &mut Pcg32, temper: Temper) {
         Some(queue) => queue,
         None => less_full(script, random),
     };
-    if script.plain.stage(queue) != Stage::Connected {
+    if !script.plain.is_connected(queue) {
         restore(script, random, queue);
     } else if script.has_begun(queue) {
         script.goes_on(queue);
@@ -146,19 +146,18 @@ fn send_capsule(script: &mut Script, random: &mut Pcg32, queue: usize) {
 // More data for a command that waits.
 fn bring_piece(script: &mut Script, random: &mut Pcg32, is_rough: bool) {
     let place = random.next_word() as usize % script.plain.transfers.len().max(1);
-    let is_wrong = is_rough && rarely(random, 12);
-    let Some(transfer) = script.plain.transfers.get(place) else {
+    let Some(queue) = script.plain.waits_on(place) else {
         return;
     };
-    let queue = transfer.queue;
     if script.has_begun(queue) {
         script.goes_on(queue);
-        return;
+    } else {
+        let is_wrong = is_rough && rarely(random, 12);
+        script.pdu.clear();
+        let made = piece(&mut script.pdu, random, &script.plain, place, is_wrong);
+        script.makes(made);
+        deliver(script, random, queue);
     }
-    script.pdu.clear();
-    let made = piece(&mut script.pdu, random, &script.plain, transfer, is_wrong);
-    script.makes(made);
-    deliver(script, random, queue);
 }
 
 // A controller is reset or shut down, or a connection goes.
@@ -177,8 +176,8 @@ fn disturb(script: &mut Script, random: &mut Pcg32) {
 }
 
 fn draw_trouble(script: &Script, random: &mut Pcg32, queue: usize) -> Trouble {
-    let is_connected = script.plain.stage(queue) == Stage::Connected && !script.has_begun(queue);
-    let is_controlled = script.plain.stage(admin_of(queue)) == Stage::Connected;
+    let is_connected = script.plain.is_connected(queue) && !script.has_begun(queue);
+    let is_controlled = script.plain.is_connected(admin_of(queue));
     match below(random, 9) {
         0 if is_controlled => Trouble::Reset,
         1..=3 if is_controlled => Trouble::Shutdown,
