@@ -14,3 +14,5 @@ mod random;
 mod script;
 #[cfg(test)]
 mod step;
+#[cfg(test)]
+mod subject;

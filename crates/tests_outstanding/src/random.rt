@@ -2,10 +2,14 @@
 use crate::edits::whole_disk;
 use crate::script::{ENABLED, Script};
 use crate::step::{Temper, step};
+use crate::subject::Subject;
+use block_store::MemoryDisk;
 use rand_pcg::Pcg32;
-use std::alloc::Global;
-use testkit_plain_queues::{CONTROLLERS, Change, NOTHING_SEEN, Seen};
+use std::alloc::{AllocError, Global};
+use testkit_edits::memory_disks;
+use testkit_plain_queues::{CONTROLLERS, Change, NOTHING_SEEN, Seen, UNITS};
 use testkit_tables::{Outcome, Placed, check, check_rows, pass};
+use testkit_targets::TestTarget;
 
 const STEPS: usize = 320;
 
@@ -46,7 +50,7 @@ const TEMPERS: [Temper; 10] = [
 ];
 
 // Everything is there, and each queue is connected.
-fn begin(script: &mut Script) {
+fn begin<T: Subject + Drop>(script: &mut Script<T>) {
     script.set_up();
     add_all(script);
     for controller in 0..CONTROLLERS {
@@ -58,7 +62,7 @@ fn begin(script: &mut Script) {
     }
 }
 
-fn add_all(script: &mut Script) {
+fn add_all<T: Subject + Drop>(script: &mut Script<T>) {
     for nsid in 1..4usize {
         script.edits(Change::Add(nsid, whole_disk(nsid)));
     }
@@ -70,7 +74,7 @@ fn commands_at(number: usize) -> u32 {
 }
 
 // What still waits is finished, while edits are made.
-fn finish_all(script: &mut Script, random: &mut Pcg32) {
+fn finish_all<T: Subject + Drop>(script: &mut Script<T>, random: &mut Pcg32) {
     for _ in 0..4000 {
         if !script.plain.transfers.is_empty() {
             step(script, random, CALM, 0);
@@ -81,7 +85,7 @@ fn finish_all(script: &mut Script, random: &mut Pcg32) {
 }
 
 // All bytes of all disks.
-fn read_disks(script: &mut Script) {
+fn read_disks<T: Subject + Drop>(script: &mut Script<T>) {
     for nsid in 1..4usize {
         script.edits(Change::Delete(nsid));
     }
@@ -91,7 +95,7 @@ fn read_disks(script: &mut Script) {
     }
 }
 
-fn run(script: &mut Script, number: u64, temper: Temper) -> Outcome {
+fn run<T: Subject + Drop>(script: &mut Script<T>, number: u64, temper: Temper) -> Outcome {
     let mut random = Pcg32::new(SEED, number);
     begin(script);
     for number in 0..STEPS {
@@ -104,14 +108,30 @@ fn run(script: &mut Script, number: u64, temper: Temper) -> Outcome {
     script.outcome.at_step(STEPS)
 }
 
+fn check_over<T: Subject + Drop>(
+    alloc: Global,
+    target: T,
+    number: u64,
+    temper: Temper,
+    seen: &mut Seen,
+) -> Outcome {
+    let mut script = Script::new(alloc, target, *seen);
+    let outcome = run(&mut script, number, temper);
+    *seen = script.plain.seen;
+    outcome
+}
+
 fn check_script(alloc: Global, number: u64, temper: Temper, seen: &mut Seen) -> Outcome {
-    match Script::new(alloc, *seen) {
-        Some(mut script) => {
-            let outcome = run(&mut script, number, temper);
-            *seen = script.plain.seen;
-            outcome
-        }
+    match new_target(alloc) {
+        Some(target) => check_over(alloc, target, number, temper, seen),
         None => check(false, "memory for a target"),
+    }
+}
+
+fn new_target(alloc: Global) -> Option<TestTarget<MemoryDisk>> {
+    match memory_disks(alloc, &UNITS) {
+        Ok(disks) => TestTarget::over(alloc, disks),
+        Err(AllocError) => None,
     }
 }
 

@@ -1,15 +1,14 @@
 //! A target and the plain program, to which the same happens.
 use crate::commands::whole_read;
-use block_store::MemoryDisk;
+use crate::subject::Subject;
 use nvt_config::Access;
 use std::alloc::{AllocError, Global};
-use testkit_edits::{Line, memory_disks};
+use testkit_edits::Line;
 use testkit_plain_queues::{
-    A, Change, Plain, QUEUES, Seen, UNITS, configure, connect, host_name, ic_req, line_of, part,
-    place_of, qid_of, term_req,
+    A, Change, Plain, QUEUES, Seen, configure, connect, host_name, ic_req, line_of, part, place_of,
+    qid_of, term_req,
 };
 use testkit_tables::{Outcome, check, check_bytes};
-use testkit_targets::TestTarget;
 
 /// The values of CC: a controller is enabled, shut down, or reset.
 pub const ENABLED: u32 = 0x0046_0001;
@@ -29,8 +28,8 @@ struct Begun {
 /// A target beside the plain program. What the target sends is taken away at each event. The first thing that
 /// is not as it is wanted is kept, and what comes after it says nothing.
 #[derive(Drop)]
-pub struct Script {
-    target: TestTarget<MemoryDisk>,
+pub struct Script<T: Subject> {
+    target: T,
     pub plain: Plain,
     /// The PDU that a host sends next.
     pub pdu: Vec<u8>,
@@ -39,18 +38,15 @@ pub struct Script {
     pub outcome: Outcome,
 }
 
-impl Script {
-    pub fn new(alloc: Global, seen: Seen) -> Option<Script> {
-        match new_target(alloc) {
-            Some(target) => Some(Script {
-                target,
-                plain: Plain::new(alloc, seen),
-                pdu: Vec::new(alloc),
-                begun: Vec::new(alloc),
-                alloc,
-                outcome: Ok(()),
-            }),
-            None => None,
+impl<T: Subject + Drop> Script<T> {
+    pub fn new(alloc: Global, target: T, seen: Seen) -> Script<T> {
+        Script {
+            target,
+            plain: Plain::new(alloc, seen),
+            pdu: Vec::new(alloc),
+            begun: Vec::new(alloc),
+            alloc,
+            outcome: Ok(()),
         }
     }
 
@@ -87,14 +83,14 @@ impl Script {
     }
 
     fn adds(&mut self, line: Line<'_>) {
-        let is_made = self.target.edits(line);
+        let is_made = self.target.edit(line);
         self.wants(is_made, "an edit that comes first");
     }
 
     /// Makes an edit, or is refused.
     pub fn edits(&mut self, change: Change) {
         let accepts = self.plain.layout.accepts(change);
-        let is_accepted = self.target.edits(line_of(change));
+        let is_accepted = self.target.edit(line_of(change));
         if accepts {
             self.plain.edit(change);
         }
@@ -117,16 +113,16 @@ impl Script {
         let number = self.plain.number(queue);
         let outcome = self.checks_sent(number, is_owed);
         self.keep(outcome);
-        let is_empty = self.target.empties(number);
-        let is_ended = self.target.is_ended(number) == self.plain.is_ended(queue);
+        let is_empty = self.target.empty(number);
+        let is_ended = self.target.has_ended(number) == self.plain.is_ended(queue);
         self.wants(is_empty && is_ended, "whether a connection is ended");
     }
 
     fn checks_sent(&self, number: usize, is_owed: bool) -> Outcome {
         if is_owed {
-            check_bytes(self.target.sent(number), &self.plain.owed)
+            check_bytes(self.target.output(number), &self.plain.owed)
         } else {
-            check_bytes(self.target.sent(number), &[])
+            check_bytes(self.target.output(number), &[])
         }
     }
 
@@ -140,7 +136,7 @@ impl Script {
     fn opens(&mut self, queue: usize) {
         let port = (place_of(queue).port % 4) as u16;
         let number = self.plain.open(queue);
-        let is_open = self.target.opens_on(port, number);
+        let is_open = self.target.open(port, number);
         self.wants(is_open, "the least free number");
     }
 
@@ -188,7 +184,7 @@ impl Script {
     /// Gives a connection up.
     pub fn gives_up(&mut self, queue: usize) {
         let number = self.plain.number(queue);
-        self.target.gives_up(number);
+        self.target.give_up(number);
         self.plain.give_up(queue);
         self.checks_queues(QUEUES);
     }
@@ -198,11 +194,8 @@ impl Script {
         let taken = self.plain.take(queue, &self.pdu);
         self.makes(taken);
         let number = self.plain.number(queue);
-        let is_taken = if self.plain.is_ended(queue) {
-            self.target.ends_by(number, behind(&self.pdu, at))
-        } else {
-            self.target.takes(number, behind(&self.pdu, at))
-        };
+        let is_end = self.plain.is_ended(queue);
+        let is_taken = self.target.take(number, behind(&self.pdu, at), is_end);
         self.wants(is_taken, "what a step takes");
         self.checks_queues(queue);
     }
@@ -211,7 +204,7 @@ impl Script {
     pub fn begins(&mut self, queue: usize, len: usize) {
         let len = len.min(self.pdu.len().saturating_sub(1));
         let number = self.plain.number(queue);
-        let is_idle = self.target.waits_for_more(number, part(&self.pdu, 0, len));
+        let is_idle = self.target.wait(number, part(&self.pdu, 0, len));
         self.wants(is_idle, "an idle step");
         let kept = self.keeps_pdu(queue, len);
         self.makes(kept);
@@ -262,11 +255,4 @@ impl Script {
 
 fn behind(bytes: &[u8], at: usize) -> &[u8] {
     bytes.get(at..).unwrap_or(&[])
-}
-
-fn new_target(alloc: Global) -> Option<TestTarget<MemoryDisk>> {
-    match memory_disks(alloc, &UNITS) {
-        Ok(disks) => TestTarget::over(alloc, disks),
-        Err(AllocError) => None,
-    }
 }
