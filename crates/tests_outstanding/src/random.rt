@@ -76,7 +76,7 @@ fn commands_at(number: usize) -> u32 {
 // What still waits is finished, while edits are made.
 fn finish_all<T: Subject + Drop>(script: &mut Script<T>, random: &mut Pcg32) {
     for _ in 0..4000 {
-        if !script.plain.transfers.is_empty() {
+        if script.outcome.is_ok() && !script.plain.transfers.is_empty() {
             step(script, random, CALM, 0);
         }
     }

@@ -35,6 +35,7 @@ pub struct Script<T: Subject> {
     pub pdu: Vec<u8>,
     begun: Vec<Begun>,
     alloc: Global,
+    /// What failed first.
     pub outcome: Outcome,
 }
 
