@@ -1,12 +1,9 @@
 //! A target and the plain program, to which the same happens.
 use crate::commands::whole_read;
 use crate::subject::Subject;
-use nvt_config::Access;
 use std::alloc::{AllocError, Global};
-use testkit_edits::Line;
 use testkit_plain_queues::{
-    A, Change, Plain, QUEUES, Seen, configure, connect, host_name, ic_req, line_of, part, place_of,
-    qid_of, term_req,
+    Change, Plain, QUEUES, Seen, configure, connect, ic_req, part, place_of, qid_of, term_req,
 };
 use testkit_tables::{Outcome, check, check_bytes};
 
@@ -72,26 +69,14 @@ impl<T: Subject + Drop> Script<T> {
     pub fn set_up(&mut self) {
         let laid = self.plain.lay_disks();
         self.makes(laid);
-        self.adds(Line::SubsystemAdd(A, b"SN-A", Access::Closed));
-        for number in 1..4u64 {
-            self.adds(Line::PortAdd(number, b"127.0.0.1", 4420));
-            self.adds(Line::LinkAdd(number, A));
-        }
-        for host in 0..3usize {
-            self.adds(Line::HostAdd(host_name(host)));
-            self.adds(Line::AllowAdd(A, host_name(host)));
-        }
-    }
-
-    fn adds(&mut self, line: Line<'_>) {
-        let is_made = self.target.edit(line);
-        self.wants(is_made, "an edit that comes first");
+        let is_set_up = self.target.set_up();
+        self.wants(is_set_up, "the edits that come first");
     }
 
     /// Makes an edit, or is refused.
     pub fn edits(&mut self, change: Change) {
         let accepts = self.plain.layout.accepts(change);
-        let is_accepted = self.target.edit(line_of(change));
+        let is_accepted = self.target.edit(change);
         if accepts {
             self.plain.edit(change);
         }
