@@ -4,13 +4,15 @@ use nvt_config::{Access, AnaState};
 use rand_pcg::Pcg32;
 use testkit_plain_queues::{Change, Layout, Namespace, disk_len};
 
-/// A namespace of one of these numbers, whole on its disk.
+/// A namespace of one of these numbers, whole on its disk. The second has blocks of another size, so that what
+/// waits for its data finds shorter ones too where a namespace is made anew.
 pub fn whole_disk(nsid: usize) -> Namespace {
     let disk = nsid.saturating_sub(1) % 3;
+    let block_size = if nsid == 2 { 4096 } else { 512 };
     Namespace {
         disk,
-        blocks: disk_len(disk) / 512,
-        block_size: 512,
+        blocks: disk_len(disk) / block_size,
+        block_size,
         group: if nsid == 2 { 2 } else { 1 },
     }
 }
