@@ -154,6 +154,14 @@ pub fn finish(layout: &Layout, port: usize, command: &Command, came: usize) -> R
     Ok(range)
 }
 
+/// How many bytes the blocks of a command have now; none where there is no such namespace.
+pub fn len_now(layout: &Layout, command: &Command) -> usize {
+    match layout.namespace(command.nsid as usize) {
+        Some(namespace) => len_in(&namespace, command) as usize,
+        None => 0,
+    }
+}
+
 /// Does a command to its blocks, with the data that it brought: its status.
 pub fn act(disks: &mut [u8], opcode: u8, range: Range, data: &[u8]) -> u16 {
     match opcode {

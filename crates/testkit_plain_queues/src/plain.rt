@@ -2,7 +2,7 @@
 //! through, and what is owed to each PDU.
 use crate::answers::{Fault, data, ic_resp, ready, response, term_req};
 use crate::blocks::{
-    Begun, CID_CONFLICT, Range, SEQUENCE_ERROR, SUCCESS, act, begin, finish, lay_zeros,
+    Begun, CID_CONFLICT, Range, SEQUENCE_ERROR, SUCCESS, act, begin, finish, lay_zeros, len_now,
 };
 use crate::bytes::{byte_at, half_at, part, word_at};
 use crate::changes::{AT_FIRST, Change, Layout};
@@ -481,7 +481,8 @@ impl Plain {
             Ok(range) => act(&mut self.disks, whole.command.opcode, range, &whole.bytes),
             Err(status) => status,
         };
-        self.seen.count(status);
+        let is_shorter = len_now(&self.layout, &whole.command) < whole.bytes.len();
+        self.seen.count(status, is_shorter);
         self.forget(place);
         self.answer(queue, cid, status)
     }

@@ -4,11 +4,11 @@ use nvt_config::{Access, AnaState};
 use rand_pcg::Pcg32;
 use testkit_plain_queues::{Change, Layout, Namespace, disk_len};
 
-/// A namespace of one of these numbers, whole on its disk. The second has blocks of another size, so that what
-/// waits for its data finds shorter ones too where a namespace is made anew.
+/// A namespace of one of these numbers, whole on its disk. Two have long blocks, so that what waits for its data
+/// finds shorter ones where they are made anew.
 pub fn whole_disk(nsid: usize) -> Namespace {
     let disk = nsid.saturating_sub(1) % 3;
-    let block_size = if nsid == 2 { 4096 } else { 512 };
+    let block_size = if nsid == 1 { 512 } else { 4096 };
     Namespace {
         disk,
         blocks: disk_len(disk) / block_size,
@@ -68,8 +68,8 @@ pub fn change(random: &mut Pcg32, layout: &Layout, is_rough: bool) -> Change {
     let place = one_of(random, 1, 2);
     match below(random, 16) {
         0 | 1 => Change::Delete(nsid),
-        2..=4 => Change::Add(nsid, namespace(random, nsid)),
-        5 | 6 => Change::Resize(nsid, below(random, 50)),
+        2..=5 => Change::Add(nsid, namespace(random, nsid)),
+        6 => Change::Resize(nsid, below(random, 50)),
         7 => Change::Regroup(nsid, place),
         8..=11 => Change::SetState(place, one_of(random, 1, 2), state(random)),
         _ if is_rough => way(random),

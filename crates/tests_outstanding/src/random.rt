@@ -145,7 +145,8 @@ fn check_seen(seen: &Seen) -> Outcome {
         seen.no_namespace > 10,
         seen.no_access > 10,
         seen.out_of_range > 10,
-        seen.other_length > 5,
+        seen.longer > 5,
+        seen.shorter > 5,
         seen.dropped > 100,
         seen.faults > 10,
     ];

@@ -62,8 +62,8 @@ pub fn step<T: Subject + Drop>(
 fn draw_action(random: &mut Pcg32, is_rough: bool, commands: u32) -> Action {
     match below(random, 100) {
         choice if choice < commands => Action::Submit,
-        0..=78 => Action::BringPiece,
-        79..=91 => Action::Edit,
+        0..=70 => Action::BringPiece,
+        71..=91 => Action::Edit,
         92..=94 if is_rough => Action::Disturb,
         _ => Action::Restore,
     }
