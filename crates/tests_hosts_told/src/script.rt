@@ -9,11 +9,10 @@ use super::pages::{ANA, CHANGED, DISCOVERY, page_of};
 use super::past::{Happened, Past, result_of};
 use super::pdus::{Command, Read, capsule_of, connect, len_of, sqsize_of};
 use block_store::MemoryDisk;
-use nvt_config::NewFault;
 use std::alloc::{AllocError, Global};
-use target_core::{Stepped, Target};
-use testkit_edits::{Line, edit, ic_req, memory_disks};
-use testkit_tables::{Outcome, check, check_bytes, pass};
+use testkit_edits::{ic_req, memory_disks};
+use testkit_tables::{Outcome, Placed, check, check_bytes, pass};
+use testkit_targets::TestTarget;
 
 /// How far a connection is.
 #[derive(Clone, Copy, PartialEq, Eq)]
@@ -77,23 +76,24 @@ pub const NOTHING_SEEN: Seen = Seen {
 #[derive(Drop)]
 pub struct Script {
     alloc: Global,
-    target: Target<MemoryDisk>,
+    target: TestTarget<MemoryDisk>,
     pub past: Past,
     pub queues: [Queue; 6],
     pub seen: Seen,
 }
 
 impl Script {
-    pub fn new(alloc: Global, seen: Seen) -> Result<Script, NewFault> {
-        match memory_disks(alloc, UNITS) {
-            Ok(disks) => Ok(Script {
+    pub fn new(alloc: Global, seen: Seen) -> Result<Script, AllocError> {
+        let disks = memory_disks(alloc, UNITS)?;
+        match TestTarget::over(alloc, disks) {
+            Some(target) => Ok(Script {
                 alloc,
-                target: Target::new(alloc, disks)?,
+                target,
                 past: Past::new(alloc),
                 queues: [NONE; 6],
                 seen,
             }),
-            Err(AllocError) => Err(NewFault::Memory),
+            None => Err(AllocError),
         }
     }
 
@@ -108,18 +108,10 @@ impl Script {
         it.is_enabled && !it.is_shut
     }
 
-    // Whether the target accepts this edit.
-    fn is_accepted(&mut self, line: Line<'_>) -> bool {
-        match edit(self.alloc, line) {
-            Ok(edit) => self.target.edit(&edit).is_ok(),
-            Err(_) => false,
-        }
-    }
-
     /// Makes the edits that come first.
     pub fn set_up(&mut self) -> Outcome {
         for line in FIRST {
-            pass!(check(self.is_accepted(*line), "an edit that comes first"));
+            pass!(check(self.target.edits(*line), "an edit that comes first"));
         }
         Ok(())
     }
@@ -130,12 +122,10 @@ impl Script {
         if stage == Stage::Closed {
             return Ok(());
         }
-        let len = self.target.output(number).len();
-        let is_right = check_bytes(self.target.output(number), owed);
-        self.target.taken(number, len);
-        pass!(is_right);
-        let is_ended = self.target.ended(number);
-        check(is_ended == (stage == Stage::Ended), "whether a connection is ended")
+        pass!(check_bytes(self.target.sent(number), owed));
+        let is_right = self.target.empties(number)
+            && self.target.is_ended(number) == (stage == Stage::Ended);
+        check(is_right, "whether a connection is ended")
     }
 
     // .. and all others are sent nothing.
@@ -150,7 +140,7 @@ impl Script {
     /// Makes an edit, or is refused. The row of a failure is the queue.
     pub fn edits(&mut self, change: Change) -> Outcome {
         let accepts = self.past.layout().accepts(change);
-        let is_accepted = self.is_accepted(line_of(change));
+        let is_accepted = self.target.edits(line_of(change));
         pass!(check(is_accepted == accepts, "whether the edit is accepted"));
         if !accepts {
             return self.check_queues(QUEUES, &[]);
@@ -253,10 +243,11 @@ impl Script {
     // Brings a whole PDU; whether the step takes it, and answers as it has to.
     fn brings(&mut self, queue: usize, pdu: &[u8], owed: &[u8]) -> Outcome {
         let Queue { stage, number, .. } = self.queue(queue);
-        let received = self.target.receive(number, pdu);
-        let stepped = self.target.step(number);
-        let wanted = if stage == Stage::Ended { Stepped::Ended } else { Stepped::One };
-        let is_taken = received == Ok(pdu.len()) && stepped == Ok(wanted);
+        let is_taken = if stage == Stage::Ended {
+            self.target.ends_by(number, pdu)
+        } else {
+            self.target.takes(number, pdu)
+        };
         pass!(check(is_taken, "what a step takes"));
         self.check_queues(queue, owed)
     }
@@ -269,8 +260,8 @@ impl Script {
             number,
             ..NONE
         };
-        let opened = self.target.open((place_of(queue).port % 4) as u16);
-        pass!(check(opened == Ok(number), "the least free number"));
+        let is_least = self.target.opens_on((place_of(queue).port % 4) as u16, number);
+        pass!(check(is_least, "the least free number"));
         pass!(self.begins(queue));
         if self.queue(queue).stage == Stage::Connected {
             Ok(())
@@ -314,7 +305,8 @@ impl Script {
 
     /// Gives a connection up.
     pub fn gives_up(&mut self, queue: usize) -> Outcome {
-        self.target.end(self.queue(queue).number);
+        let Queue { number, .. } = self.queue(queue);
+        self.target.gives_up(number);
         self.leave(queue, Stage::Closed);
         self.check_queues(QUEUES, &[])
     }
