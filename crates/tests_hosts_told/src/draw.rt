@@ -28,6 +28,10 @@ fn one(random: &mut Pcg32) -> usize {
     if rarely(random, 2) { 1 } else { 2 }
 }
 
+fn host(random: &mut Pcg32) -> usize {
+    below(random, 2) as usize
+}
+
 fn nsid(random: &mut Pcg32) -> usize {
     below(random, 3) as usize + 1
 }
@@ -76,8 +80,8 @@ fn record_change(random: &mut Pcg32) -> Change {
     match below(random, 12) {
         0 => Change::Unlink(id),
         1..=3 => Change::Link(id),
-        4 => Change::Forbid(id - 1),
-        5..=7 => Change::Allow(id - 1),
+        4 => Change::Forbid(host(random)),
+        5..=7 => Change::Allow(host(random)),
         8 if rarely(random, 2) => Change::SetAccess(Access::Open),
         8 => Change::SetAccess(Access::Closed),
         9 => Change::SetPort(id, service(random)),
