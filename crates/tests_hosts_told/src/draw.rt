@@ -123,14 +123,15 @@ fn offset(random: &mut Pcg32) -> u16 {
     }
 }
 
-fn dwords(random: &mut Pcg32) -> u16 {
-    match below(random, 6) {
-        0 => 1,
-        1 => 4,
-        2 => 40,
-        3 => 1023,
-        4 => 1280,
-        _ => 1024,
+fn len(random: &mut Pcg32) -> u32 {
+    match below(random, 24) {
+        0..=3 => 4,
+        4..=7 => 16,
+        8..=11 => 160,
+        12..=14 => 4092,
+        15..=18 => 5120,
+        19 => 131_076,
+        _ => 4096,
     }
 }
 
@@ -140,7 +141,7 @@ fn read(random: &mut Pcg32, queue: usize) -> Read {
         retains: rarely(random, 2),
         groups_only: rarely(random, 3),
         offset: offset(random),
-        dwords: dwords(random),
+        len: len(random),
         sgl_type: if rarely(random, 30) { 1 } else { 0x5A },
         more: if rarely(random, 30) { 4 } else { 0 },
     }
@@ -149,7 +150,11 @@ fn read(random: &mut Pcg32, queue: usize) -> Read {
 /// All kinds of events, or some; other bits too.
 pub fn mask(random: &mut Pcg32) -> u32 {
     let some = random.next_word();
-    if rarely(random, 3) { some } else { some | 0x8000_0900 }
+    if rarely(random, 3) {
+        some
+    } else {
+        some | 0x8000_0900
+    }
 }
 
 /// A command of a queue.

@@ -33,12 +33,36 @@ pub struct Place {
 pub const QUEUES: usize = 6;
 
 pub const PLACES: [Place; 6] = [
-    Place { host: 0, port: 1, is_discovery: false },
-    Place { host: 0, port: 2, is_discovery: false },
-    Place { host: 1, port: 1, is_discovery: false },
-    Place { host: 0, port: 3, is_discovery: true },
-    Place { host: 1, port: 3, is_discovery: true },
-    Place { host: 2, port: 3, is_discovery: true },
+    Place {
+        host: 0,
+        port: 1,
+        is_discovery: false,
+    },
+    Place {
+        host: 0,
+        port: 2,
+        is_discovery: false,
+    },
+    Place {
+        host: 1,
+        port: 1,
+        is_discovery: false,
+    },
+    Place {
+        host: 0,
+        port: 3,
+        is_discovery: true,
+    },
+    Place {
+        host: 1,
+        port: 3,
+        is_discovery: true,
+    },
+    Place {
+        host: 2,
+        port: 3,
+        is_discovery: true,
+    },
 ];
 
 /// The place of a queue's controller.

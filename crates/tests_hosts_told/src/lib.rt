@@ -10,6 +10,8 @@ mod answers;
 #[cfg(test)]
 mod draw;
 #[cfg(test)]
+mod hosts;
+#[cfg(test)]
 mod layout;
 #[cfg(test)]
 mod pages;
@@ -17,6 +19,8 @@ mod pages;
 mod past;
 #[cfg(test)]
 mod pdus;
+#[cfg(test)]
+mod queues;
 #[cfg(test)]
 mod random;
 #[cfg(test)]

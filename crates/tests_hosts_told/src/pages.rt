@@ -110,7 +110,11 @@ fn record(id: u8, is_referral: bool, service: u16) -> [u8; 1024] {
         record[256..274].copy_from_slice(b"nqn.2026-01.test:a");
     }
     record[512..768].copy_from_slice(&[b' '; 256]);
-    record[512..521].copy_from_slice(if is_referral { b"127.0.0.9" } else { b"127.0.0.1" });
+    record[512..521].copy_from_slice(if is_referral {
+        b"127.0.0.9"
+    } else {
+        b"127.0.0.1"
+    });
     record
 }
 

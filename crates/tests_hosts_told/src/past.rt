@@ -25,7 +25,6 @@ pub enum Happened {
 /// All that happened.
 #[derive(Drop)]
 pub struct Past {
-    alloc: Global,
     list: Vec<Happened>,
 }
 
@@ -47,10 +46,58 @@ pub fn result_of(kind: Kind) -> u32 {
     }
 }
 
+// What an edit left.
+fn left_by(happened: &Happened) -> Option<Layout> {
+    match happened {
+        Happened::Edited(_, new) => Some(*new),
+        _ => None,
+    }
+}
+
+// Whether a controller began anew by what happened.
+fn is_reset(happened: &Happened, queue: usize) -> bool {
+    match *happened {
+        Happened::Connected(it) | Happened::Reset(it) => it == queue,
+        _ => false,
+    }
+}
+
+// Whether a kind's log page was read so that its event is not retained.
+fn is_read(happened: &Happened, queue: usize, kind: Kind) -> bool {
+    match *happened {
+        Happened::Read(it, read, retains, _) => it == queue && read == kind && !retains,
+        _ => false,
+    }
+}
+
+// Whether a completion was sent.
+fn is_told_to(happened: &Happened, queue: usize) -> bool {
+    match *happened {
+        Happened::Told(it, _) => it == queue,
+        _ => false,
+    }
+}
+
+// The identifier of a request of a controller.
+fn request_of(happened: &Happened, queue: usize) -> Option<u16> {
+    match *happened {
+        Happened::Requested(it, cid) if it == queue => Some(cid),
+        _ => None,
+    }
+}
+
+// Whether a list of changed namespaces is emptied by what happened.
+fn empties(happened: &Happened, queue: usize) -> bool {
+    match *happened {
+        Happened::Enabled(it) | Happened::Connected(it) => it == queue,
+        Happened::Read(it, kind, _, empties) => it == queue && kind == Kind::Namespace && empties,
+        _ => false,
+    }
+}
+
 impl Past {
     pub fn new(alloc: Global) -> Past {
         Past {
-            alloc,
             list: Vec::new(alloc),
         }
     }
@@ -74,13 +121,10 @@ impl Past {
 
     /// What is there.
     pub fn layout(&self) -> Layout {
-        let mut now = AT_FIRST;
-        for happened in &self.list {
-            if let Happened::Edited(_, new) = happened {
-                now = *new;
-            }
-        }
-        now
+        let mut edits = self.list.iter().rev();
+        edits
+            .find_map(|happened| left_by(happened))
+            .unwrap_or(AT_FIRST)
     }
 
     // What its Asynchronous Event Configuration was before what happened at this place.
@@ -118,12 +162,7 @@ impl Past {
     fn quiet_from(&self, queue: usize, kind: Kind) -> usize {
         let mut from = 0;
         for (place, happened) in self.list.iter().enumerate() {
-            let quiets = match *happened {
-                Happened::Connected(it) | Happened::Reset(it) => it == queue,
-                Happened::Read(it, read, retains, _) => it == queue && read == kind && !retains,
-                _ => false,
-            };
-            if quiets {
+            if is_reset(happened, queue) || is_read(happened, queue, kind) {
                 from = place.saturating_add(1);
             }
         }
@@ -142,26 +181,47 @@ impl Past {
         })
     }
 
-    /// The requests that wait, the oldest first.
-    pub fn waiting(&self, queue: usize) -> Result<Vec<u16>, AllocError> {
-        let mut requests = Vec::new(self.alloc);
-        let mut told = 0usize;
-        for happened in &self.list {
-            match *happened {
-                Happened::Connected(it) | Happened::Reset(it) if it == queue => {
-                    requests.clear();
-                    told = 0;
-                }
-                Happened::Requested(it, cid) if it == queue => requests.push(cid)?,
-                Happened::Told(it, _) if it == queue => told = told.saturating_add(1),
-                _ => {}
+    // The place behind the latest Connect or reset of a controller.
+    fn reset_from(&self, queue: usize) -> usize {
+        let mut from = 0;
+        for (place, happened) in self.list.iter().enumerate() {
+            if is_reset(happened, queue) {
+                from = place.saturating_add(1);
             }
         }
-        Vec::from_slice(self.alloc, requests.get(told..).unwrap_or(&[]))
+        from
     }
 
-    /// Whether the edit that happened last completes a request of a controller, if one waits: the first that
-    /// its kind is owed since.
+    // How many completions were sent to a controller since then.
+    fn told_from(&self, queue: usize, from: usize) -> usize {
+        let since = self.list.iter().skip(from);
+        since.filter(|happened| is_told_to(happened, queue)).count()
+    }
+
+    /// How many requests wait.
+    pub fn how_many_wait(&self, queue: usize) -> usize {
+        let from = self.reset_from(queue);
+        let since = self.list.iter().skip(from);
+        let requests = since.filter(|happened| request_of(happened, queue).is_some());
+        requests.count().saturating_sub(self.told_from(queue, from))
+    }
+
+    /// The request that waits behind so many older ones.
+    pub fn waiting(&self, queue: usize, older: usize) -> Option<u16> {
+        let from = self.reset_from(queue);
+        let since = self.list.iter().skip(from);
+        let mut requests = since.filter_map(|happened| request_of(happened, queue));
+        requests.nth(self.told_from(queue, from).saturating_add(older))
+    }
+
+    /// Whether a request of this identifier waits.
+    pub fn waits(&self, queue: usize, cid: u16) -> bool {
+        let count = self.how_many_wait(queue);
+        (0..count).any(|older| self.waiting(queue, older) == Some(cid))
+    }
+
+    /// Whether the edit at this place, which nothing but completions came after, completes a request of a
+    /// controller, if one waits: it is the first by which its kind is owed.
     pub fn becomes_owed(&self, queue: usize, kind: Kind, place: usize) -> bool {
         self.arises(queue, kind, place) && !self.is_owed_before(queue, kind, place)
     }
@@ -177,17 +237,6 @@ impl Past {
         None
     }
 
-    // Whether a list of changed namespaces is emptied by what happened.
-    fn empties(happened: &Happened, queue: usize) -> bool {
-        match *happened {
-            Happened::Enabled(it) | Happened::Connected(it) => it == queue,
-            Happened::Read(it, kind, _, empties) => {
-                it == queue && kind == Kind::Namespace && empties
-            }
-            _ => false,
-        }
-    }
-
     /// Whether a namespace changed since the list of a controller was emptied.
     pub fn has_changed(&self, queue: usize, nsid: usize) -> bool {
         let mut changed = false;
@@ -195,7 +244,7 @@ impl Past {
             if let Happened::Edited(old, new) = happened {
                 changed = changed || changes_namespace(old, new, nsid);
             }
-            changed = changed && !Past::empties(happened, queue);
+            changed = changed && !empties(happened, queue);
         }
         changed
     }

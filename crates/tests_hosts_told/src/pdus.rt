@@ -18,8 +18,9 @@ pub struct Read {
     pub retains: bool,
     pub groups_only: bool,
     pub offset: u16,
-    pub dwords: u16,
-    /// The type of its SGL descriptor, and how many bytes it has beside those asked for.
+    /// How many bytes it asks for, a multiple of 4.
+    pub len: u32,
+    /// The type of its SGL descriptor, and how many bytes that has beside those asked for.
     pub sgl_type: u8,
     pub more: u8,
 }
@@ -38,19 +39,14 @@ pub enum Command {
     Configure(u32),
 }
 
-/// How many bytes a read asks for.
-pub fn len_of(read: &Read) -> u32 {
-    u32::from(read.dwords) * 4
-}
-
 fn read_entry(entry: &mut [u8; 64], read: &Read) {
     entry[0] = 0x02;
-    let len = len_of(read).saturating_add(u32::from(read.more));
+    let len = read.len.saturating_add(u32::from(read.more));
     entry[32..36].copy_from_slice(&len.to_le_bytes());
     entry[39] = read.sgl_type;
     entry[40] = read.lid;
     entry[41] = u8::from(read.groups_only) + if read.retains { 0x80 } else { 0 };
-    entry[42..44].copy_from_slice(&read.dwords.saturating_sub(1).to_le_bytes());
+    entry[42..46].copy_from_slice(&(read.len / 4).saturating_sub(1).to_le_bytes());
     entry[48..50].copy_from_slice(&read.offset.to_le_bytes());
 }
 

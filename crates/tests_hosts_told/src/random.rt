@@ -1,8 +1,9 @@
 //! Random scripts.
 use super::draw::{ENABLED, below, change, command, mask, rarely};
 use super::layout::{Change, Namespace, QUEUES};
-use super::pdus::{Command, sqsize_of};
-use super::script::{NOTHING_SEEN, Script, Seen, Stage};
+use super::pdus::Command;
+use super::queues::{NOTHING_SEEN, Seen, Stage};
+use super::script::Script;
 use rand_pcg::Pcg32;
 use std::alloc::Global;
 use testkit_tables::{Outcome, Placed, check, check_rows, pass};
@@ -47,7 +48,7 @@ fn begin(script: &mut Script) -> Outcome {
 
 // A queue comes a step nearer to be connected, or its controller to be ready.
 fn restore(script: &mut Script, random: &mut Pcg32, queue: usize) -> Outcome {
-    let it = script.queue(queue);
+    let it = script.hosts.queue(queue);
     match it.stage {
         Stage::Ended => return script.gives_up(queue),
         Stage::Closed => return script.connects(queue),
@@ -60,21 +61,15 @@ fn restore(script: &mut Script, random: &mut Pcg32, queue: usize) -> Outcome {
     script.sends(queue, 0x103, &Command::SetEvents(mask(random), false))
 }
 
-// A queue is full where as many requests wait as it may have commands.
-fn is_full(script: &Script, queue: usize) -> Result<bool, std::alloc::AllocError> {
-    let waiting = script.past.waiting(queue)?;
-    Ok(waiting.len() >= usize::from(sqsize_of(queue)))
-}
-
 // One event of a queue.
 fn act(script: &mut Script, random: &mut Pcg32, queue: usize) -> Outcome {
-    if script.queue(queue).stage != Stage::Connected {
+    if script.hosts.queue(queue).stage != Stage::Connected {
         return restore(script, random, queue);
     }
-    if is_full(script, queue)? && !rarely(random, 10) {
+    if script.hosts.is_full(queue) && !rarely(random, 10) {
         return script.edits(change(random));
     }
-    if !script.is_ready(queue) && rarely(random, 2) {
+    if !script.hosts.is_ready(queue) && rarely(random, 2) {
         return restore(script, random, queue);
     }
     if rarely(random, 80) {
@@ -107,7 +102,7 @@ fn check_script(alloc: Global, number: u64, seen: &mut Seen) -> Outcome {
     match Script::new(alloc, *seen) {
         Ok(mut script) => {
             let outcome = run(&mut script, number);
-            *seen = script.seen;
+            *seen = script.hosts.seen;
             outcome
         }
         Err(_) => check(false, "memory for a target"),
@@ -134,6 +129,5 @@ fn hosts_are_told_what_a_look_back_says(rt: HostRuntime) -> Outcome {
     for number in 0..SCRIPTS {
         pass!(check_script(rt.alloc(), number, &mut seen).in_script(SEED, number));
     }
-    let _ = println!(rt; "{} {} {} {} {} {} {}", seen.by_edits, seen.by_requests, seen.exceeded, seen.conflicts, seen.faults, seen.reads, seen.ended);
     check_seen(&seen)
 }
