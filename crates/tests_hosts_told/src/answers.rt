@@ -1,4 +1,5 @@
 //! What a target sends, typed from the formats of NVMe over TCP.
+use super::bytes::put;
 use std::alloc::AllocError;
 
 /// Status words.
@@ -27,7 +28,7 @@ pub const INVALID_HOST: u16 = 0x8308;
 /// An ICResp.
 pub fn ic_resp(out: &mut Vec<u8>) -> Result<(), AllocError> {
     let mut pdu = [0u8; 128];
-    pdu[..5].copy_from_slice(&[1, 0, 128, 0, 128]);
+    put(&mut pdu, 0, &[1, 0, 128, 0, 128]);
     pdu[13] = 0x40;
     out.extend_from_slice(&pdu)
 }
@@ -41,11 +42,11 @@ pub fn response(
     status: u16,
 ) -> Result<(), AllocError> {
     let mut pdu = [0u8; 24];
-    pdu[..5].copy_from_slice(&[5, 0, 24, 0, 24]);
-    pdu[8..12].copy_from_slice(&value.to_le_bytes());
+    put(&mut pdu, 0, &[5, 0, 24, 0, 24]);
+    put(&mut pdu, 8, &value.to_le_bytes());
     pdu[16] = head;
-    pdu[20..22].copy_from_slice(&cid.to_le_bytes());
-    pdu[22..24].copy_from_slice(&status.to_le_bytes());
+    put(&mut pdu, 20, &cid.to_le_bytes());
+    put(&mut pdu, 22, &status.to_le_bytes());
     out.extend_from_slice(&pdu)
 }
 
@@ -58,22 +59,20 @@ pub fn data(
     len: u32,
 ) -> Result<(), AllocError> {
     let mut pdu = [0u8; 24];
-    pdu[..4].copy_from_slice(&[7, 4, 24, 24]);
-    pdu[4..8].copy_from_slice(&len.saturating_add(24).to_le_bytes());
-    pdu[8..10].copy_from_slice(&cid.to_le_bytes());
-    pdu[16..20].copy_from_slice(&len.to_le_bytes());
+    put(&mut pdu, 0, &[7, 4, 24, 24]);
+    put(&mut pdu, 4, &len.saturating_add(24).to_le_bytes());
+    put(&mut pdu, 8, &cid.to_le_bytes());
+    put(&mut pdu, 16, &len.to_le_bytes());
     out.extend_from_slice(&pdu)?;
-    for at in 0..len as usize {
-        out.push(page.get(offset.saturating_add(at)).copied().unwrap_or(0))?;
-    }
-    Ok(())
+    let end = out.len().saturating_add(len as usize);
+    out.extend_from_slice(page.get(offset..).unwrap_or(&[]))?;
+    out.resize(end, 0)
 }
 
 /// A C2HTermReq for a capsule beyond SQSIZE.
 pub fn too_many(out: &mut Vec<u8>, pdu: &[u8]) -> Result<(), AllocError> {
     let mut front = [0u8; 24];
-    front[..5].copy_from_slice(&[3, 0, 24, 0, 96]);
-    front[8] = 2;
+    put(&mut front, 0, &[3, 0, 24, 0, 96, 0, 0, 0, 2]);
     out.extend_from_slice(&front)?;
     out.extend_from_slice(pdu.get(..72).unwrap_or(pdu))
 }

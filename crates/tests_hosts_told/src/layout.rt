@@ -5,6 +5,9 @@ use testkit_edits::{Blocks, Line};
 /// The subsystem.
 pub const A: &[u8] = b"nqn.2026-01.test:a";
 
+/// The discovery subsystem.
+pub const DISCOVERY_NQN: &[u8] = b"nqn.2014-08.org.nvmexpress.discovery";
+
 /// The hosts. The last one is never added.
 pub const H0: &[u8] = b"nqn.2026-01.test:h0";
 
@@ -265,6 +268,15 @@ impl Layout {
     /// Whether a namespace is there and of a group.
     pub fn is_in(&self, nsid: usize, group: usize) -> bool {
         self.namespace(nsid).is_some_and(|n| n.group == group)
+    }
+
+    /// How many namespaces a group has.
+    pub fn count_in(&self, group: usize) -> u8 {
+        let mut count = 0u8;
+        for nsid in 1..4usize {
+            count = count.saturating_add(u8::from(self.is_in(nsid, group)));
+        }
+        count
     }
 
     /// Whether a group has a namespace.

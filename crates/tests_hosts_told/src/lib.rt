@@ -8,6 +8,8 @@
 #[cfg(test)]
 mod answers;
 #[cfg(test)]
+mod bytes;
+#[cfg(test)]
 mod draw;
 #[cfg(test)]
 mod hosts;

