@@ -50,6 +50,15 @@ pub fn response(
     out.extend_from_slice(&pdu)
 }
 
+fn data_header(cid: u16, len: u32) -> [u8; 24] {
+    let mut header = [0u8; 24];
+    put(&mut header, 0, &[7, 4, 24, 24]);
+    put(&mut header, 4, &len.saturating_add(24).to_le_bytes());
+    put(&mut header, 8, &cid.to_le_bytes());
+    put(&mut header, 16, &len.to_le_bytes());
+    header
+}
+
 /// A C2HData with so many bytes of a page, from one on, and zeros behind it. They are all data of its command.
 pub fn data(
     out: &mut Vec<u8>,
@@ -58,12 +67,7 @@ pub fn data(
     offset: usize,
     len: u32,
 ) -> Result<(), AllocError> {
-    let mut pdu = [0u8; 24];
-    put(&mut pdu, 0, &[7, 4, 24, 24]);
-    put(&mut pdu, 4, &len.saturating_add(24).to_le_bytes());
-    put(&mut pdu, 8, &cid.to_le_bytes());
-    put(&mut pdu, 16, &len.to_le_bytes());
-    out.extend_from_slice(&pdu)?;
+    out.extend_from_slice(&data_header(cid, len))?;
     let end = out.len().saturating_add(len as usize);
     out.extend_from_slice(page.get(offset..).unwrap_or(&[]))?;
     out.resize(end, 0)

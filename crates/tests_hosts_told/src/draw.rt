@@ -105,13 +105,13 @@ fn lid(random: &mut Pcg32, queue: usize) -> u8 {
         (_, 0) => DISCOVERY,
         (_, 1) => CHANGED,
         (true, _) => DISCOVERY,
-        (false, 2..=10) => ANA,
+        (false, 2..=8) => ANA,
         _ => CHANGED,
     }
 }
 
 fn offset(random: &mut Pcg32) -> u16 {
-    match below(random, 12) {
+    match below(random, 16) {
         0 => 4,
         1 => 16,
         2 => 1024,
@@ -125,12 +125,12 @@ fn offset(random: &mut Pcg32) -> u16 {
 
 fn len(random: &mut Pcg32) -> u32 {
     match below(random, 24) {
-        0..=3 => 4,
-        4..=7 => 16,
-        8..=11 => 160,
-        12..=14 => 4092,
-        15..=18 => 5120,
-        19 => 131_076,
+        0..=2 => 4,
+        3..=5 => 16,
+        6..=8 => 160,
+        9 | 10 => 4092,
+        11..=13 => 5120,
+        14 => 131_076,
         _ => 4096,
     }
 }
@@ -160,8 +160,8 @@ pub fn mask(random: &mut Pcg32) -> u32 {
 /// A command of a queue.
 pub fn command(random: &mut Pcg32, queue: usize) -> Command {
     match below(random, 40) {
-        0..=17 => Command::Request,
-        18..=29 => Command::Read(read(random, queue)),
+        0..=13 => Command::Request,
+        14..=29 => Command::Read(read(random, queue)),
         30 => Command::SetEvents(0x8000_0900, true),
         31..=33 => Command::SetEvents(mask(random), false),
         34 | 35 => Command::GetEvents,

@@ -71,7 +71,7 @@ impl Hosts {
     fn complete_by_edit(&mut self, queue: usize, place: usize) -> Result<(), AllocError> {
         for kind in KINDS {
             if self.past.becomes_owed(queue, kind, place)
-                && let Some(cid) = self.past.waiting(queue, 0)
+                && let Some(cid) = self.past.oldest(queue)
             {
                 self.seen.by_edits = self.seen.by_edits.saturating_add(1);
                 self.complete(queue, cid, kind)?;
@@ -123,26 +123,39 @@ impl Hosts {
     }
 
     fn has_number(&self, number: usize) -> bool {
-        let mut queues = self.queues.iter();
-        queues.any(|it| it.stage != Stage::Closed && it.number == number)
+        for it in &self.queues {
+            if it.stage != Stage::Closed && it.number == number {
+                return true;
+            }
+        }
+        false
     }
 
     fn least_number(&self) -> usize {
-        let mut numbers = 0..64usize;
-        numbers
-            .find(|number| !self.has_number(*number))
-            .unwrap_or(64)
+        for number in 0..64 {
+            if !self.has_number(number) {
+                return number;
+            }
+        }
+        64
     }
 
     fn has_cntlid(&self, cntlid: u16) -> bool {
-        self.queues.iter().any(|it| it.cntlid == cntlid)
+        for it in &self.queues {
+            if it.cntlid == cntlid {
+                return true;
+            }
+        }
+        false
     }
 
     fn least_cntlid(&self) -> u16 {
-        let mut cntlids = 1..33u16;
-        cntlids
-            .find(|cntlid| !self.has_cntlid(*cntlid))
-            .unwrap_or(33)
+        for cntlid in 1..33 {
+            if !self.has_cntlid(cntlid) {
+                return cntlid;
+            }
+        }
+        33
     }
 
     /// What an ICReq is owed.
@@ -296,7 +309,8 @@ impl Hosts {
             let empties = read.offset == 0 && read.len >= 4096;
             self.past
                 .hear(Happened::Read(queue, kind, read.retains, empties))?;
-            self.seen.reads = self.seen.reads.saturating_add(1);
+            let has_some = kind == Kind::Namespace && !page.starts_with(&[0]);
+            self.seen.read(empties && has_some && read.retains);
         }
         self.respond(queue, cid, 0, status)
     }

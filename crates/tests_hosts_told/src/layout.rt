@@ -307,25 +307,43 @@ pub fn changes_namespace(old: &Layout, new: &Layout, nsid: usize) -> bool {
     }
 }
 
+fn changes_namespaces(old: &Layout, new: &Layout) -> bool {
+    for nsid in 1..4 {
+        if changes_namespace(old, new, nsid) {
+            return true;
+        }
+    }
+    false
+}
+
+// Whether an edit moves a namespace into a group, or out of it.
+fn are_moved(old: &Layout, new: &Layout, group: usize) -> bool {
+    for nsid in 1..4 {
+        if old.is_in(nsid, group) != new.is_in(nsid, group) {
+            return true;
+        }
+    }
+    false
+}
+
 /// Whether an edit changes what a controller of a port shows of a group.
 pub fn changes_group(old: &Layout, new: &Layout, port: usize, group: usize) -> bool {
     let is_there = old.has_group(group) || new.has_group(group);
-    let is_moved = (1..4usize).any(|nsid| old.is_in(nsid, group) != new.is_in(nsid, group));
     let state = old.states[port % 4][group % 3];
-    is_moved || is_there && state != new.states[port % 4][group % 3]
+    are_moved(old, new, group) || is_there && state != new.states[port % 4][group % 3]
+}
+
+/// Whether an edit changes what a controller of a port shows of any group.
+pub fn changes_groups(old: &Layout, new: &Layout, port: usize) -> bool {
+    changes_group(old, new, port, 1) || changes_group(old, new, port, 2)
 }
 
 /// Whether an edit changes what a controller shows of a kind. A controller without a kind shows nothing of it.
 pub fn changes_view(old: &Layout, new: &Layout, queue: usize, kind: Kind) -> bool {
     let place = place_of(queue);
     match kind {
-        Kind::Namespace => {
-            !place.is_discovery && (1..4usize).any(|nsid| changes_namespace(old, new, nsid))
-        }
-        Kind::Ana => {
-            !place.is_discovery
-                && (1..3usize).any(|group| changes_group(old, new, place.port, group))
-        }
+        Kind::Namespace => !place.is_discovery && changes_namespaces(old, new),
+        Kind::Ana => !place.is_discovery && changes_groups(old, new, place.port),
         Kind::Discovery => {
             place.is_discovery && old.records(place.host) != new.records(place.host)
         }

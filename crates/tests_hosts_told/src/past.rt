@@ -1,6 +1,7 @@
 //! All that happened, the oldest first, and what a look back over it says.
 use super::layout::{
-    AT_FIRST, Change, KINDS, Kind, Layout, changes_group, changes_namespace, changes_view,
+    AT_FIRST, Change, KINDS, Kind, Layout, changes_group, changes_groups, changes_namespace,
+    changes_view,
 };
 use std::alloc::{AllocError, Global};
 
@@ -46,14 +47,6 @@ pub fn result_of(kind: Kind) -> u32 {
     }
 }
 
-// What an edit left.
-fn left_by(happened: &Happened) -> Option<Layout> {
-    match happened {
-        Happened::Edited(_, new) => Some(*new),
-        _ => None,
-    }
-}
-
 // Whether a controller began anew by what happened.
 fn is_reset(happened: &Happened, queue: usize) -> bool {
     match *happened {
@@ -70,11 +63,19 @@ fn is_read(happened: &Happened, queue: usize, kind: Kind) -> bool {
     }
 }
 
-// Whether a completion was sent.
-fn is_told_to(happened: &Happened, queue: usize) -> bool {
+// The kind of which a controller was sent a completion.
+fn told_to(happened: &Happened, queue: usize) -> Option<Kind> {
     match *happened {
-        Happened::Told(it, _) => it == queue,
-        _ => false,
+        Happened::Told(it, kind) if it == queue => Some(kind),
+        _ => None,
+    }
+}
+
+// What a controller's Asynchronous Event Configuration was set to.
+fn configured(happened: &Happened, queue: usize) -> Option<u32> {
+    match *happened {
+        Happened::Configured(it, value) if it == queue => Some(value),
+        _ => None,
     }
 }
 
@@ -121,20 +122,22 @@ impl Past {
 
     /// What is there.
     pub fn layout(&self) -> Layout {
-        let mut edits = self.list.iter().rev();
-        edits
-            .find_map(|happened| left_by(happened))
-            .unwrap_or(AT_FIRST)
+        for happened in self.list.iter().rev() {
+            if let Happened::Edited(_, new) = happened {
+                return *new;
+            }
+        }
+        AT_FIRST
     }
 
     // What its Asynchronous Event Configuration was before what happened at this place.
     fn mask_before(&self, queue: usize, place: usize) -> u32 {
         let mut mask = 0;
         for happened in self.list.iter().take(place) {
-            match *happened {
-                Happened::Connected(it) | Happened::Reset(it) if it == queue => mask = 0,
-                Happened::Configured(it, value) if it == queue => mask = value & 0x8000_0900,
-                _ => {}
+            if is_reset(happened, queue) {
+                mask = 0;
+            } else if let Some(value) = configured(happened, queue) {
+                mask = value & 0x8000_0900;
             }
         }
         mask
@@ -145,17 +148,22 @@ impl Past {
         self.mask_before(queue, self.list.len())
     }
 
+    // Whether a kind was enabled before what happened at this place.
+    fn is_enabled(&self, queue: usize, kind: Kind, place: usize) -> bool {
+        self.mask_before(queue, place) & bit(kind) != 0
+    }
+
     // Whether what happened at this place is an event of a kind for a controller. One change gives one event.
     fn arises(&self, queue: usize, kind: Kind, place: usize) -> bool {
         let Some(Happened::Edited(old, new)) = self.list.get(place) else {
             return false;
         };
-        let mask = self.mask_before(queue, place);
-        let is_namespace_told = mask & bit(Kind::Namespace) != 0
-            && changes_view(old, new, queue, Kind::Namespace);
-        changes_view(old, new, queue, kind)
-            && mask & bit(kind) != 0
-            && !(kind == Kind::Ana && is_namespace_told)
+        let is_told_besides = kind == Kind::Ana
+            && changes_view(old, new, queue, Kind::Namespace)
+            && self.is_enabled(queue, Kind::Namespace, place);
+        !is_told_besides
+            && changes_view(old, new, queue, kind)
+            && self.is_enabled(queue, kind, place)
     }
 
     // The place behind what last made a kind quiet.
@@ -170,15 +178,21 @@ impl Past {
     }
 
     fn is_owed_before(&self, queue: usize, kind: Kind, place: usize) -> bool {
-        (self.quiet_from(queue, kind)..place).any(|place| self.arises(queue, kind, place))
+        for place in self.quiet_from(queue, kind)..place {
+            if self.arises(queue, kind, place) {
+                return true;
+            }
+        }
+        false
     }
 
     fn is_told(&self, queue: usize, kind: Kind) -> bool {
-        let from = self.quiet_from(queue, kind);
-        self.list.iter().skip(from).any(|happened| match *happened {
-            Happened::Told(it, told) => it == queue && told == kind,
-            _ => false,
-        })
+        for happened in self.list.iter().skip(self.quiet_from(queue, kind)) {
+            if told_to(happened, queue) == Some(kind) {
+                return true;
+            }
+        }
+        false
     }
 
     // The place behind the latest Connect or reset of a controller.
@@ -192,32 +206,55 @@ impl Past {
         from
     }
 
-    // How many completions were sent to a controller since then.
+    // How many completions were sent to a controller from a place on.
     fn told_from(&self, queue: usize, from: usize) -> usize {
-        let since = self.list.iter().skip(from);
-        since.filter(|happened| is_told_to(happened, queue)).count()
+        let mut told = 0usize;
+        for happened in self.list.iter().skip(from) {
+            told = told.saturating_add(usize::from(told_to(happened, queue).is_some()));
+        }
+        told
+    }
+
+    // The place from which on each request of a controller waits: each completion was of the oldest.
+    fn waiting_from(&self, queue: usize) -> usize {
+        let mut from = self.reset_from(queue);
+        let mut told = self.told_from(queue, from);
+        for (place, happened) in self.list.iter().enumerate().skip(from) {
+            if told > 0 && request_of(happened, queue).is_some() {
+                told = told.saturating_sub(1);
+                from = place.saturating_add(1);
+            }
+        }
+        from
     }
 
     /// How many requests wait.
     pub fn how_many_wait(&self, queue: usize) -> usize {
-        let from = self.reset_from(queue);
-        let since = self.list.iter().skip(from);
-        let requests = since.filter(|happened| request_of(happened, queue).is_some());
-        requests.count().saturating_sub(self.told_from(queue, from))
+        let mut count = 0usize;
+        for happened in self.list.iter().skip(self.waiting_from(queue)) {
+            count = count.saturating_add(usize::from(request_of(happened, queue).is_some()));
+        }
+        count
     }
 
-    /// The request that waits behind so many older ones.
-    pub fn waiting(&self, queue: usize, older: usize) -> Option<u16> {
-        let from = self.reset_from(queue);
-        let since = self.list.iter().skip(from);
-        let mut requests = since.filter_map(|happened| request_of(happened, queue));
-        requests.nth(self.told_from(queue, from).saturating_add(older))
+    /// The oldest request that waits.
+    pub fn oldest(&self, queue: usize) -> Option<u16> {
+        for happened in self.list.iter().skip(self.waiting_from(queue)) {
+            if let Some(cid) = request_of(happened, queue) {
+                return Some(cid);
+            }
+        }
+        None
     }
 
     /// Whether a request of this identifier waits.
     pub fn waits(&self, queue: usize, cid: u16) -> bool {
-        let count = self.how_many_wait(queue);
-        (0..count).any(|older| self.waiting(queue, older) == Some(cid))
+        for happened in self.list.iter().skip(self.waiting_from(queue)) {
+            if request_of(happened, queue) == Some(cid) {
+                return true;
+            }
+        }
+        false
     }
 
     /// Whether the edit at this place, which nothing but completions came after, completes a request of a
@@ -258,9 +295,7 @@ impl Past {
                 Happened::Edited(old, new) => {
                     let is_counted = match group {
                         Some(group) => changes_group(old, new, port, group),
-                        None => {
-                            changes_group(old, new, port, 1) || changes_group(old, new, port, 2)
-                        }
+                        None => { changes_groups(old, new, port) }
                     };
                     count = count.saturating_add(u64::from(is_counted));
                 }

@@ -44,8 +44,10 @@ pub struct Seen {
     pub exceeded: usize,
     pub conflicts: usize,
     pub faults: usize,
-    /// Reads that were done, and controllers that edits ended.
+    /// Reads that were done, and those with RAE 1 that emptied a list of changed namespaces.
     pub reads: usize,
+    pub emptied: usize,
+    /// Controllers that edits ended.
     pub ended: usize,
 }
 
@@ -57,5 +59,14 @@ pub const NOTHING_SEEN: Seen = Seen {
     conflicts: 0,
     faults: 0,
     reads: 0,
+    emptied: 0,
     ended: 0,
 };
+
+impl Seen {
+    /// A read was done.
+    pub fn read(&mut self, empties: bool) {
+        self.reads = self.reads.saturating_add(1);
+        self.emptied = self.emptied.saturating_add(usize::from(empties));
+    }
+}

@@ -64,9 +64,15 @@ impl Script {
         let accepts = self.hosts.past.layout().accepts(change);
         let is_accepted = self.target.edits(line_of(change));
         pass!(check(is_accepted == accepts, "whether the edit is accepted"));
-        if !accepts {
-            return self.check_silence();
+        if accepts {
+            self.tells(change)
+        } else {
+            self.check_silence()
         }
+    }
+
+    // An edit that was made is told.
+    fn tells(&mut self, change: Change) -> Outcome {
         let place = self.hosts.past.len();
         self.hosts.past.hear_edit(change)?;
         for queue in 0..QUEUES {
