@@ -160,8 +160,8 @@ pub fn mask(random: &mut Pcg32) -> u32 {
 /// A command of a queue.
 pub fn command(random: &mut Pcg32, queue: usize) -> Command {
     match below(random, 40) {
-        0..=13 => Command::Request,
-        14..=29 => Command::Read(read(random, queue)),
+        0..=15 => Command::Request,
+        16..=29 => Command::Read(read(random, queue)),
         30 => Command::SetEvents(0x8000_0900, true),
         31..=33 => Command::SetEvents(mask(random), false),
         34 | 35 => Command::GetEvents,

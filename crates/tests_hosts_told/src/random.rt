@@ -8,7 +8,7 @@ use rand_pcg::Pcg32;
 use std::alloc::Global;
 use testkit_tables::{Outcome, Placed, check, check_rows, pass};
 
-const SCRIPTS: u64 = 16;
+const SCRIPTS: u64 = 18;
 
 const STEPS: usize = 200;
 
@@ -66,7 +66,7 @@ fn act(script: &mut Script, random: &mut Pcg32, queue: usize) -> Outcome {
     if script.hosts.queue(queue).stage != Stage::Connected {
         return restore(script, random, queue);
     }
-    if script.hosts.is_full(queue) && !rarely(random, 10) {
+    if script.hosts.is_full(queue) && !rarely(random, 6) {
         return script.edits(change(random));
     }
     if !script.hosts.is_ready(queue) && rarely(random, 2) {
@@ -118,7 +118,7 @@ fn check_seen(seen: &Seen) -> Outcome {
         seen.conflicts > 5,
         seen.faults > 2,
         seen.reads > 100,
-        seen.emptied > 5,
+        seen.emptied > 3,
         seen.ended > 5,
     ];
     check_rows(&rows, "this often seen")
@@ -130,16 +130,5 @@ fn hosts_are_told_what_a_look_back_says(rt: HostRuntime) -> Outcome {
     for number in 0..SCRIPTS {
         pass!(check_script(rt.alloc(), number, &mut seen).in_script(SEED, number));
     }
-    let _ = println!(rt;
-        "{} {} {} {} {} {} {} {}",
-        seen.by_edits,
-        seen.by_requests,
-        seen.exceeded,
-        seen.conflicts,
-        seen.faults,
-        seen.reads,
-        seen.emptied,
-        seen.ended
-    );
     check_seen(&seen)
 }
