@@ -1,10 +1,8 @@
 //! What a host sends and an edit changes, drawn at random.
-use super::layout::{Change, Namespace, place_of};
-use super::pages::{ANA, CHANGED, DISCOVERY};
-use super::pdus::{Command, Read};
 use nvt_config::{Access, AnaState};
 use rand_core::utils::NextWord;
 use rand_pcg::Pcg32;
+use testkit_hosts::{ANA, CHANGED, Change, Command, DISCOVERY, Namespace, Read, place_of};
 
 /// The values of CC: a controller is enabled, shut down, or reset.
 pub const ENABLED: u32 = 0x0046_0001;

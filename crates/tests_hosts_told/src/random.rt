@@ -1,11 +1,9 @@
 //! Random scripts.
 use super::draw::{ENABLED, below, change, command, mask, rarely};
-use super::layout::{Change, Namespace, QUEUES};
-use super::pdus::Command;
-use super::queues::{NOTHING_SEEN, Seen, Stage};
 use super::script::Script;
 use rand_pcg::Pcg32;
 use std::alloc::Global;
+use testkit_hosts::{Change, Command, NOTHING_SEEN, Namespace, QUEUES, Seen, Stage};
 use testkit_tables::{Outcome, Placed, check, check_rows, pass};
 
 const SCRIPTS: u64 = 18;

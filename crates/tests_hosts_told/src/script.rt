@@ -1,11 +1,11 @@
 //! A target beside the plain program.
-use super::hosts::Hosts;
-use super::layout::{Change, FIRST, QUEUES, UNITS, line_of, place_of};
-use super::pdus::{Command, capsule_of, connect};
-use super::queues::{Queue, Seen, Stage};
 use block_store::MemoryDisk;
 use std::alloc::{AllocError, Global};
 use testkit_edits::{ic_req, memory_disks};
+use testkit_hosts::{
+    Change, Command, FIRST, Hosts, QUEUES, Queue, Seen, Stage, UNITS, capsule_of, connect, line_of,
+    place_of,
+};
 use testkit_tables::{Outcome, Placed, check, check_bytes, pass};
 use testkit_targets::TestTarget;
 

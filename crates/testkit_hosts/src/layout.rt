@@ -8,12 +8,12 @@ pub const A: &[u8] = b"nqn.2026-01.test:a";
 /// The discovery subsystem.
 pub const DISCOVERY_NQN: &[u8] = b"nqn.2014-08.org.nvmexpress.discovery";
 
-/// The hosts. The last one is never added.
-pub const H0: &[u8] = b"nqn.2026-01.test:h0";
+// The hosts. The last one is never added.
+const H0: &[u8] = b"nqn.2026-01.test:h0";
 
-pub const H1: &[u8] = b"nqn.2026-01.test:h1";
+const H1: &[u8] = b"nqn.2026-01.test:h1";
 
-pub const STRANGER: &[u8] = b"nqn.2026-01.test:h2";
+const STRANGER: &[u8] = b"nqn.2026-01.test:h2";
 
 /// The name of a host.
 pub fn host_name(host: usize) -> &'static [u8] {
@@ -35,7 +35,7 @@ pub struct Place {
 /// How many controllers there are at most.
 pub const QUEUES: usize = 6;
 
-pub const PLACES: [Place; 6] = [
+const PLACES: [Place; 6] = [
     Place {
         host: 0,
         port: 1,
@@ -81,6 +81,7 @@ pub enum Kind {
     Discovery,
 }
 
+/// Each kind once.
 pub const KINDS: [Kind; 3] = [Kind::Namespace, Kind::Ana, Kind::Discovery];
 
 /// A namespace: how many blocks it has, whether these have 4,096 bytes, and its group, 1 or 2.

@@ -5,11 +5,13 @@ use super::past::Past;
 use nvt_config::AnaState;
 use std::alloc::{AllocError, Global};
 
-/// The identifiers of log pages.
+/// The identifier of the Changed Namespace List.
 pub const CHANGED: u8 = 0x04;
 
+/// The identifier of the Asymmetric Namespace Access log page.
 pub const ANA: u8 = 0x0C;
 
+/// The identifier of the discovery log page.
 pub const DISCOVERY: u8 = 0x70;
 
 // The Changed Namespace List of a controller.

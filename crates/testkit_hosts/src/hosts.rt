@@ -15,14 +15,17 @@ use std::alloc::{AllocError, Global};
 #[derive(Drop)]
 pub struct Hosts {
     alloc: Global,
+    /// All that happened to them.
     pub past: Past,
     queues: [Queue; 6],
+    /// What was seen.
     pub seen: Seen,
     /// What the latest event owes one queue.
     pub owed: Vec<u8>,
 }
 
 impl Hosts {
+    /// No queue is open, and so much was seen before.
     pub fn new(alloc: Global, seen: Seen) -> Hosts {
         Hosts {
             alloc,
@@ -33,6 +36,7 @@ impl Hosts {
         }
     }
 
+    /// A queue, as far as it is.
     pub fn queue(&self, queue: usize) -> Queue {
         self.queues[queue % 6]
     }

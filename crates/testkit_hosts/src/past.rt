@@ -97,6 +97,7 @@ fn empties(happened: &Happened, queue: usize) -> bool {
 }
 
 impl Past {
+    /// Nothing happened yet.
     pub fn new(alloc: Global) -> Past {
         Past {
             list: Vec::new(alloc),
