@@ -96,13 +96,15 @@ fn run(script: &mut Script, number: u64) -> Outcome {
     Ok(())
 }
 
+fn run_script(mut script: Script, number: u64, seen: &mut Seen) -> Outcome {
+    let outcome = run(&mut script, number);
+    *seen = script.hosts.seen;
+    outcome
+}
+
 fn check_script(alloc: Global, number: u64, seen: &mut Seen) -> Outcome {
     match Script::new(alloc, *seen) {
-        Ok(mut script) => {
-            let outcome = run(&mut script, number);
-            *seen = script.hosts.seen;
-            outcome
-        }
+        Ok(script) => run_script(script, number, seen),
         Err(_) => check(false, "memory for a target"),
     }
 }
