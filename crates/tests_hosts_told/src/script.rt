@@ -96,10 +96,9 @@ impl Script {
 
     fn takes(&mut self, queue: usize, pdu: &[u8]) -> bool {
         let Queue { stage, number, .. } = self.hosts.queue(queue);
-        if stage == Stage::Ended {
-            self.target.ends_by(number, pdu)
-        } else {
-            self.target.takes(number, pdu)
+        match stage {
+            Stage::Ended => self.target.ends_by(number, pdu),
+            _ => self.target.takes(number, pdu),
         }
     }
 
