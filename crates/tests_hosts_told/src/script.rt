@@ -41,12 +41,12 @@ impl Script {
     // What a queue is sent is what it is owed; it is ended if it has to be.
     fn check_queue(&mut self, queue: usize) -> Outcome {
         let Queue { stage, number, .. } = self.hosts.queue(queue);
-        if stage == Stage::Closed {
+        if matches!(stage, Stage::Closed) {
             return Ok(());
         }
         pass!(check_bytes(self.target.sent(number), &self.hosts.owed));
         let is_emptied = self.target.empties(number);
-        let is_ended = self.target.is_ended(number) == (stage == Stage::Ended);
+        let is_ended = self.target.is_ended(number) == matches!(stage, Stage::Ended);
         check(is_emptied && is_ended, "whether a connection is ended")
     }
 
@@ -109,10 +109,9 @@ impl Script {
         pass!(check(self.target.opens_on(port, number), "the least free number"));
         pass!(self.initializes(queue));
         pass!(self.asks(queue));
-        if self.hosts.queue(queue).stage == Stage::Connected {
-            Ok(())
-        } else {
-            self.gives_up(queue)
+        match self.hosts.queue(queue).stage {
+            Stage::Connected => Ok(()),
+            _ => self.gives_up(queue),
         }
     }
 
