@@ -1,0 +1,352 @@
+//! Edits, what a plain program knows of the configuration that they leave, and what each controller shows of it.
+use nvt_config::{Access, AnaState, Family};
+use testkit_edits::{Blocks, Line};
+
+/// The subsystem.
+pub const A: &[u8] = b"nqn.2026-01.test:a";
+
+/// The discovery subsystem.
+pub const DISCOVERY_NQN: &[u8] = b"nqn.2014-08.org.nvmexpress.discovery";
+
+// The hosts. The last one is never added.
+const H0: &[u8] = b"nqn.2026-01.test:h0";
+
+const H1: &[u8] = b"nqn.2026-01.test:h1";
+
+const STRANGER: &[u8] = b"nqn.2026-01.test:h2";
+
+/// The name of a host.
+pub fn host_name(host: usize) -> &'static [u8] {
+    match host {
+        0 => H0,
+        1 => H1,
+        _ => STRANGER,
+    }
+}
+
+/// A controller, by its admin queue: its host, its port, and whether it is a discovery controller.
+#[derive(Clone, Copy)]
+pub struct Place {
+    pub host: usize,
+    pub port: usize,
+    pub is_discovery: bool,
+}
+
+/// How many controllers there are at most.
+pub const QUEUES: usize = 6;
+
+const PLACES: [Place; 6] = [
+    Place {
+        host: 0,
+        port: 1,
+        is_discovery: false,
+    },
+    Place {
+        host: 0,
+        port: 2,
+        is_discovery: false,
+    },
+    Place {
+        host: 1,
+        port: 1,
+        is_discovery: false,
+    },
+    Place {
+        host: 0,
+        port: 3,
+        is_discovery: true,
+    },
+    Place {
+        host: 1,
+        port: 3,
+        is_discovery: true,
+    },
+    Place {
+        host: 2,
+        port: 3,
+        is_discovery: true,
+    },
+];
+
+/// The place of a queue's controller.
+pub fn place_of(queue: usize) -> Place {
+    PLACES[queue % 6]
+}
+
+/// The kinds of events, in their order.
+#[derive(Clone, Copy, PartialEq, Eq)]
+pub enum Kind {
+    Namespace,
+    Ana,
+    Discovery,
+}
+
+/// Each kind once.
+pub const KINDS: [Kind; 3] = [Kind::Namespace, Kind::Ana, Kind::Discovery];
+
+/// A namespace: how many blocks it has, whether these have 4,096 bytes, and its group, 1 or 2.
+#[derive(Clone, Copy)]
+pub struct Namespace {
+    pub blocks: u8,
+    pub is_large: bool,
+    pub group: usize,
+}
+
+/// What an edit changes. Namespaces are 1 to 3, ports and referrals 1 and 2, hosts 0 and 1.
+#[derive(Clone, Copy)]
+pub enum Change {
+    Add(usize, Namespace),
+    Delete(usize),
+    Resize(usize, u8),
+    Regroup(usize, usize),
+    SetState(usize, usize, AnaState),
+    Link(usize),
+    Unlink(usize),
+    Allow(usize),
+    Forbid(usize),
+    SetAccess(Access),
+    // Their services are not 0.
+    SetPort(usize, u16),
+    AddReferral(usize, u16),
+    SetReferral(usize, u16),
+    DeleteReferral(usize),
+}
+
+/// What a plain program knows of the configuration.
+#[derive(Clone, Copy)]
+pub struct Layout {
+    pub namespaces: [Option<Namespace>; 4],
+    pub states: [[AnaState; 3]; 4],
+    pub linked: [bool; 4],
+    pub allowed: [bool; 3],
+    pub is_open: bool,
+    pub services: [u16; 4],
+    // 0 where there is none.
+    pub referrals: [u16; 4],
+}
+
+/// What is there after the lines that come first.
+pub const AT_FIRST: Layout = Layout {
+    namespaces: [None; 4],
+    states: [[AnaState::Optimized; 3]; 4],
+    linked: [false; 4],
+    allowed: [false; 3],
+    is_open: false,
+    services: [4420; 4],
+    referrals: [0; 4],
+};
+
+/// The lines that come first. They change no discovery log page.
+pub const FIRST: &[Line<'static>] = &[
+    Line::PortAdd(1, b"127.0.0.1", 4420),
+    Line::PortAdd(2, b"127.0.0.1", 4420),
+    Line::PortAdd(3, b"127.0.0.1", 4420),
+    Line::SubsystemAdd(A, b"SN-A", Access::Closed),
+    Line::HostAdd(H0),
+    Line::HostAdd(H1),
+];
+
+/// The line of an edit.
+pub fn line_of(change: Change) -> Line<'static> {
+    match change {
+        Change::Add(nsid, namespace) => Line::NamespaceAdd(A, blocks_of(nsid, namespace)),
+        Change::Delete(nsid) => Line::NamespaceDel(A, nsid as u64),
+        Change::Resize(nsid, blocks) => Line::NamespaceSize(A, nsid as u64, u64::from(blocks)),
+        Change::Regroup(nsid, group) => Line::NamespaceGroup(A, nsid as u64, group as u64),
+        Change::SetState(port, group, state) => {
+            Line::AnaSet(port as u64, A, group as u64, state)
+        }
+        Change::Link(port) => Line::LinkAdd(port as u64, A),
+        Change::Unlink(port) => Line::LinkDel(port as u64, A),
+        Change::Allow(host) => Line::AllowAdd(A, host_name(host)),
+        Change::Forbid(host) => Line::AllowDel(A, host_name(host)),
+        Change::SetAccess(access) => Line::SubsystemSet(A, access),
+        _ => endpoint_line(change),
+    }
+}
+
+fn endpoint_line(change: Change) -> Line<'static> {
+    match change {
+        Change::SetPort(port, service) => {
+            Line::PortSet(port as u64, Family::Ipv4, b"127.0.0.1", u64::from(service))
+        }
+        Change::AddReferral(id, service) => {
+            Line::ReferralAdd(id as u64, b"127.0.0.9", u64::from(service))
+        }
+        Change::SetReferral(id, service) => {
+            Line::ReferralSet(id as u64, Family::Ipv4, b"127.0.0.9", u64::from(service))
+        }
+        Change::DeleteReferral(id) => Line::ReferralDel(id as u64),
+        _ => Line::SubsystemSet(A, Access::Closed),
+    }
+}
+
+// Each namespace has a disk of its own.
+fn blocks_of(nsid: usize, namespace: Namespace) -> Blocks {
+    Blocks {
+        nsid: nsid as u64,
+        disk: nsid as u64,
+        blocks: u64::from(namespace.blocks),
+        block_size: if namespace.is_large { 4096 } else { 512 },
+        uuid: if nsid == 1 {
+            0x11
+        } else if nsid == 2 {
+            0x22
+        } else {
+            0x33
+        },
+        group: namespace.group as u64,
+    }
+}
+
+/// How many units each disk has: enough for 8 blocks of 4,096 bytes.
+pub const UNITS: &[u64] = &[64; 4];
+
+impl Layout {
+    /// A namespace, if it is there.
+    pub fn namespace(&self, nsid: usize) -> Option<Namespace> {
+        self.namespaces.get(nsid).copied().flatten()
+    }
+
+    /// Whether a host may use the subsystem by a port.
+    pub fn may(&self, host: usize, port: usize) -> bool {
+        self.linked[port % 4] && (self.is_open || self.allowed[host % 3])
+    }
+
+    /// Whether the target accepts an edit.
+    pub fn accepts(&self, change: Change) -> bool {
+        match change {
+            Change::Add(nsid, _) => self.namespace(nsid).is_none(),
+            Change::Delete(nsid) | Change::Resize(nsid, _) | Change::Regroup(nsid, _) => {
+                self.namespace(nsid).is_some()
+            }
+            Change::Link(port) => !self.linked[port % 4],
+            Change::Unlink(port) | Change::SetState(port, _, _) => self.linked[port % 4],
+            Change::Allow(host) => !self.allowed[host % 3],
+            Change::Forbid(host) => self.allowed[host % 3],
+            Change::SetAccess(_) | Change::SetPort(_, _) => true,
+            Change::AddReferral(id, _) => self.referrals[id % 4] == 0,
+            Change::SetReferral(id, _) | Change::DeleteReferral(id) => {
+                self.referrals[id % 4] != 0
+            }
+        }
+    }
+
+    /// What an edit that is accepted leaves. The ANA states of a link go with it.
+    pub fn after(&self, change: Change) -> Layout {
+        let mut after = *self;
+        match change {
+            Change::Add(nsid, namespace) => after.namespaces[nsid % 4] = Some(namespace),
+            Change::Delete(nsid) => after.namespaces[nsid % 4] = None,
+            Change::Resize(nsid, blocks) => {
+                if let Some(n) = self.namespace(nsid) {
+                    after.namespaces[nsid % 4] = Some(Namespace { blocks, ..n });
+                }
+            }
+            Change::Regroup(nsid, group) => {
+                if let Some(n) = self.namespace(nsid) {
+                    after.namespaces[nsid % 4] = Some(Namespace { group, ..n });
+                }
+            }
+            Change::SetState(port, group, state) => after.states[port % 4][group % 3] = state,
+            Change::Link(port) => after.linked[port % 4] = true,
+            Change::Unlink(port) => {
+                after.linked[port % 4] = false;
+                after.states[port % 4] = [AnaState::Optimized; 3];
+            }
+            Change::Allow(host) => after.allowed[host % 3] = true,
+            Change::Forbid(host) => after.allowed[host % 3] = false,
+            Change::SetAccess(access) => after.is_open = access == Access::Open,
+            Change::SetPort(port, service) => after.services[port % 4] = service,
+            Change::AddReferral(id, service) | Change::SetReferral(id, service) => {
+                after.referrals[id % 4] = service;
+            }
+            Change::DeleteReferral(id) => after.referrals[id % 4] = 0,
+        }
+        after
+    }
+
+    /// Whether a namespace is there and of a group.
+    pub fn is_in(&self, nsid: usize, group: usize) -> bool {
+        self.namespace(nsid).is_some_and(|n| n.group == group)
+    }
+
+    /// How many namespaces a group has.
+    pub fn count_in(&self, group: usize) -> u8 {
+        let mut count = 0u8;
+        for nsid in 1..4usize {
+            count = count.saturating_add(u8::from(self.is_in(nsid, group)));
+        }
+        count
+    }
+
+    /// Whether a group has a namespace.
+    pub fn has_group(&self, group: usize) -> bool {
+        self.is_in(1, group) || self.is_in(2, group) || self.is_in(3, group)
+    }
+
+    /// The service of each record that a host's page has, or 0: those of the ports 1 and 2, and of the
+    /// referrals 1 and 2.
+    pub fn records(&self, host: usize) -> [u16; 4] {
+        let mut records = [0, 0, self.referrals[1], self.referrals[2]];
+        if self.may(host, 1) {
+            records[0] = self.services[1];
+        }
+        if self.may(host, 2) {
+            records[1] = self.services[2];
+        }
+        records
+    }
+}
+
+/// Whether an edit changes the size, the block size or the presence of a namespace.
+pub fn changes_namespace(old: &Layout, new: &Layout, nsid: usize) -> bool {
+    match (old.namespace(nsid), new.namespace(nsid)) {
+        (Some(old), Some(new)) => old.blocks != new.blocks || old.is_large != new.is_large,
+        (None, None) => false,
+        _ => true,
+    }
+}
+
+fn changes_namespaces(old: &Layout, new: &Layout) -> bool {
+    for nsid in 1..4 {
+        if changes_namespace(old, new, nsid) {
+            return true;
+        }
+    }
+    false
+}
+
+// Whether an edit moves a namespace into a group, or out of it.
+fn are_moved(old: &Layout, new: &Layout, group: usize) -> bool {
+    for nsid in 1..4 {
+        if old.is_in(nsid, group) != new.is_in(nsid, group) {
+            return true;
+        }
+    }
+    false
+}
+
+/// Whether an edit changes what a controller of a port shows of a group.
+pub fn changes_group(old: &Layout, new: &Layout, port: usize, group: usize) -> bool {
+    let is_there = old.has_group(group) || new.has_group(group);
+    let state = old.states[port % 4][group % 3];
+    are_moved(old, new, group) || is_there && state != new.states[port % 4][group % 3]
+}
+
+/// Whether an edit changes what a controller of a port shows of any group.
+pub fn changes_groups(old: &Layout, new: &Layout, port: usize) -> bool {
+    changes_group(old, new, port, 1) || changes_group(old, new, port, 2)
+}
+
+/// Whether an edit changes what a controller shows of a kind. A controller without a kind shows nothing of it.
+pub fn changes_view(old: &Layout, new: &Layout, queue: usize, kind: Kind) -> bool {
+    let place = place_of(queue);
+    match kind {
+        Kind::Namespace => !place.is_discovery && changes_namespaces(old, new),
+        Kind::Ana => !place.is_discovery && changes_groups(old, new, place.port),
+        Kind::Discovery => {
+            place.is_discovery && old.records(place.host) != new.records(place.host)
+        }
+    }
+}

@@ -1,0 +1,72 @@
+//! The admin queues, and what was seen on them.
+
+/// How far a connection is.
+#[derive(Clone, Copy, PartialEq, Eq)]
+pub enum Stage {
+    Closed,
+    Opened,
+    Connected,
+    /// The target ended it, and it is not given up yet.
+    Ended,
+}
+
+/// An admin queue and its controller, or the connection that is to become it.
+#[derive(Clone, Copy)]
+pub struct Queue {
+    pub stage: Stage,
+    /// The number of its connection.
+    pub number: usize,
+    /// 0 where there is no controller.
+    pub cntlid: u16,
+    pub is_enabled: bool,
+    pub is_shut: bool,
+    /// How many responses it was sent, modulo its entries.
+    pub head: u8,
+}
+
+/// One that is not open.
+pub const CLOSED: Queue = Queue {
+    stage: Stage::Closed,
+    number: 0,
+    cntlid: 0,
+    is_enabled: false,
+    is_shut: false,
+    head: 0,
+};
+
+/// What was seen.
+#[derive(Clone, Copy)]
+pub struct Seen {
+    /// Requests that edits completed, and that were completed at once.
+    pub by_edits: usize,
+    pub by_requests: usize,
+    /// Requests beyond the limit, with a CID that waits, and beyond SQSIZE.
+    pub exceeded: usize,
+    pub conflicts: usize,
+    pub faults: usize,
+    /// Reads that were done, and those with RAE 1 that emptied a list of changed namespaces.
+    pub reads: usize,
+    pub emptied: usize,
+    /// Controllers that edits ended.
+    pub ended: usize,
+}
+
+/// Nothing yet.
+pub const NOTHING_SEEN: Seen = Seen {
+    by_edits: 0,
+    by_requests: 0,
+    exceeded: 0,
+    conflicts: 0,
+    faults: 0,
+    reads: 0,
+    emptied: 0,
+    ended: 0,
+};
+
+impl Seen {
+    /// A read was done.
+    pub fn read(&mut self, empties: bool) {
+        self.reads = self.reads.saturating_add(1);
+        self.emptied = self.emptied.saturating_add(usize::from(empties));
+    }
+}

@@ -1,0 +1,11 @@
+//! Random scripts of what hosts are told, on the admin queues of I/O and of discovery controllers beside one
+//! another: event requests that wait, edits, reads of log pages, features, resets and ends of connections,
+//! by a target beside the plain program of `testkit_hosts`.
+#![tactic(auto)]
+
+#[cfg(test)]
+mod draw;
+#[cfg(test)]
+mod random;
+#[cfg(test)]
+mod script;
