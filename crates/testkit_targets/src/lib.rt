@@ -1,6 +1,8 @@
 //! A target of a test's own, and what a test does to it: each call says whether it went as it has to.
 #![tactic(auto)]
 
+mod memory;
 mod target;
 
+pub use memory::MemoryTarget;
 pub use target::TestTarget;

@@ -1,26 +1,24 @@
 //! A target beside the plain program.
-use block_store::MemoryDisk;
 use std::alloc::{AllocError, Global};
-use testkit_edits::{ic_req, memory_disks};
+use testkit_edits::ic_req;
 use testkit_hosts::{
     Change, Command, FIRST, Hosts, QUEUES, Queue, Seen, Stage, UNITS, capsule_of, connect, line_of,
     place_of,
 };
 use testkit_tables::{Outcome, Placed, check, check_bytes, pass};
-use testkit_targets::TestTarget;
+use testkit_targets::MemoryTarget;
 
 /// A target, and what is known of its hosts. What it sends is taken away at each event.
 #[derive(Drop)]
 pub struct Script {
     alloc: Global,
-    target: TestTarget<MemoryDisk>,
+    target: MemoryTarget,
     pub hosts: Hosts,
 }
 
 impl Script {
     pub fn new(alloc: Global, seen: Seen) -> Result<Script, AllocError> {
-        let disks = memory_disks(alloc, UNITS)?;
-        match TestTarget::over(alloc, disks) {
+        match MemoryTarget::new(alloc, UNITS) {
             Some(target) => Ok(Script {
                 alloc,
                 target,

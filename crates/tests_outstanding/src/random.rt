@@ -3,13 +3,11 @@ use crate::edits::whole_disk;
 use crate::script::{ENABLED, Script};
 use crate::step::{Temper, step};
 use crate::subject::Subject;
-use block_store::MemoryDisk;
 use rand_pcg::Pcg32;
-use std::alloc::{AllocError, Global};
-use testkit_edits::memory_disks;
+use std::alloc::Global;
 use testkit_plain_queues::{CONTROLLERS, Change, NOTHING_SEEN, Seen, UNITS};
 use testkit_tables::{Outcome, Placed, check, check_rows, pass};
-use testkit_targets::TestTarget;
+use testkit_targets::MemoryTarget;
 
 const STEPS: usize = 320;
 
@@ -122,16 +120,9 @@ fn check_over<T: Subject + Drop>(
 }
 
 fn check_script(alloc: Global, number: u64, temper: Temper, seen: &mut Seen) -> Outcome {
-    match new_target(alloc) {
+    match MemoryTarget::new(alloc, &UNITS) {
         Some(target) => check_over(alloc, target, number, temper, seen),
         None => check(false, "memory for a target"),
-    }
-}
-
-fn new_target(alloc: Global) -> Option<TestTarget<MemoryDisk>> {
-    match memory_disks(alloc, &UNITS) {
-        Ok(disks) => TestTarget::over(alloc, disks),
-        Err(AllocError) => None,
     }
 }
 

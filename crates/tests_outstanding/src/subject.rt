@@ -1,9 +1,8 @@
 //! What a script is tried on. A script knows no more of it, so that no proof of the script's looks into a target.
-use block_store::Disk;
 use nvt_config::Access;
 use testkit_edits::Line;
 use testkit_plain_queues::{A, Change, host_name, line_of};
-use testkit_targets::TestTarget;
+use testkit_targets::MemoryTarget;
 
 /// A target, or what is to be like one: each call says whether it went as it has to.
 pub trait Subject {
@@ -36,7 +35,7 @@ pub trait Subject {
     fn empty(&mut self, number: usize) -> bool;
 }
 
-impl<D: Disk + Drop> Subject for TestTarget<D> {
+impl Subject for MemoryTarget {
     fn set_up(&mut self) -> bool {
         let has_subsystem = self.edits(Line::SubsystemAdd(A, b"SN-A", Access::Closed));
         let mut is_made = has_subsystem;
