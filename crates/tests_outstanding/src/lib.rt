@@ -3,12 +3,6 @@
 #![tactic(auto)]
 
 #[cfg(test)]
-mod commands;
-#[cfg(test)]
-mod draw;
-#[cfg(test)]
-mod edits;
-#[cfg(test)]
 mod random;
 #[cfg(test)]
 mod script;

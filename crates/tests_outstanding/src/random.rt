@@ -1,10 +1,10 @@
 //! Random scripts of a target beside the plain program.
-use crate::edits::whole_disk;
 use crate::script::{ENABLED, Script};
 use crate::step::{Temper, step};
 use crate::subject::Subject;
 use rand_pcg::Pcg32;
 use std::alloc::Global;
+use testkit_draws::whole_disk;
 use testkit_plain_queues::{CONTROLLERS, Change, NOTHING_SEEN, Seen, UNITS};
 use testkit_tables::{Outcome, Placed, check, check_rows, pass};
 use testkit_targets::MemoryTarget;

@@ -1,7 +1,7 @@
 //! A target and the plain program, to which the same happens.
-use crate::commands::whole_read;
 use crate::subject::Subject;
 use std::alloc::{AllocError, Global};
+use testkit_draws::whole_read;
 use testkit_plain_queues::{
     Change, Plain, QUEUES, Seen, configure, connect, ic_req, part, place_of, qid_of, term_req,
 };

@@ -1,11 +1,9 @@
 //! A step of a random script.
-use crate::commands::{capsule, piece};
-use crate::draw::{below, bytes, io_queue, rarely};
-use crate::edits::change;
 use crate::script::{ENABLED, RESET, SHUT, Script};
 use crate::subject::Subject;
 use rand_core::utils::NextWord;
 use rand_pcg::Pcg32;
+use testkit_draws::{below, bytes, capsule, change, io_queue, piece, rarely};
 use testkit_plain_queues::{Head, admin_of, begin_h2c_data};
 
 /// How the steps of a script are drawn.
