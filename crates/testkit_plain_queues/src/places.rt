@@ -3,12 +3,19 @@
 /// The subsystem.
 pub const A: &[u8] = b"nqn.2026-01.test:a";
 
+/// The hosts' names.
+pub const H0: &[u8] = b"nqn.2026-01.test:h0";
+
+pub const H1: &[u8] = b"nqn.2026-01.test:h1";
+
+pub const H2: &[u8] = b"nqn.2026-01.test:h2";
+
 /// The name of a host. The first one reads all disks and is never refused.
 pub fn host_name(host: usize) -> &'static [u8] {
     match host {
-        0 => b"nqn.2026-01.test:h0",
-        1 => b"nqn.2026-01.test:h1",
-        _ => b"nqn.2026-01.test:h2",
+        0 => H0,
+        1 => H1,
+        _ => H2,
     }
 }
 

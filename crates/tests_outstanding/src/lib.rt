@@ -3,10 +3,10 @@
 #![tactic(auto)]
 
 #[cfg(test)]
+mod first;
+#[cfg(test)]
 mod random;
 #[cfg(test)]
 mod script;
 #[cfg(test)]
 mod step;
-#[cfg(test)]
-mod subject;

@@ -1,7 +1,6 @@
 //! Random scripts of a target beside the plain program.
 use crate::script::{ENABLED, Script};
 use crate::step::{Temper, step};
-use crate::subject::Subject;
 use rand_pcg::Pcg32;
 use std::alloc::Global;
 use testkit_draws::whole_disk;
@@ -48,7 +47,7 @@ const TEMPERS: [Temper; 10] = [
 ];
 
 // Everything is there, and each queue is connected.
-fn begin<T: Subject + Drop>(script: &mut Script<T>) {
+fn begin(script: &mut Script) {
     script.set_up();
     add_all(script);
     for controller in 0..CONTROLLERS {
@@ -60,7 +59,7 @@ fn begin<T: Subject + Drop>(script: &mut Script<T>) {
     }
 }
 
-fn add_all<T: Subject + Drop>(script: &mut Script<T>) {
+fn add_all(script: &mut Script) {
     for nsid in 1..4usize {
         script.edits(Change::Add(nsid, whole_disk(nsid)));
     }
@@ -72,7 +71,7 @@ fn commands_at(number: usize) -> u32 {
 }
 
 // What still waits is finished, while edits are made.
-fn finish_all<T: Subject + Drop>(script: &mut Script<T>, random: &mut Pcg32) {
+fn finish_all(script: &mut Script, random: &mut Pcg32) {
     for _ in 0..4000 {
         if script.outcome.is_ok() && !script.plain.transfers.is_empty() {
             step(script, random, CALM, 0);
@@ -83,7 +82,7 @@ fn finish_all<T: Subject + Drop>(script: &mut Script<T>, random: &mut Pcg32) {
 }
 
 // All bytes of all disks.
-fn read_disks<T: Subject + Drop>(script: &mut Script<T>) {
+fn read_disks(script: &mut Script) {
     for nsid in 1..4usize {
         script.edits(Change::Delete(nsid));
     }
@@ -93,7 +92,7 @@ fn read_disks<T: Subject + Drop>(script: &mut Script<T>) {
     }
 }
 
-fn run<T: Subject + Drop>(script: &mut Script<T>, number: u64, temper: Temper) -> Outcome {
+fn run(script: &mut Script, number: u64, temper: Temper) -> Outcome {
     let mut random = Pcg32::new(SEED, number);
     begin(script);
     for number in 0..STEPS {
@@ -106,9 +105,9 @@ fn run<T: Subject + Drop>(script: &mut Script<T>, number: u64, temper: Temper) -
     script.outcome.at_step(STEPS)
 }
 
-fn check_over<T: Subject + Drop>(
+fn check_over(
     alloc: Global,
-    target: T,
+    target: MemoryTarget,
     number: u64,
     temper: Temper,
     seen: &mut Seen,

@@ -1,11 +1,13 @@
 //! A target and the plain program, to which the same happens.
-use crate::subject::Subject;
+use crate::first::FIRST;
 use std::alloc::{AllocError, Global};
 use testkit_draws::whole_read;
 use testkit_plain_queues::{
-    Change, Plain, QUEUES, Seen, configure, connect, ic_req, part, place_of, qid_of, term_req,
+    Change, Plain, QUEUES, Seen, configure, connect, ic_req, line_of, part, place_of, qid_of,
+    term_req,
 };
 use testkit_tables::{Outcome, check, check_bytes};
+use testkit_targets::MemoryTarget;
 
 /// The values of CC: a controller is enabled, shut down, or reset.
 pub const ENABLED: u32 = 0x0046_0001;
@@ -25,8 +27,8 @@ struct Begun {
 /// A target beside the plain program. What the target sends is taken away at each event. The first thing that
 /// is not as it is wanted is kept, and what comes after it says nothing.
 #[derive(Drop)]
-pub struct Script<T: Subject> {
-    target: T,
+pub struct Script {
+    target: MemoryTarget,
     pub plain: Plain,
     /// The PDU that a host sends next.
     pub pdu: Vec<u8>,
@@ -36,8 +38,8 @@ pub struct Script<T: Subject> {
     pub outcome: Outcome,
 }
 
-impl<T: Subject + Drop> Script<T> {
-    pub fn new(alloc: Global, target: T, seen: Seen) -> Script<T> {
+impl Script {
+    pub fn new(alloc: Global, target: MemoryTarget, seen: Seen) -> Script {
         Script {
             target,
             plain: Plain::new(alloc, seen),
@@ -69,14 +71,16 @@ impl<T: Subject + Drop> Script<T> {
     pub fn set_up(&mut self) {
         let laid = self.plain.lay_disks();
         self.makes(laid);
-        let is_set_up = self.target.set_up();
-        self.wants(is_set_up, "the edits that come first");
+        for line in FIRST {
+            let is_accepted = self.target.edits(*line);
+            self.wants(is_accepted, "an edit that comes first");
+        }
     }
 
     /// Makes an edit, or is refused.
     pub fn edits(&mut self, change: Change) {
         let accepts = self.plain.layout.accepts(change);
-        let is_accepted = self.target.edit(change);
+        let is_accepted = self.target.edits(line_of(change));
         if accepts {
             self.plain.edit(change);
         }
@@ -99,16 +103,16 @@ impl<T: Subject + Drop> Script<T> {
         let number = self.plain.number(queue);
         let outcome = self.checks_sent(number, is_owed);
         self.keep(outcome);
-        let is_empty = self.target.empty(number);
-        let is_ended = self.target.has_ended(number) == self.plain.is_ended(queue);
+        let is_empty = self.target.empties(number);
+        let is_ended = self.target.is_ended(number) == self.plain.is_ended(queue);
         self.wants(is_empty && is_ended, "whether a connection is ended");
     }
 
     fn checks_sent(&self, number: usize, is_owed: bool) -> Outcome {
         if is_owed {
-            check_bytes(self.target.output(number), &self.plain.owed)
+            check_bytes(self.target.sent(number), &self.plain.owed)
         } else {
-            check_bytes(self.target.output(number), &[])
+            check_bytes(self.target.sent(number), &[])
         }
     }
 
@@ -122,7 +126,7 @@ impl<T: Subject + Drop> Script<T> {
     fn opens(&mut self, queue: usize) {
         let port = (place_of(queue).port % 4) as u16;
         let number = self.plain.open(queue);
-        let is_open = self.target.open(port, number);
+        let is_open = self.target.opens_on(port, number);
         self.wants(is_open, "the least free number");
     }
 
@@ -170,7 +174,7 @@ impl<T: Subject + Drop> Script<T> {
     /// Gives a connection up.
     pub fn gives_up(&mut self, queue: usize) {
         let number = self.plain.number(queue);
-        self.target.give_up(number);
+        self.target.gives_up(number);
         self.plain.give_up(queue);
         self.checks_queues(QUEUES);
     }
@@ -181,7 +185,12 @@ impl<T: Subject + Drop> Script<T> {
         self.makes(taken);
         let number = self.plain.number(queue);
         let is_end = self.plain.is_ended(queue);
-        let is_taken = self.target.take(number, behind(&self.pdu, at), is_end);
+        let rest = behind(&self.pdu, at);
+        let is_taken = if is_end {
+            self.target.ends_by(number, rest)
+        } else {
+            self.target.takes(number, rest)
+        };
         self.wants(is_taken, "what a step takes");
         self.checks_queues(queue);
     }
@@ -190,7 +199,7 @@ impl<T: Subject + Drop> Script<T> {
     pub fn begins(&mut self, queue: usize, len: usize) {
         let len = len.min(self.pdu.len().saturating_sub(1));
         let number = self.plain.number(queue);
-        let is_idle = self.target.wait(number, part(&self.pdu, 0, len));
+        let is_idle = self.target.waits_for_more(number, part(&self.pdu, 0, len));
         self.wants(is_idle, "an idle step");
         let kept = self.keeps_pdu(queue, len);
         self.makes(kept);

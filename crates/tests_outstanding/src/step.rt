@@ -1,6 +1,5 @@
 //! A step of a random script.
 use crate::script::{ENABLED, RESET, SHUT, Script};
-use crate::subject::Subject;
 use rand_core::utils::NextWord;
 use rand_pcg::Pcg32;
 use testkit_draws::{below, bytes, capsule, change, io_queue, piece, rarely};
@@ -36,12 +35,7 @@ enum Trouble {
 }
 
 /// A step, which is a command so many times of a hundred.
-pub fn step<T: Subject + Drop>(
-    script: &mut Script<T>,
-    random: &mut Pcg32,
-    temper: Temper,
-    commands: u32,
-) {
+pub fn step(script: &mut Script, random: &mut Pcg32, temper: Temper, commands: u32) {
     match draw_action(random, temper.is_rough, commands) {
         Action::Submit => submit(script, random, temper),
         Action::BringPiece => bring_piece(script, random, temper.is_rough),
@@ -68,7 +62,7 @@ fn draw_action(random: &mut Pcg32, is_rough: bool, commands: u32) -> Action {
 }
 
 // The PDU comes whole, in two pieces, or for now in part.
-fn deliver<T: Subject + Drop>(script: &mut Script<T>, random: &mut Pcg32, queue: usize) {
+fn deliver(script: &mut Script, random: &mut Pcg32, queue: usize) {
     if rarely(random, 2) {
         script.brings(queue, 0);
         return;
@@ -81,7 +75,7 @@ fn deliver<T: Subject + Drop>(script: &mut Script<T>, random: &mut Pcg32, queue:
 }
 
 // A queue that is not connected, or whose controller is not ready, comes a step nearer to it.
-fn restore<T: Subject + Drop>(script: &mut Script<T>, random: &mut Pcg32, queue: usize) {
+fn restore(script: &mut Script, random: &mut Pcg32, queue: usize) {
     let admin = admin_of(queue);
     if !script.plain.is_connected(admin) {
         renew(script, admin);
@@ -95,7 +89,7 @@ fn restore<T: Subject + Drop>(script: &mut Script<T>, random: &mut Pcg32, queue:
 }
 
 // A connection that ended is given up, and one that is closed opens.
-fn renew<T: Subject + Drop>(script: &mut Script<T>, queue: usize) {
+fn renew(script: &mut Script, queue: usize) {
     if script.plain.is_ended(queue) {
         script.gives_up(queue);
     } else if script.plain.is_closed(queue) {
@@ -104,7 +98,7 @@ fn renew<T: Subject + Drop>(script: &mut Script<T>, queue: usize) {
 }
 
 // A controller is enabled; one that was shut down is reset first.
-fn enable<T: Subject + Drop>(script: &mut Script<T>, admin: usize) {
+fn enable(script: &mut Script, admin: usize) {
     let cc = if script.plain.controller(admin).is_enabled {
         RESET
     } else {
@@ -114,7 +108,7 @@ fn enable<T: Subject + Drop>(script: &mut Script<T>, admin: usize) {
 }
 
 // A queue, drawn again where it is full.
-fn less_full<T: Subject + Drop>(script: &Script<T>, random: &mut Pcg32) -> usize {
+fn less_full(script: &Script, random: &mut Pcg32) -> usize {
     let queue = io_queue(random);
     if script.plain.is_full(queue) {
         io_queue(random)
@@ -124,7 +118,7 @@ fn less_full<T: Subject + Drop>(script: &Script<T>, random: &mut Pcg32) -> usize
 }
 
 // One more command of a queue.
-fn submit<T: Subject + Drop>(script: &mut Script<T>, random: &mut Pcg32, temper: Temper) {
+fn submit(script: &mut Script, random: &mut Pcg32, temper: Temper) {
     let queue = match temper.only {
         Some(queue) => queue,
         None => less_full(script, random),
@@ -140,7 +134,7 @@ fn submit<T: Subject + Drop>(script: &mut Script<T>, random: &mut Pcg32, temper:
     }
 }
 
-fn send_capsule<T: Subject + Drop>(script: &mut Script<T>, random: &mut Pcg32, queue: usize) {
+fn send_capsule(script: &mut Script, random: &mut Pcg32, queue: usize) {
     script.pdu.clear();
     let made = capsule(&mut script.pdu, random, &script.plain, queue);
     script.makes(made);
@@ -148,7 +142,7 @@ fn send_capsule<T: Subject + Drop>(script: &mut Script<T>, random: &mut Pcg32, q
 }
 
 // More data for a command that waits.
-fn bring_piece<T: Subject + Drop>(script: &mut Script<T>, random: &mut Pcg32, is_rough: bool) {
+fn bring_piece(script: &mut Script, random: &mut Pcg32, is_rough: bool) {
     let place = random.next_word() as usize % script.plain.transfers.len().max(1);
     let Some(queue) = script.plain.waits_on(place) else {
         return;
@@ -165,7 +159,7 @@ fn bring_piece<T: Subject + Drop>(script: &mut Script<T>, random: &mut Pcg32, is
 }
 
 // A controller is reset or shut down, or a connection goes.
-fn disturb<T: Subject + Drop>(script: &mut Script<T>, random: &mut Pcg32) {
+fn disturb(script: &mut Script, random: &mut Pcg32) {
     let queue = io_queue(random);
     let admin = admin_of(queue);
     match draw_trouble(script, random, queue) {
@@ -179,11 +173,7 @@ fn disturb<T: Subject + Drop>(script: &mut Script<T>, random: &mut Pcg32) {
     }
 }
 
-fn draw_trouble<T: Subject + Drop>(
-    script: &Script<T>,
-    random: &mut Pcg32,
-    queue: usize,
-) -> Trouble {
+fn draw_trouble(script: &Script, random: &mut Pcg32, queue: usize) -> Trouble {
     let is_connected = script.plain.is_connected(queue) && !script.has_begun(queue);
     let is_controlled = script.plain.is_connected(admin_of(queue));
     match below(random, 9) {
@@ -198,7 +188,7 @@ fn draw_trouble<T: Subject + Drop>(
 }
 
 // Data that no command of the queue waits for.
-fn send_data<T: Subject + Drop>(script: &mut Script<T>, random: &mut Pcg32, queue: usize) {
+fn send_data(script: &mut Script, random: &mut Pcg32, queue: usize) {
     let head = Head {
         cid: 3,
         ttag: 0,
