@@ -172,12 +172,6 @@ impl MemoryPorts {
         }
     }
 
-    fn is_in_use(&self, slot: usize) -> bool
-        ensures { result ≡ slice_index_or self.now.in_use slot false }
-    {
-        self.in_use.get(slot).copied().unwrap_or(false)
-    }
-
     // The next step is over.
     fn pass_over(&mut self) -> PortEvent
         ensures in_use { self.new.in_use ≡ self.old.in_use }
