@@ -77,7 +77,9 @@ impl Work {
         let mut exchanges = Vec::new(alloc);
         let pdu = match self {
             Work::Write => self.command().pdu(alloc, &[0x5A; BLOCK_LEN])?,
-            _ => self.command().pdu(alloc, &[])?,
+            Work::Read | Work::LongRead | Work::LongestRead | Work::LongestWrite => {
+                self.command().pdu(alloc, &[])?
+            }
         };
         let answer_len = self.answer_len();
         exchanges.push(Exchange { pdu, answer_len })?;

@@ -38,118 +38,34 @@ pub words-join : (word : List ℕ) (ws : List (List ℕ)) → AllByRecursion IsW
 words-join word [] all = slice_split_none (λ b. b == 32) word (all.0).no_space
 words-join word (next ∷ ws) all = slice_split_at (λ b. b == 32) word 32 (join_with_byte 32 (next ∷ ws)) (all.0).no_space refl ∙ ap (λ l. word ∷ l) (words-join next ws all.1)
 
--- the words of commands
-noun_plain : (c : Command) → is_plain (grammar_of c).noun ≡ true
-noun_plain command.SubsystemAdd = refl
-noun_plain command.SubsystemSet = refl
-noun_plain command.SubsystemDel = refl
-noun_plain command.NamespaceAdd = refl
-noun_plain command.NamespaceSize = refl
-noun_plain command.NamespaceGroup = refl
-noun_plain command.NamespaceDel = refl
-noun_plain command.PortAdd = refl
-noun_plain command.PortSet = refl
-noun_plain command.PortDel = refl
-noun_plain command.LinkAdd = refl
-noun_plain command.LinkDel = refl
-noun_plain command.HostAdd = refl
-noun_plain command.HostDel = refl
-noun_plain command.AllowAdd = refl
-noun_plain command.AllowDel = refl
-noun_plain command.AnaSet = refl
-noun_plain command.ReferralAdd = refl
-noun_plain command.ReferralSet = refl
-noun_plain command.ReferralDel = refl
+-- the two words that a command begins with are plain, the first is known, and no other command begins with both
+record HasWords (c : Command) : Type 0 where
+  noun : is_plain (grammar_of c).noun ≡ true
+  verb : is_plain (grammar_of c).verb ≡ true
+  known_noun : is_noun (grammar_of c).noun ≡ true
+  known : command_from (grammar_of c).noun (grammar_of c).verb ≡ Some c
 
-verb_plain : (c : Command) → is_plain (grammar_of c).verb ≡ true
-verb_plain command.SubsystemAdd = refl
-verb_plain command.SubsystemSet = refl
-verb_plain command.SubsystemDel = refl
-verb_plain command.NamespaceAdd = refl
-verb_plain command.NamespaceSize = refl
-verb_plain command.NamespaceGroup = refl
-verb_plain command.NamespaceDel = refl
-verb_plain command.PortAdd = refl
-verb_plain command.PortSet = refl
-verb_plain command.PortDel = refl
-verb_plain command.LinkAdd = refl
-verb_plain command.LinkDel = refl
-verb_plain command.HostAdd = refl
-verb_plain command.HostDel = refl
-verb_plain command.AllowAdd = refl
-verb_plain command.AllowDel = refl
-verb_plain command.AnaSet = refl
-verb_plain command.ReferralAdd = refl
-verb_plain command.ReferralSet = refl
-verb_plain command.ReferralDel = refl
-
-noun_known : (c : Command) → is_noun (grammar_of c).noun ≡ true
-noun_known command.SubsystemAdd = refl
-noun_known command.SubsystemSet = refl
-noun_known command.SubsystemDel = refl
-noun_known command.NamespaceAdd = refl
-noun_known command.NamespaceSize = refl
-noun_known command.NamespaceGroup = refl
-noun_known command.NamespaceDel = refl
-noun_known command.PortAdd = refl
-noun_known command.PortSet = refl
-noun_known command.PortDel = refl
-noun_known command.LinkAdd = refl
-noun_known command.LinkDel = refl
-noun_known command.HostAdd = refl
-noun_known command.HostDel = refl
-noun_known command.AllowAdd = refl
-noun_known command.AllowDel = refl
-noun_known command.AnaSet = refl
-noun_known command.ReferralAdd = refl
-noun_known command.ReferralSet = refl
-noun_known command.ReferralDel = refl
-
--- no two commands begin with the same two words
-command_known : (c : Command) → command_from (grammar_of c).noun (grammar_of c).verb ≡ Some c
-command_known command.SubsystemAdd = refl
-command_known command.SubsystemSet = refl
-command_known command.SubsystemDel = refl
-command_known command.NamespaceAdd = refl
-command_known command.NamespaceSize = refl
-command_known command.NamespaceGroup = refl
-command_known command.NamespaceDel = refl
-command_known command.PortAdd = refl
-command_known command.PortSet = refl
-command_known command.PortDel = refl
-command_known command.LinkAdd = refl
-command_known command.LinkDel = refl
-command_known command.HostAdd = refl
-command_known command.HostDel = refl
-command_known command.AllowAdd = refl
-command_known command.AllowDel = refl
-command_known command.AnaSet = refl
-command_known command.ReferralAdd = refl
-command_known command.ReferralSet = refl
-command_known command.ReferralDel = refl
-
--- the forms of an edit's values are those of its command
-pub forms_of : (e : Edit) → map form_of (values_of e) ≡ (grammar_of (command_of e)).forms
-forms_of (edit.SubsystemAdd n s a) = refl
-forms_of (edit.SubsystemSet n a) = refl
-forms_of (edit.SubsystemDel n) = refl
-forms_of (edit.NamespaceAdd n) = refl
-forms_of (edit.NamespaceSize s n b) = refl
-forms_of (edit.NamespaceGroup s n g) = refl
-forms_of (edit.NamespaceDel s n) = refl
-forms_of (edit.PortAdd e) = refl
-forms_of (edit.PortSet e) = refl
-forms_of (edit.PortDel i) = refl
-forms_of (edit.LinkAdd p s) = refl
-forms_of (edit.LinkDel p s) = refl
-forms_of (edit.HostAdd n) = refl
-forms_of (edit.HostDel n) = refl
-forms_of (edit.AllowAdd s h) = refl
-forms_of (edit.AllowDel s h) = refl
-forms_of (edit.AnaSet p s g t) = refl
-forms_of (edit.ReferralAdd e) = refl
-forms_of (edit.ReferralSet e) = refl
-forms_of (edit.ReferralDel i) = refl
+has_words : (c : Command) → HasWords c
+has_words command.SubsystemAdd = record { noun = refl; verb = refl; known_noun = refl; known = refl }
+has_words command.SubsystemSet = record { noun = refl; verb = refl; known_noun = refl; known = refl }
+has_words command.SubsystemDel = record { noun = refl; verb = refl; known_noun = refl; known = refl }
+has_words command.NamespaceAdd = record { noun = refl; verb = refl; known_noun = refl; known = refl }
+has_words command.NamespaceSize = record { noun = refl; verb = refl; known_noun = refl; known = refl }
+has_words command.NamespaceGroup = record { noun = refl; verb = refl; known_noun = refl; known = refl }
+has_words command.NamespaceDel = record { noun = refl; verb = refl; known_noun = refl; known = refl }
+has_words command.PortAdd = record { noun = refl; verb = refl; known_noun = refl; known = refl }
+has_words command.PortSet = record { noun = refl; verb = refl; known_noun = refl; known = refl }
+has_words command.PortDel = record { noun = refl; verb = refl; known_noun = refl; known = refl }
+has_words command.LinkAdd = record { noun = refl; verb = refl; known_noun = refl; known = refl }
+has_words command.LinkDel = record { noun = refl; verb = refl; known_noun = refl; known = refl }
+has_words command.HostAdd = record { noun = refl; verb = refl; known_noun = refl; known = refl }
+has_words command.HostDel = record { noun = refl; verb = refl; known_noun = refl; known = refl }
+has_words command.AllowAdd = record { noun = refl; verb = refl; known_noun = refl; known = refl }
+has_words command.AllowDel = record { noun = refl; verb = refl; known_noun = refl; known = refl }
+has_words command.AnaSet = record { noun = refl; verb = refl; known_noun = refl; known = refl }
+has_words command.ReferralAdd = record { noun = refl; verb = refl; known_noun = refl; known = refl }
+has_words command.ReferralSet = record { noun = refl; verb = refl; known_noun = refl; known = refl }
+has_words command.ReferralDel = record { noun = refl; verb = refl; known_noun = refl; known = refl }
 
 -- what the values of an edit are, each by its place
 abbrev bytes_of : Value → List ℕ
@@ -229,27 +145,32 @@ edit_of command.ReferralAdd vs = edit.ReferralAdd (endpoint_of vs)
 edit_of command.ReferralSet vs = edit.ReferralSet (endpoint_of vs)
 edit_of command.ReferralDel vs = edit.ReferralDel (number_of (at vs 0))
 
-edit_back : (e : Edit) → edit_of (command_of e) (values_of e) ≡ e
-edit_back (edit.SubsystemAdd n s a) = refl
-edit_back (edit.SubsystemSet n a) = refl
-edit_back (edit.SubsystemDel n) = refl
-edit_back (edit.NamespaceAdd n) = refl
-edit_back (edit.NamespaceSize s n b) = refl
-edit_back (edit.NamespaceGroup s n g) = refl
-edit_back (edit.NamespaceDel s n) = refl
-edit_back (edit.PortAdd e) = refl
-edit_back (edit.PortSet e) = refl
-edit_back (edit.PortDel i) = refl
-edit_back (edit.LinkAdd p s) = refl
-edit_back (edit.LinkDel p s) = refl
-edit_back (edit.HostAdd n) = refl
-edit_back (edit.HostDel n) = refl
-edit_back (edit.AllowAdd s h) = refl
-edit_back (edit.AllowDel s h) = refl
-edit_back (edit.AnaSet p s g t) = refl
-edit_back (edit.ReferralAdd e) = refl
-edit_back (edit.ReferralSet e) = refl
-edit_back (edit.ReferralDel i) = refl
+-- the values of an edit have the forms of its command, and with it they are that edit
+record IsOfCommand (e : Edit) : Type 0 where
+  forms : map form_of (values_of e) ≡ (grammar_of (command_of e)).forms
+  back : edit_of (command_of e) (values_of e) ≡ e
+
+of_command : (e : Edit) → IsOfCommand e
+of_command (edit.SubsystemAdd n s a) = record { forms = refl; back = refl }
+of_command (edit.SubsystemSet n a) = record { forms = refl; back = refl }
+of_command (edit.SubsystemDel n) = record { forms = refl; back = refl }
+of_command (edit.NamespaceAdd n) = record { forms = refl; back = refl }
+of_command (edit.NamespaceSize s n b) = record { forms = refl; back = refl }
+of_command (edit.NamespaceGroup s n g) = record { forms = refl; back = refl }
+of_command (edit.NamespaceDel s n) = record { forms = refl; back = refl }
+of_command (edit.PortAdd e) = record { forms = refl; back = refl }
+of_command (edit.PortSet e) = record { forms = refl; back = refl }
+of_command (edit.PortDel i) = record { forms = refl; back = refl }
+of_command (edit.LinkAdd p s) = record { forms = refl; back = refl }
+of_command (edit.LinkDel p s) = record { forms = refl; back = refl }
+of_command (edit.HostAdd n) = record { forms = refl; back = refl }
+of_command (edit.HostDel n) = record { forms = refl; back = refl }
+of_command (edit.AllowAdd s h) = record { forms = refl; back = refl }
+of_command (edit.AllowDel s h) = record { forms = refl; back = refl }
+of_command (edit.AnaSet p s g t) = record { forms = refl; back = refl }
+of_command (edit.ReferralAdd e) = record { forms = refl; back = refl }
+of_command (edit.ReferralSet e) = record { forms = refl; back = refl }
+of_command (edit.ReferralDel i) = record { forms = refl; back = refl }
 
 -- the value that a word of a form says
 abbrev value_from : Form → List ℕ → Value
@@ -331,7 +252,7 @@ value_words (v ∷ vs) all = (value_word v all.0, value_words vs all.1)
 pub words-line_of : (e : Edit) → IsSayable e → words (line_of e) ≡ words_of e
 words-line_of e sayable =
     let c = command_of e in
-    words-join (grammar_of c).noun ((grammar_of c).verb ∷ map word_of (values_of e)) (plain_word _ (noun_plain c), (plain_word _ (verb_plain c), value_words (values_of e) sayable))
+    words-join (grammar_of c).noun ((grammar_of c).verb ∷ map word_of (values_of e)) (plain_word _ (has_words c).noun, (plain_word _ (has_words c).verb, value_words (values_of e) sayable))
 
 no_forms_fault : (end column : ℕ) (vs : List Value) → AllByRecursion IsSaid vs → forms_fault end column (map form_of vs) (map word_of vs) ≡ None
 no_forms_fault end column [] all = refl
@@ -348,10 +269,10 @@ no_words_fault end e sayable =
     let ws : List (List ℕ) = map word_of (values_of e) in
     let second : ℕ = length noun + 1 in
     let third : ℕ = second + length verb + 1 in
-    word_passes 0 noun (is_noun noun) UnknownWord (verb_fault end second noun (verb ∷ ws)) (plain_word noun (noun_plain c)).nonempty (noun_known c)
-    ∙ word_passes second verb (is_some (command_from noun verb)) UnknownWord (command_fault end third (command_from noun verb) ws) (plain_word verb (verb_plain c)).nonempty (ap is_some (command_known c))
-    ∙ ap (λ o. command_fault end third o ws) (command_known c)
-    ∙ ap (λ fs. forms_fault end third fs ws) (sym (forms_of e))
+    word_passes 0 noun (is_noun noun) UnknownWord (verb_fault end second noun (verb ∷ ws)) (plain_word noun (has_words c).noun).nonempty (has_words c).known_noun
+    ∙ word_passes second verb (is_some (command_from noun verb)) UnknownWord (command_fault end third (command_from noun verb) ws) (plain_word verb (has_words c).verb).nonempty (ap is_some (has_words c).known)
+    ∙ ap (λ o. command_fault end third o ws) (has_words c).known
+    ∙ ap (λ fs. forms_fault end third fs ws) (sym (of_command e).forms)
     ∙ no_forms_fault end third (values_of e) sayable
 
 not_longer : (n : ℕ) → n ≤ 1024 → nat_lt 1024 n ≡ false
@@ -374,15 +295,15 @@ some_same is = cc
 -- an edit, by its command and the words of its values
 decode : (e : Edit) → IsSayable e → edit_of (command_of e) (values_from (grammar_of (command_of e)).forms (map word_of (values_of e))) ≡ e
 decode e sayable =
-    ap (λ fs. edit_of (command_of e) (values_from fs (map word_of (values_of e)))) (sym (forms_of e))
-    ∙ ap (edit_of (command_of e)) (values_back (values_of e) sayable) ∙ edit_back e
+    ap (λ fs. edit_of (command_of e) (values_from fs (map word_of (values_of e)))) (sym (of_command e).forms)
+    ∙ ap (edit_of (command_of e)) (values_back (values_of e) sayable) ∙ (of_command e).back
 
 same_edit : (e f : Edit) → IsSayable e → IsSayable f → words_of e ≡ words_of f → e ≡ f
 same_edit e f said_e said_f is =
     let noun = cons_same is in
     let verb = cons_same noun.1 in
-    let same : command_of e ≡ command_of f = some_same (sym (command_known (command_of e)) ∙ ap (λ w. command_from w (grammar_of (command_of e)).verb) noun.0
-    ∙ ap (λ w. command_from (grammar_of (command_of f)).noun w) verb.0 ∙ command_known (command_of f)) in
+    let same : command_of e ≡ command_of f = some_same (sym (has_words (command_of e)).known ∙ ap (λ w. command_from w (grammar_of (command_of e)).verb) noun.0
+    ∙ ap (λ w. command_from (grammar_of (command_of f)).noun w) verb.0 ∙ (has_words (command_of f)).known) in
     sym (decode e said_e) ∙ ap (λ c. edit_of c (values_from (grammar_of c).forms (map word_of (values_of e)))) same
     ∙ ap (λ ws. edit_of (command_of f) (values_from (grammar_of (command_of f)).forms ws)) verb.1 ∙ decode f said_f
 

@@ -176,7 +176,11 @@ fn leave(rows: &mut Controllers, cause: &EndCause)
     match cause {
         EndCause::Queue { cntlid, qid } => rows.leave(*cntlid, *qid),
         EndCause::Reset(cntlid) => rows.leave_all(*cntlid),
-        _ => {}
+        EndCause::Nothing
+        | EndCause::Port(_)
+        | EndCause::Permission
+        | EndCause::Controller(_)
+        | EndCause::Clock(_) => {}
     }
 }
 

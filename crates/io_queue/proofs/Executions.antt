@@ -11,9 +11,9 @@ use Rattle.block_store.specs.Unit.{zero_unit}
 use Rattle.block_store.specs.Write.{Write}
 use Rattle.config_lists.proofs.Names.{bytes_eq-same, same_name}
 use Rattle.nvt_fields.specs.declared.status.Status.{Status}
+use Rattle.io_queue.specs.declared.operation.Action.TheVariants as action
 use Rattle.io_queue.specs.declared.operation.Extent.{Extent}
 use Rattle.io_queue.specs.declared.operation.Operation.{Operation}
-use Rattle.io_queue.specs.declared.operation.Operation.TheVariants as operation
 use Rattle.io_queue.specs.declared.reply.DataFormat.{DataFormat}
 use Rattle.io_queue.specs.Act.{Compares, CountsBy, Flushes, IsOfRead, IsOfWrite, DiskOutcome, Writes, extent_bytes, good, read_fault, read_status, write_fault_after, write_status, written_by}
 use Rattle.io_queue.specs.Execution.{Performs, PerformsOn, Syncs, SyncsIn, Tells, compared, contents_at, disk_at, faults_at, new_of, no_disk, size_of, sizes, write_of, write_on, written}
@@ -21,16 +21,16 @@ use Rattle.io_queue.specs.Operation.{HasExtent, IsOnDisk, IsWithin, brought, dis
 use Rattle.io_queue.specs.Reply.{AppendsRead, read_by, returned_pdus}
 
 pub read_performed : (e : Extent) (bytes : List ℕ) (format : DataFormat) (old new : Stored) (output appended : List ℕ) (status : Status)
-    → AppendsRead format e old new output appended status → PerformsOn (operation.Read e) bytes format old new output appended status
+    → AppendsRead format e old new output appended status → PerformsOn e action.Read bytes format old new output appended status
 read_performed e bytes format old new output appended status h = by h.disk_outcome h.of_read h.answer h.sends h.faults where
   by : (m : DiskOutcome) → IsOfRead m → status ≡ read_status m → appended ≡ output ++ returned_pdus format (read_by m (extent_bytes e old))
-      → CountsBy m old.faults new.faults → PerformsOn (operation.Read e) bytes format old new output appended status
+      → CountsBy m old.faults new.faults → PerformsOn e action.Read bytes format old new output appended status
   by good of answer sends faults = record { disk_outcome = good; meets = tt; answer = answer; sends = sends; contents = h.contents; faults = faults }
   by read_fault of answer sends faults = record { disk_outcome = read_fault; meets = tt; answer = answer; sends = sends; contents = h.contents; faults = faults }
   by (write_fault_after n) of answer sends faults = absurd of
 
 pub compare_performed : (e : Extent) (at : ℕ) (bytes : List ℕ) (format : DataFormat) (old new : Stored) (output : List ℕ) (status : Status)
-    → Compares e (brought e at bytes) old new status → PerformsOn (operation.Compare e at) bytes format old new output output status
+    → Compares e (brought e at bytes) old new status → PerformsOn e (action.Compare at) bytes format old new output output status
 compare_performed e at bytes format old new output status h = by h.disk_outcome refl h.of_read h.faults where
   is_same : (test : Bool) → bytes_eq (brought e at bytes) (extent_bytes e old) ≡ test → h.disk_outcome ≡ good → status ≡ compared test
   is_same true same is = h.same is (same_name (brought e at bytes) (extent_bytes e old) same)
@@ -39,7 +39,7 @@ compare_performed e at bytes format old new output status h = by h.disk_outcome 
     differ same = cc
 
   by : (m : DiskOutcome) → h.disk_outcome ≡ m → IsOfRead m → CountsBy m old.faults new.faults
-      → PerformsOn (operation.Compare e at) bytes format old new output output status
+      → PerformsOn e (action.Compare at) bytes format old new output output status
   by good is of faults = record {
     disk_outcome = good;
     meets = tt;
@@ -59,13 +59,13 @@ units_len bytes units is =
 
 pub write_performed : (e : Extent) (at : ℕ) (fua : Bool) (bytes : List ℕ) (format : DataFormat) (old new : Stored) (output : List ℕ) (status : Status)
     → length (brought e at bytes) ≡ 512 * e.units → Writes e.first (units_of (brought e at bytes)) old new status
-    → PerformsOn (operation.Write e at fua) bytes format old new output output status
+    → PerformsOn e (action.Write at fua) bytes format old new output output status
 write_performed e at fua bytes format old new output status len h = by h.disk_outcome h.of_write h.answer h.contents h.faults where
   units : List (List ℕ)
   units = units_of (brought e at bytes)
 
   by : (m : DiskOutcome) → IsOfWrite (length units) m → status ≡ write_status m → new.contents ≡ written_by m e.first units old.contents
-      → CountsBy m old.faults new.faults → PerformsOn (operation.Write e at fua) bytes format old new output output status
+      → CountsBy m old.faults new.faults → PerformsOn e (action.Write at fua) bytes format old new output output status
   by good of answer contents faults = record { disk_outcome = good; meets = tt; answer = answer; sends = simp append-nil; contents = contents; faults = faults }
   by read_fault of answer contents faults = absurd of
   by (write_fault_after n) of answer contents faults = record {
@@ -78,13 +78,13 @@ write_performed e at fua bytes format old new output status len h = by h.disk_ou
   }
 
 pub zeroes_performed : (e : Extent) (fua : Bool) (bytes : List ℕ) (format : DataFormat) (old new : Stored) (output : List ℕ) (status : Status)
-    → Writes e.first (replicate e.units zero_unit) old new status → PerformsOn (operation.WriteZeroes e fua) bytes format old new output output status
+    → Writes e.first (replicate e.units zero_unit) old new status → PerformsOn e (action.WriteZeroes fua) bytes format old new output output status
 zeroes_performed e fua bytes format old new output status h = by h.disk_outcome h.of_write h.answer h.contents h.faults where
   units : List (List ℕ)
   units = replicate e.units zero_unit
 
   by : (m : DiskOutcome) → IsOfWrite (length units) m → status ≡ write_status m → new.contents ≡ written_by m e.first units old.contents
-      → CountsBy m old.faults new.faults → PerformsOn (operation.WriteZeroes e fua) bytes format old new output output status
+      → CountsBy m old.faults new.faults → PerformsOn e (action.WriteZeroes fua) bytes format old new output output status
   by good of answer contents faults = record { disk_outcome = good; meets = tt; answer = answer; sends = simp append-nil; contents = contents; faults = faults }
   by read_fault of answer contents faults = absurd of
   by (write_fault_after n) of answer contents faults = record {
@@ -96,16 +96,16 @@ zeroes_performed e fua bytes format old new output status h = by h.disk_outcome 
     faults = faults;
   }
 
-pub flush_performed : (disk : ℕ) (bytes : List ℕ) (format : DataFormat) (old new : Stored) (output : List ℕ) (status : Status) → Flushes old new status
-    → PerformsOn (operation.Flush disk) bytes format old new output output status
-flush_performed disk bytes format old new output status h = by h.disk_outcome h.of_write h.answer h.contents h.faults where
+pub flush_performed : (e : Extent) (bytes : List ℕ) (format : DataFormat) (old new : Stored) (output : List ℕ) (status : Status) → Flushes old new status
+    → PerformsOn e action.Flush bytes format old new output output status
+flush_performed e bytes format old new output status h = by h.disk_outcome h.of_write h.answer h.contents h.faults where
   by : (m : DiskOutcome) → IsOfWrite 0 m → status ≡ write_status m → new.contents ≡ written_by m 0 [] old.contents
-      → CountsBy m old.faults new.faults → PerformsOn (operation.Flush disk) bytes format old new output output status
+      → CountsBy m old.faults new.faults → PerformsOn e action.Flush bytes format old new output output status
   by good of answer contents faults = record { disk_outcome = good; meets = tt; answer = answer; sends = simp append-nil; contents = contents; faults = faults }
   by read_fault of answer contents faults = absurd of
   by (write_fault_after n) of answer contents faults = record {
     disk_outcome = write_fault_after n;
-    meets = of;
+    meets = omega (arith, of);
     answer = answer;
     sends = simp append-nil;
     contents = contents ∙ ap (overwritten old.contents 0) (take-nil n);
@@ -132,23 +132,15 @@ extent disks e h = rw (get_or-map size_of disks e.disk no_disk) at h.within
 
 -- what an operation asks of its disk
 pub disk_there : (disks : List Stored) (brings : ℕ) (op : Operation) → IsWithin (sizes disks) brings op → disk_of op < length disks
-disk_there disks brings (operation.Flush disk) h = below disks disk h
-disk_there disks brings (operation.Read e) h = below disks e.disk h.0.disk
-disk_there disks brings (operation.Write e at fua) h = below disks e.disk h.0.disk
-disk_there disks brings (operation.Compare e at) h = below disks e.disk h.0.disk
-disk_there disks brings (operation.WriteZeroes e fua) h = below disks e.disk h.disk
+disk_there disks brings op h = below disks op.extent.disk h.0.disk
 
 on_disk : (disks : List Stored) (brings : ℕ) (op : Operation) → IsWithin (sizes disks) brings op
-    → IsOnDisk (length (contents_at disks (disk_of op))) brings op
-on_disk disks brings (operation.Flush disk) h = tt
-on_disk disks brings (operation.Read e) h = (extent disks e h.0, h.1)
-on_disk disks brings (operation.Write e at fua) h = (extent disks e h.0, h.1)
-on_disk disks brings (operation.Compare e at) h = (extent disks e h.0, h.1)
-on_disk disks brings (operation.WriteZeroes e fua) h = extent disks e h
+    → IsOnDisk (length (contents_at disks (disk_of op))) brings op.extent op.action
+on_disk disks brings op h = (extent disks op.extent h.0, h.1)
 
 -- .. whatever stands for a disk that is not there
 pub within_on : (disks : List Stored) (brings : ℕ) (op : Operation) (none : Stored) → IsWithin (sizes disks) brings op
-    → IsOnDisk (length (slice_index_or disks (disk_of op) none).contents) brings op
+    → IsOnDisk (length (slice_index_or disks (disk_of op) none).contents) brings op.extent op.action
 within_on disks brings op none h = rw (get_or_default disks (disk_of op) none no_disk (disk_there disks brings op h)) (on_disk disks brings op h)
 
 -- what an act makes of each disk
@@ -182,7 +174,7 @@ told m disks i new within h = by m h where
 -- an operation that is performed on one disk is performed on them all
 performed_on : (op : Operation) (bytes : List ℕ) (format : DataFormat) (disks : List Stored) (new : Stored) (output appended : List ℕ) (status : Status)
     → disk_of op < length disks → length new.contents ≡ length (contents_at disks (disk_of op))
-    → PerformsOn op bytes format (disk_at disks (disk_of op)) new output appended status
+    → PerformsOn op.extent op.action bytes format (disk_at disks (disk_of op)) new output appended status
     → Performs op bytes format disks (slice_set disks (disk_of op) new) output appended status
 performed_on op bytes format disks new output appended status within same h = record {
   disk_outcome = h.disk_outcome;
@@ -197,7 +189,7 @@ performed_on op bytes format disks new output appended status within same h = re
 -- .. whatever stands for a disk that is not there
 pub performed_at : (op : Operation) (bytes : List ℕ) (format : DataFormat) (disks : List Stored) (none new : Stored) (output appended : List ℕ) (status : Status)
     → IsWithin (sizes disks) (length bytes) op → length new.contents ≡ length (slice_index_or disks (disk_of op) none).contents
-    → PerformsOn op bytes format (slice_index_or disks (disk_of op) none) new output appended status
+    → PerformsOn op.extent op.action bytes format (slice_index_or disks (disk_of op) none) new output appended status
     → Performs op bytes format disks (slice_set disks (disk_of op) new) output appended status
 performed_at op bytes format disks none new output appended status within same h =
     let there = disk_there disks (length bytes) op within in
@@ -205,5 +197,5 @@ performed_at op bytes format disks none new output appended status within same h
     performed_on op bytes format disks new output appended status there (rw other at same) (rw other at h)
 
 pub synced_at : (op : Operation) (brings : ℕ) (disks : List Stored) (new : Stored) (status : Status) → IsWithin (sizes disks) brings op
-    → Syncs op new status → SyncsIn op (slice_set disks (disk_of op) new) status
+    → Syncs op.action new status → SyncsIn op (slice_set disks (disk_of op) new) status
 synced_at op brings disks new status within h = rw (here disks (disk_of op) new (disk_there disks brings op within)) h

@@ -22,11 +22,11 @@ use Rattle.io_queue.specs.declared.beginning.Placed.{Placed}
 use Rattle.io_queue.specs.declared.beginning.Placed.TheVariants.{InCapsule, ToCome}
 use Rattle.io_queue.specs.declared.opcode.IoOpcode.{IoOpcode}
 use Rattle.io_queue.specs.declared.opcode.IoOpcode.TheVariants as opcode
+use Rattle.io_queue.specs.declared.operation.Action.TheVariants as action
 use Rattle.io_queue.specs.declared.operation.Extent.{Extent}
 use Rattle.io_queue.specs.declared.operation.Operation.{Operation}
-use Rattle.io_queue.specs.declared.operation.Operation.TheVariants as operation
 use Rattle.io_queue.specs.Opcode.{opcode_of_code}
-use Rattle.io_queue.specs.Operation.{HasExtent, IsWithin}
+use Rattle.io_queue.specs.Operation.{HasExtent, IsWithin, operation_on}
 use Rattle.io_queue.specs.Beginning.{IsBegunWithin, begin, compare_begun, is_capsule_offset, is_transport, on_namespace, on_opcode, performed, locate, locate_at, read, write_begun}
 use Rattle.io_queue.specs.Blocks.{data_len, extent_of, in_range, limited, units_of}
 use Rattle.io_queue.specs.Finishing.{covered, finish, on_namespace_again}
@@ -126,7 +126,7 @@ read_within units n c sgl len on =
     then_holds (IsLimited units n c) (IsWithin units len) (limited n c) _ (limited_within units n c on)
     (λ e h.
     refuse_holds (IsWithin units len) (not (is_transport sgl.sgl_type)) sgl_type_invalid _ (λ typed.
-    refuse_holds (IsWithin units len) (not (sgl.len == data_len n c)) data_sgl_length_invalid (Ok (operation.Read e)) (λ same.
+    refuse_holds (IsWithin units len) (not (sgl.len == data_len n c)) data_sgl_length_invalid (Ok (operation_on e action.Read)) (λ same.
     (h.extent, few e.units (data_len n c) h.len h.bound)))) where
       few : (units len : ℕ) → 512 * units ≡ len → len ≤ 131072 → units ≤ 256
       few units len is bound = omega (arith, is, bound)
@@ -179,7 +179,7 @@ compare_within units len (ToCome n) h = h
 
 pub begun_within : (units : List ℕ) (n : Namespace) (code : IoOpcode) (entry : List ℕ) (len : ℕ) → FitsDisk units n
     → IfOk (on_namespace n code entry len) (IsBegunWithin units len)
-begun_within units n opcode.Flush entry len on = slice_get_within units n.disk on.size on.is
+begun_within units n opcode.Flush entry len on = (record { disk = slice_get_within units n.disk on.size on.is; within = omega arith }, refl)
 begun_within units n opcode.Read entry len on =
     performed_within units len (read n (block_command_of entry) (sgl1_of entry)) (read_within units n (block_command_of entry) (sgl1_of entry) len on)
 begun_within units n opcode.Write entry len on =
@@ -190,7 +190,7 @@ begun_within units n opcode.Compare entry len on =
     (locate_within units n (block_command_of entry) (sgl1_of entry) len on) (compare_within units len)
 begun_within units n opcode.WriteZeroes entry len on =
     then_holds (λ (e : Extent). HasExtent units e) (IsBegunWithin units len) (in_range n (block_command_of entry)) _
-    (range_within units n (block_command_of entry) on) (λ e h. h)
+    (range_within units n (block_command_of entry) on) (λ e h. (h, tt))
 
 -- ---- once the data has come
 

@@ -15,12 +15,12 @@ use Rattle.io_queue.specs.declared.beginning.Placed.{Placed}
 use Rattle.io_queue.specs.declared.beginning.Placed.TheVariants.{InCapsule, ToCome}
 use Rattle.io_queue.specs.declared.opcode.IoOpcode.{IoOpcode}
 use Rattle.io_queue.specs.declared.opcode.IoOpcode.TheVariants as opcode
+use Rattle.io_queue.specs.declared.operation.Action.TheVariants as action
 use Rattle.io_queue.specs.declared.operation.Extent.{Extent}
 use Rattle.io_queue.specs.declared.operation.Operation.{Operation}
-use Rattle.io_queue.specs.declared.operation.Operation.TheVariants as operation
 use Rattle.io_queue.specs.Blocks.{data_len, in_range, limited}
 use Rattle.io_queue.specs.Opcode.{opcode_of_code}
-use Rattle.io_queue.specs.Operation.{IsWithin}
+use Rattle.io_queue.specs.Operation.{IsWithin, no_units, operation_on}
 use Rattle.io_queue.specs.Reach.{reached, refuse, then_do}
 
 -- ---- where its data are
@@ -38,7 +38,7 @@ abbrev pub read : Namespace → BlockCommand → Sgl → Result Operation Status
 read n c sgl = then_do (limited n c) (λ extent.
     refuse (not (is_transport sgl.sgl_type)) sgl_type_invalid (
     refuse (not (sgl.len == data_len n c)) data_sgl_length_invalid (
-    Ok (operation.Read extent))))
+    Ok (operation_on extent action.Read))))
 
 abbrev pub locate_at : Extent → Sgl → ℕ → Result Placed Status
 locate_at extent sgl capsule_len =
@@ -54,11 +54,11 @@ locate n c sgl capsule_len = then_do (limited n c) (λ extent.
     locate_at extent sgl capsule_len)))
 
 abbrev pub write_begun : Bool → Placed → Begun
-write_begun fua (InCapsule extent at) = Perform (operation.Write extent at fua)
+write_begun fua (InCapsule extent at) = Perform (operation_on extent (action.Write at fua))
 write_begun fua (ToCome len) = Receive len
 
 abbrev pub compare_begun : Placed → Begun
-compare_begun (InCapsule extent at) = Perform (operation.Compare extent at)
+compare_begun (InCapsule extent at) = Perform (operation_on extent (action.Compare at))
 compare_begun (ToCome len) = Receive len
 
 -- ---- the command
@@ -69,14 +69,14 @@ performed (Err status) = Err status
 
 -- on a namespace that is reached
 abbrev pub on_namespace : Namespace → IoOpcode → List ℕ → ℕ → Result Begun Status
-on_namespace n opcode.Flush entry capsule_len = Ok (Perform (operation.Flush n.disk))
+on_namespace n opcode.Flush entry capsule_len = Ok (Perform (operation_on (no_units n.disk) action.Flush))
 on_namespace n opcode.Read entry capsule_len = performed (read n (block_command_of entry) (sgl1_of entry))
 on_namespace n opcode.Write entry capsule_len =
     then_do (locate n (block_command_of entry) (sgl1_of entry) capsule_len) (λ p. Ok (write_begun (block_command_of entry).fua p))
 on_namespace n opcode.Compare entry capsule_len =
     then_do (locate n (block_command_of entry) (sgl1_of entry) capsule_len) (λ p. Ok (compare_begun p))
 on_namespace n opcode.WriteZeroes entry capsule_len =
-    then_do (in_range n (block_command_of entry)) (λ extent. Ok (Perform (operation.WriteZeroes extent (block_command_of entry).fua)))
+    then_do (in_range n (block_command_of entry)) (λ extent. Ok (Perform (operation_on extent (action.WriteZeroes (block_command_of entry).fua))))
 
 abbrev pub on_opcode : Option IoOpcode → Configuration → ℕ → List ℕ → List ℕ → ℕ → Result Begun Status
 on_opcode None config port subsystem entry capsule_len = Err invalid_opcode

@@ -1,4 +1,5 @@
--- What an operation does to its disk, what it is answered and what it sends, by what the disk did.
+-- What an operation does to its disk, what it is answered and what it sends, by what the disk did. A definition names the
+-- actions that it is about: any other succeeds where its disk does, fails to write, and returns and writes nothing.
 use Rattle.std.specs.Prelude.{◌≡◌, ℕ, ◌==◌, Bool, true, false, List, [], ◌++◌, length, take, replicate, bytes_eq, slice_index_or, map, Option, Some, None, option_map, if◌then◌else◌}
 use Rattle.block_store.specs.Range.{bytes_of, overwritten, units_at, units_of}
 use Rattle.block_store.specs.Stored.{Stored}
@@ -6,11 +7,13 @@ use Rattle.block_store.specs.Unit.{zero_unit}
 use Rattle.block_store.specs.Write.{Write}
 use Rattle.nvt_fields.specs.declared.status.Status.{Status}
 use Rattle.nvt_fields.specs.Status.{compare_failure, success, unrecovered_read_error, write_fault}
+use Rattle.io_queue.specs.declared.operation.Action.{Action}
+use Rattle.io_queue.specs.declared.operation.Action.TheVariants as action
+use Rattle.io_queue.specs.declared.operation.Extent.{Extent}
 use Rattle.io_queue.specs.declared.operation.Operation.{Operation}
 use Rattle.io_queue.specs.declared.reply.DataFormat.{DataFormat}
-use Rattle.io_queue.specs.declared.operation.Operation.TheVariants as operation
 use Rattle.io_queue.specs.Act.{CountsBy, IsOfRead, IsOfWrite, IsSynced, DiskOutcome, count_new, good, is_good}
-use Rattle.io_queue.specs.Operation.{brought, disk_of}
+use Rattle.io_queue.specs.Operation.{brought, disk_of, operation_on}
 use Rattle.io_queue.specs.Reply.{returned_pdus}
 
 -- ---- what it is answered
@@ -20,36 +23,44 @@ abbrev pub compared : Bool → Status
 compared same = if same then success else compare_failure
 
 -- .. where the disk did all that was asked of it
-abbrev pub good_status : Operation → List ℕ → List (List ℕ) → Status
-good_status (operation.Compare e at) bytes contents = compared (bytes_eq (brought e at bytes) (bytes_of (units_at contents e.first e.units)))
-good_status _ bytes contents = success
+abbrev pub good_status : Action → Extent → List ℕ → List (List ℕ) → Status
+good_status (action.Compare at) e bytes contents = compared (bytes_eq (brought e at bytes) (bytes_of (units_at contents e.first e.units)))
+good_status _ e bytes contents = success
 
--- .. and where it failed
-abbrev pub fault_status : Operation → Status
-fault_status (operation.Flush disk) = write_fault
-fault_status (operation.Read e) = unrecovered_read_error
-fault_status (operation.Write e at fua) = write_fault
-fault_status (operation.Compare e at) = unrecovered_read_error
-fault_status (operation.WriteZeroes e fua) = write_fault
+-- whether it reads its extent, and so may fail to
+abbrev pub reads : Action → Bool
+reads action.Read = true
+reads (action.Compare at) = true
+reads _ = false
+
+-- .. and where the disk failed
+abbrev pub fault_status : Action → Status
+fault_status a = if reads a then unrecovered_read_error else write_fault
 
 -- by the data in its capsule and the contents of its disk before it
 abbrev pub status_by : Operation → List ℕ → List (List ℕ) → DiskOutcome → Status
-status_by op bytes contents m = if is_good m then good_status op bytes contents else fault_status op
+status_by op bytes contents m = if is_good m then good_status op.action op.extent bytes contents else fault_status op.action
 
 -- ---- what it returns
 
 -- a Read that succeeds returns the extent's bytes, and nothing else returns any
+abbrev pub returned_by : Action → Extent → List (List ℕ) → DiskOutcome → Option (List ℕ)
+returned_by action.Read e contents m = if is_good m then Some (bytes_of (units_at contents e.first e.units)) else None
+returned_by _ e contents m = None
+
 abbrev pub returned : Operation → List (List ℕ) → DiskOutcome → Option (List ℕ)
-returned (operation.Read e) contents m = if is_good m then Some (bytes_of (units_at contents e.first e.units)) else None
-returned _ contents m = None
+returned op contents m = returned_by op.action op.extent contents m
 
 -- ---- what it writes
 
 -- what it is to write: the data in its capsule, or zeros
+abbrev pub write_by : Action → Extent → List ℕ → Option Write
+write_by (action.Write at fua) e bytes = Some (record { first = e.first; units = units_of (brought e at bytes) })
+write_by (action.WriteZeroes fua) e bytes = Some (record { first = e.first; units = replicate e.units zero_unit })
+write_by _ e bytes = None
+
 abbrev pub write_of : Operation → List ℕ → Option Write
-write_of (operation.Write e at fua) bytes = Some (record { first = e.first; units = units_of (brought e at bytes) })
-write_of (operation.WriteZeroes e fua) bytes = Some (record { first = e.first; units = replicate e.units zero_unit })
-write_of _ bytes = None
+write_of op bytes = write_by op.action op.extent bytes
 
 -- those of its units that are new
 abbrev pub new_of : DiskOutcome → Write → Write
@@ -76,30 +87,33 @@ write_on disk (Some a) = if disk == a.disk then Some a.write else None
 
 -- ---- an operation on its disk
 
--- the disk may do this: a Read or a Compare meets no write fault, and the others no read fault; a write that fails has
--- at most as many new units as it was to have
-abbrev pub MayMeet : Operation → DiskOutcome → Type 0
-MayMeet (operation.Flush disk) m = IsOfWrite 0 m
-MayMeet (operation.Read e) m = IsOfRead m
-MayMeet (operation.Write e at fua) m = IsOfWrite e.units m
-MayMeet (operation.Compare e at) m = IsOfRead m
-MayMeet (operation.WriteZeroes e fua) m = IsOfWrite e.units m
+-- what reads its extent meets no write fault, and what does not no read fault; a write that fails has at most as many new
+-- units as it was to have
+abbrev pub MeetsBy : Bool → ℕ → DiskOutcome → Type 0
+MeetsBy true units m = IsOfRead m
+MeetsBy false units m = IsOfWrite units m
 
--- an operation is performed on its disk, and what it returns stands behind the output
-pub record PerformsOn (op : Operation) (bytes : List ℕ) (format : DataFormat) (old new : Stored) (output appended : List ℕ) (status : Status) : Type 0 where
+-- the disk may do this
+abbrev pub MayMeet : Operation → DiskOutcome → Type 0
+MayMeet op m = MeetsBy (reads op.action) op.extent.units m
+
+-- an action is done to an extent of its disk, and what it returns stands behind the output
+pub record PerformsOn (e : Extent) (a : Action) (bytes : List ℕ) (format : DataFormat) (old new : Stored) (output appended : List ℕ) (status : Status) : Type 0 where
   pub disk_outcome : DiskOutcome
-  pub meets : MayMeet op disk_outcome
-  pub answer : status ≡ status_by op bytes old.contents disk_outcome
-  pub sends : appended ≡ output ++ returned_pdus format (returned op old.contents disk_outcome)
-  pub contents : new.contents ≡ written (option_map (new_of disk_outcome) (write_of op bytes)) old.contents
+  pub meets : MayMeet (operation_on e a) disk_outcome
+  pub answer : status ≡ status_by (operation_on e a) bytes old.contents disk_outcome
+  pub sends : appended ≡ output ++ returned_pdus format (returned_by a e old.contents disk_outcome)
+  pub contents : new.contents ≡ written (option_map (new_of disk_outcome) (write_by a e bytes)) old.contents
   pub faults : CountsBy disk_outcome old.faults new.faults
 
--- where it is to last and is answered with success, what the disk holds has been synced
-abbrev pub Syncs : Operation → Stored → Status → Type 0
-Syncs (operation.Flush disk) new status = IsSynced new status
-Syncs (operation.Write e at fua) new status = fua ≡ true → IsSynced new status
-Syncs (operation.WriteZeroes e fua) new status = fua ≡ true → IsSynced new status
-Syncs _ new status = Unit {0}
+-- where it is to last and is answered with success, what the disk holds has been synced; each action is named, since no
+-- proof would ask for one that is not
+abbrev pub Syncs : Action → Stored → Status → Type 0
+Syncs action.Flush new status = IsSynced new status
+Syncs action.Read new status = Unit {0}
+Syncs (action.Write at fua) new status = fua ≡ true → IsSynced new status
+Syncs (action.Compare at) new status = Unit {0}
+Syncs (action.WriteZeroes fua) new status = fua ≡ true → IsSynced new status
 
 -- ---- an operation on one of several disks
 
@@ -139,7 +153,7 @@ pub record Performs (op : Operation) (bytes : List ℕ) (format : DataFormat) (o
   pub sizes : sizes new ≡ sizes old
 
 abbrev pub SyncsIn : Operation → List Stored → Status → Type 0
-SyncsIn op new status = Syncs op (disk_at new (disk_of op)) status
+SyncsIn op new status = Syncs op.action (disk_at new (disk_of op)) status
 
 -- ---- an operation, or none
 

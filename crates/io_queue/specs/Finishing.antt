@@ -1,6 +1,6 @@
 -- The second check of a command, when all its data has come: with the configuration of then (NVM Command Set 1.0, section
 -- 3).
-use Rattle.std.specs.Prelude.{ℕ, ◌==◌, not, List, Option, Some, None, Result, Ok, Err, if◌then◌else◌}
+use Rattle.std.specs.Prelude.{ℕ, ◌==◌, not, List, Option, Some, None, Result, Ok, Err}
 use Rattle.config_lists.specs.declared.namespace.Namespace.{Namespace}
 use Rattle.config_rules.specs.Configuration.{Configuration}
 use Rattle.nvt_fields.specs.declared.status.Status.{Status}
@@ -9,11 +9,12 @@ use Rattle.pdu_codec.specs.declared.command.BlockCommand.{BlockCommand}
 use Rattle.pdu_codec.specs.Sqe.{block_command_of, opcode_of}
 use Rattle.io_queue.specs.declared.opcode.IoOpcode.{IoOpcode}
 use Rattle.io_queue.specs.declared.opcode.IoOpcode.TheVariants as opcode
+use Rattle.io_queue.specs.declared.operation.Action.TheVariants as action
 use Rattle.io_queue.specs.declared.operation.Extent.{Extent}
 use Rattle.io_queue.specs.declared.operation.Operation.{Operation}
-use Rattle.io_queue.specs.declared.operation.Operation.TheVariants as operation
 use Rattle.io_queue.specs.Blocks.{data_len, in_range}
 use Rattle.io_queue.specs.Opcode.{opcode_of_code}
+use Rattle.io_queue.specs.Operation.{operation_on}
 use Rattle.io_queue.specs.Reach.{reached, refuse, then_do}
 
 -- the extent of a command whose blocks the namespace has, and have as many bytes as came
@@ -23,10 +24,13 @@ covered n c came = then_do (in_range n c) (λ extent. refuse (not (came == data_
 -- a Write or a Compare of the data that came; no other command waits for data
 abbrev pub on_namespace_again : Namespace → Option IoOpcode → List ℕ → ℕ → Result Operation Status
 on_namespace_again n (Some opcode.Write) entry came =
-    then_do (covered n (block_command_of entry) came) (λ extent. Ok (operation.Write extent 0 (block_command_of entry).fua))
+    then_do (covered n (block_command_of entry) came) (λ extent. Ok (operation_on extent (action.Write 0 (block_command_of entry).fua)))
 on_namespace_again n (Some opcode.Compare) entry came =
-    then_do (covered n (block_command_of entry) came) (λ extent. Ok (operation.Compare extent 0))
-on_namespace_again n _ entry came = Err invalid_opcode
+    then_do (covered n (block_command_of entry) came) (λ extent. Ok (operation_on extent (action.Compare 0)))
+on_namespace_again n (Some opcode.Flush) entry came = Err invalid_opcode
+on_namespace_again n (Some opcode.Read) entry came = Err invalid_opcode
+on_namespace_again n (Some opcode.WriteZeroes) entry came = Err invalid_opcode
+on_namespace_again n None entry came = Err invalid_opcode
 
 -- What the command of this entry does to its disk once so many bytes came for it, or why it is refused: its namespace, its
 -- ANA state, its range and its length are looked at again.

@@ -3,14 +3,15 @@ use Rattle.std.specs.Prelude.{◌≡◌, ◌≤◌, ◌⊎◌, ℕ, ◌+◌, ◌
 use Rattle.config_lists.specs.GroupState.{state_for}
 use Rattle.config_lists.specs.Namespace.{is_named}
 use Rattle.config_rules.specs.Configuration.{Configuration}
+use Rattle.io_queue.specs.declared.operation.Action.{Action}
+use Rattle.io_queue.specs.declared.operation.Action.TheVariants as action
 use Rattle.io_queue.specs.declared.operation.Extent.{Extent}
 use Rattle.io_queue.specs.declared.operation.Operation.{Operation}
-use Rattle.io_queue.specs.declared.operation.Operation.TheVariants as operation
 use Rattle.io_queue.specs.Act.{DiskOutcome, good}
 use Rattle.io_queue.specs.Beginning.{begin}
 use Rattle.io_queue.specs.Finishing.{finish}
 use Rattle.io_queue.specs.Execution.{act_of, returned, write_on, written}
-use Rattle.io_queue.specs.Operation.{IsOnDisk, brought, disk_of}
+use Rattle.io_queue.specs.Operation.{IsOnDisk, brought, disk_of, operation_on}
 
 -- ---- what is decided
 
@@ -30,7 +31,7 @@ pub record DecidedByOwnAlone : Type 0 where
 
 -- what a Read of an extent returns, where these are the units of its disk, which does not fail
 abbrev pub read_from : Extent → List (List ℕ) → Option (List ℕ)
-read_from e contents = returned (operation.Read e) contents good
+read_from e contents = returned (operation_on e action.Read) contents good
 
 -- the units of this disk after an operation, by the data in its capsule and what its disk did
 abbrev pub left_by : Operation → List ℕ → DiskOutcome → ℕ → List (List ℕ) → List (List ℕ)
@@ -40,23 +41,26 @@ left_by op bytes m disk contents = written (write_on disk (act_of op bytes m)) c
 abbrev pub AreApart : Extent → Extent → Type 0
 AreApart e f = (e.first + e.units ≤ f.first) ⊎ (f.first + f.units ≤ e.first)
 
--- an operation writes at most units that are not of the extent
+-- an action on this extent writes at most units that are not of that one
+abbrev pub IsBesideBy : Extent → Action → Extent → Type 0
+IsBesideBy e (action.Write at fua) f = AreApart e f
+IsBesideBy e (action.WriteZeroes fua) f = AreApart e f
+IsBesideBy e _ f = Unit {0}
+
 abbrev pub IsBeside : Extent → Operation → Type 0
-IsBeside e (operation.Write f at fua) = AreApart e f
-IsBeside e (operation.WriteZeroes f fua) = AreApart e f
-IsBeside e _ = Unit {0}
+IsBeside e op = IsBesideBy e op.action op.extent
 
 -- A Read returns what the latest Write or Write Zeroes of its extent left there; an operation on another disk, or
 -- beside the extent, changes nothing of it, whether or not its disk fails.
 pub record ReadsWhatWasWritten : Type 0 where
   pub given : (e : Extent) (at : ℕ) (fua : Bool) (bytes : List ℕ) (contents : List (List ℕ))
-      → IsOnDisk (length contents) (length bytes) (operation.Write e at fua)
-      → read_from e (left_by (operation.Write e at fua) bytes good e.disk contents) ≡ Some (brought e at bytes)
+      → IsOnDisk (length contents) (length bytes) e (action.Write at fua)
+      → read_from e (left_by (operation_on e (action.Write at fua)) bytes good e.disk contents) ≡ Some (brought e at bytes)
   pub zeros : (e : Extent) (fua : Bool) (bytes : List ℕ) (contents : List (List ℕ))
-      → IsOnDisk (length contents) (length bytes) (operation.WriteZeroes e fua)
-      → read_from e (left_by (operation.WriteZeroes e fua) bytes good e.disk contents) ≡ Some (replicate (512 * e.units) 0)
+      → IsOnDisk (length contents) (length bytes) e (action.WriteZeroes fua)
+      → read_from e (left_by (operation_on e (action.WriteZeroes fua)) bytes good e.disk contents) ≡ Some (replicate (512 * e.units) 0)
   pub elsewhere : (e : Extent) (op : Operation) (bytes : List ℕ) (m : DiskOutcome) (contents : List (List ℕ))
       → ¬ (e.disk ≡ disk_of op) → read_from e (left_by op bytes m e.disk contents) ≡ read_from e contents
   pub beside : (e : Extent) (op : Operation) (bytes : List ℕ) (m : DiskOutcome) (contents : List (List ℕ))
-      → IsOnDisk (length contents) (length bytes) op → IsBeside e op
+      → IsOnDisk (length contents) (length bytes) op.extent op.action → IsBeside e op
       → read_from e (left_by op bytes m e.disk contents) ≡ read_from e contents

@@ -5,7 +5,7 @@ ghost use Rattle.io_queue.specs.Reach.{IsSmall};
 
 use crate::blocks::{data_len, in_range, limited};
 use crate::opcode::IoOpcode;
-use crate::operation::{Extent, Operation};
+use crate::operation::{Action, Extent, Operation};
 use crate::queue::IoController;
 use crate::reach::reached;
 use config_lists::Namespace;
@@ -63,8 +63,9 @@ fn on_namespace(
     let command = BlockCommand::read(sqe);
     let sgl = sqe.sgl1();
     match opcode {
-        IoOpcode::Flush => Ok(Begun::Perform(Operation::Flush {
-            disk: namespace.disk,
+        IoOpcode::Flush => Ok(Begun::Perform(Operation {
+            extent: Extent::none(namespace.disk),
+            action: Action::Flush,
         })),
         IoOpcode::Read => Ok(Begun::Perform(read(namespace, &command, &sgl)?)),
         IoOpcode::Write => {
@@ -75,9 +76,9 @@ fn on_namespace(
             let placed = locate(namespace, &command, &sgl, capsule_len)?;
             Ok(compare_begun(placed))
         }
-        IoOpcode::WriteZeroes => Ok(Begun::Perform(Operation::WriteZeroes {
+        IoOpcode::WriteZeroes => Ok(Begun::Perform(Operation {
             extent: in_range(namespace, &command)?,
-            fua: command.fua,
+            action: Action::WriteZeroes { fua: command.fua },
         })),
     }
 }
@@ -94,7 +95,10 @@ fn read(namespace: &Namespace, command: &BlockCommand, sgl: &Sgl) -> Result<Oper
     if u64::from(sgl.len) != data_len(namespace, command) {
         return Err(Status::DATA_SGL_LENGTH_INVALID);
     }
-    Ok(Operation::Read(extent))
+    Ok(Operation {
+        extent,
+        action: Action::Read,
+    })
 }
 
 // A Write or a Compare takes all its data from the capsule, which brings so many bytes, or in a
@@ -137,7 +141,10 @@ fn write_begun(fua: bool, placed: Placed) -> Begun
     ensures { result ≡ write_begun fua placed }
 {
     match placed {
-        Placed::InCapsule { extent, at } => Begun::Perform(Operation::Write { extent, at, fua }),
+        Placed::InCapsule { extent, at } => Begun::Perform(Operation {
+            extent,
+            action: Action::Write { at, fua },
+        }),
         Placed::ToCome(len) => Begun::Receive(len),
     }
 }
@@ -146,7 +153,10 @@ fn compare_begun(placed: Placed) -> Begun
     ensures { result ≡ compare_begun placed }
 {
     match placed {
-        Placed::InCapsule { extent, at } => Begun::Perform(Operation::Compare { extent, at }),
+        Placed::InCapsule { extent, at } => Begun::Perform(Operation {
+            extent,
+            action: Action::Compare { at },
+        }),
         Placed::ToCome(len) => Begun::Receive(len),
     }
 }

@@ -1,10 +1,10 @@
 //! An operation, performed on its disk and answered.
 ghost use Rattle.std.specs.Prelude.{◌≡◌, ◌+◌, ◌*◌, ◌≤◌, length};
-ghost use Rattle.io_queue.specs.Operation.{IsOnDisk, IsWithin, brought, room_for};
+ghost use Rattle.io_queue.specs.Operation.{IsOnDisk, IsWithin, brought, room_by, room_for};
 ghost use Rattle.io_queue.specs.Execution.{Performs, PerformsOn, Syncs, SyncsIn, sizes};
 
 use crate::act::{compare, flush, write, write_zeroes};
-use crate::operation::{Extent, Operation};
+use crate::operation::{Action, Extent, Operation};
 use crate::reply::{DataFormat, append_read};
 use block_store::{Disk, Store, UNIT_LEN};
 use bytes::BytesMut;
@@ -29,35 +29,35 @@ pub fn perform<D: Disk>(
     ensures spare { output.old.spare ≤ output.new.spare + room_for operation.now }
     ensures synced { SyncsIn operation.now stores.new result }
 {
-    let store = &mut stores[usize::from(operation.disk())];
-    perform_on(store, operation, bytes, format, output)
+    let extent = &operation.extent;
+    let store = &mut stores[usize::from(extent.disk)];
+    perform_on(store, extent, operation.action, bytes, format, output)
 }
 
 #[tactic(auto, using(crate::proofs::Executions::write_performed, crate::proofs::Executions::zeroes_performed))]
 fn perform_on<D: Disk>(
     store: &mut Store<D>,
-    operation: &Operation,
+    extent: &Extent,
+    action: Action,
     bytes: &[u8],
     format: DataFormat,
     output: &mut BytesMut,
 ) -> Status
-    requires within { IsOnDisk (length store.old.contents) (length bytes.now) operation.now }
+    requires within { IsOnDisk (length store.old.contents) (length bytes.now) extent.now action }
     requires alignment { format.hpda ≤ 31 }
-    requires room { room_for operation.now ≤ output.old.spare }
-    ensures performs { PerformsOn operation.now bytes.now format store.old store.new
+    requires room { room_by action extent.now.units ≤ output.old.spare }
+    ensures performs { PerformsOn extent.now action bytes.now format store.old store.new
         output.old.items output.new.items result }
     ensures units { length store.new.contents ≡ length store.old.contents }
-    ensures spare { output.old.spare ≤ output.new.spare + room_for operation.now }
-    ensures synced { Syncs operation.now store.new result }
+    ensures spare { output.old.spare ≤ output.new.spare + room_by action extent.now.units }
+    ensures synced { Syncs action store.new result }
 {
-    match operation {
-        Operation::Flush { .. } => flush(store),
-        Operation::Read(extent) => append_read(output, format, store, extent),
-        Operation::Write { extent, at, fua } => {
-            write(store, extent, brought(extent, *at, bytes), *fua)
-        }
-        Operation::Compare { extent, at } => compare(store, extent, brought(extent, *at, bytes)),
-        Operation::WriteZeroes { extent, fua } => write_zeroes(store, extent, *fua),
+    match action {
+        Action::Flush => flush(store),
+        Action::Read => append_read(output, format, store, extent),
+        Action::Write { at, fua } => write(store, extent, brought(extent, at, bytes), fua),
+        Action::Compare { at } => compare(store, extent, brought(extent, at, bytes)),
+        Action::WriteZeroes { fua } => write_zeroes(store, extent, fua),
     }
 }
 

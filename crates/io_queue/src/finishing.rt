@@ -6,7 +6,7 @@ ghost use Rattle.io_queue.specs.Reach.{IsSmall};
 
 use crate::blocks::{data_len, in_range};
 use crate::opcode::IoOpcode;
-use crate::operation::{Extent, Operation};
+use crate::operation::{Action, Extent, Operation};
 use crate::queue::IoController;
 use crate::reach::reached;
 use config_lists::Namespace;
@@ -41,16 +41,20 @@ fn on_namespace_again(
 {
     let command = BlockCommand::read(sqe);
     match opcode {
-        Some(IoOpcode::Write) => Ok(Operation::Write {
+        Some(IoOpcode::Write) => Ok(Operation {
             extent: covered(namespace, &command, came)?,
-            at: 0,
-            fua: command.fua,
+            action: Action::Write {
+                at: 0,
+                fua: command.fua,
+            },
         }),
-        Some(IoOpcode::Compare) => Ok(Operation::Compare {
+        Some(IoOpcode::Compare) => Ok(Operation {
             extent: covered(namespace, &command, came)?,
-            at: 0,
+            action: Action::Compare { at: 0 },
         }),
-        _ => Err(Status::INVALID_OPCODE),
+        Some(IoOpcode::Flush | IoOpcode::Read | IoOpcode::WriteZeroes) | None => {
+            Err(Status::INVALID_OPCODE)
+        }
     }
 }
 

@@ -21,6 +21,6 @@ pub use beginning::{Begun, begin};
 pub use execution::perform;
 pub use finishing::finish;
 pub use opcode::IoOpcode;
-pub use operation::{Extent, Operation};
+pub use operation::{Action, Extent, Operation};
 pub use queue::IoController;
 pub use reply::DataFormat;

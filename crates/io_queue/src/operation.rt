@@ -1,6 +1,6 @@
 //! What a command that passes every check does to its disk.
 ghost use Rattle.std.specs.Prelude.{◌≡◌, ◌<◌, ◌^◌};
-ghost use Rattle.io_queue.specs.Operation.{disk_of, room_for};
+ghost use Rattle.io_queue.specs.Operation.{no_units, room_for};
 
 use block_store::UNIT_LEN;
 
@@ -17,46 +17,54 @@ pub struct Extent {
     pub units: u64,
 }
 
+impl Extent {
+    /// No units of a disk.
+    pub(crate) fn none(disk: u16) -> Extent
+        ensures { result ≡ no_units disk }
+    {
+        Extent {
+            disk,
+            first: 0,
+            units: 0,
+        }
+    }
+}
+
 /// What a command does to its disk.
 #[derive(Clone, Copy, Debug, PartialEq, Eq)]
-pub enum Operation {
-    /// What was written to the disk of this number is to be on its medium.
-    Flush { disk: u16 },
-    /// The extent goes to the host.
-    Read(Extent),
-    /// The data that came, from this byte of them on, go to the extent.
-    Write { extent: Extent, at: u64, fua: bool },
-    /// They are compared with the extent.
-    Compare { extent: Extent, at: u64 },
-    /// Zeros go to the extent.
-    WriteZeroes { extent: Extent, fua: bool },
+pub struct Operation {
+    /// The units that it is done to: none of its disk for a Flush.
+    pub extent: Extent,
+    pub action: Action,
+}
+
+/// What an operation does to its extent.
+#[derive(Clone, Copy, Debug, PartialEq, Eq)]
+pub enum Action {
+    /// What was written to its disk is to be on its medium.
+    Flush,
+    /// It goes to the host.
+    Read,
+    /// The data that came, from this byte of them on, go to it.
+    Write { at: u64, fua: bool },
+    /// They are compared with it.
+    Compare { at: u64 },
+    /// Zeros go to it.
+    WriteZeroes { fua: bool },
 }
 
 impl Operation {
-    /// The number of the disk that it is done to.
-    pub fn disk(&self) -> u16
-        ensures { result ≡ disk_of self.now }
-    {
-        match *self {
-            Operation::Flush { disk } => disk,
-            Operation::Read(extent)
-            | Operation::Write { extent, .. }
-            | Operation::Compare { extent, .. }
-            | Operation::WriteZeroes { extent, .. } => extent.disk,
-        }
-    }
-
     /// How many bytes it may send beside its response: C2HData with what it reads.
     pub fn room(&self) -> usize
         requires { room_for self.now < 2 ^ 18 }
         ensures { result ≡ room_for self.now }
     {
-        match self {
-            Operation::Read(extent) => C2H_HEADS_LEN + extent.units as usize * UNIT_LEN,
-            Operation::Flush { .. }
-            | Operation::Write { .. }
-            | Operation::Compare { .. }
-            | Operation::WriteZeroes { .. } => 0,
+        match self.action {
+            Action::Read => C2H_HEADS_LEN + self.extent.units as usize * UNIT_LEN,
+            Action::Flush
+            | Action::Write { .. }
+            | Action::Compare { .. }
+            | Action::WriteZeroes { .. } => 0,
         }
     }
 }

@@ -31,7 +31,8 @@ pub enum Command {
     ReferralDel,
 }
 
-const COMMANDS: &[Command] = &[
+/// Each command once.
+pub const COMMANDS: &[Command] = &[
     Command::SubsystemAdd,
     Command::SubsystemSet,
     Command::SubsystemDel,

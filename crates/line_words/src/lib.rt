@@ -12,7 +12,7 @@ pub mod read;
 mod word;
 mod words;
 
-pub use command::Command;
+pub use command::{COMMANDS, Command};
 pub use fault::{LineFault, LineFaultKind};
 pub use lines::{Lines, find_byte};
 pub use number::read_number;

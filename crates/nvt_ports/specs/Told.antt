@@ -1,5 +1,6 @@
 -- What ports that tell say that they handed out and took.
-use Rattle.std.specs.Prelude.{◌≡◌, ℕ, ◌-◌, ◌+◌, ◌^◌, min, List, [], ◌∷◌, ◌++◌, Option, Some, None, Result, Ok, Err, take, slice_index_or, slice_set}
+use Rattle.std.specs.Prelude.{◌≡◌, ℕ, ◌-◌, ◌+◌, ◌^◌, min, Bool, List, [], ◌∷◌, ◌++◌, Option, Some, None, Result, Ok, Err, take, slice_index_or, slice_set}
+use Rattle.std.specs.Option.{option_map}
 use Rattle.nvt_ports.specs.declared.event.PortEvent.{PortEvent}
 use Rattle.nvt_ports.specs.declared.event.PortEvent.TheVariants as next
 use Rattle.nvt_ports.specs.declared.event.PortFault.{PortFault}
@@ -31,10 +32,15 @@ abbrev pub with_handed_out : Option HandedOut → List HandedOut → List Handed
 with_handed_out None list = list
 with_handed_out (Some new) list = list ++ new ∷ []
 
-abbrev pub asked_once : PortEvent → List ℕ → Told → Told
-asked_once event buffer t = record {
-  asked = min (t.asked + 1) (2 ^ 64 - 1);
-  handed_out = with_handed_out (handed_out_by event buffer) t.handed_out;
+-- so many calls more, up to 2^64 - 1 in all
+abbrev pub more : ℕ → ℕ → ℕ
+more asked n = asked + min n (2 ^ 64 - 1 - asked)
+
+-- they were asked once more, and handed this out
+abbrev pub heard : Option HandedOut → Told → Told
+heard new t = record {
+  asked = more t.asked 1;
+  handed_out = with_handed_out new t.handed_out;
   took = t.took;
 }
 
@@ -45,15 +51,14 @@ with_taken slot taken took = slice_set took slot (slice_index_or took slot [] ++
 abbrev pub given_once : ℕ → List ℕ → Told → Told
 given_once slot taken t = record t { took = with_taken slot taken t.took }
 
--- what is told after a call of `next`, of `give`, and of another
-abbrev pub TellsNext : PortEvent → List ℕ → Option Told → Option Told → Type 0
-TellsNext event buffer None new = new ≡ None
-TellsNext event buffer (Some t) new = new ≡ Some (asked_once event buffer t)
-
+-- what is told after a call of `give`
 abbrev pub TellsGiven : ℕ → List ℕ → Result ℕ PortFault → Option Told → Option Told → Type 0
-TellsGiven slot given result None new = new ≡ None
-TellsGiven slot given (Ok n) (Some t) new = new ≡ Some (given_once slot (take n given) t)
-TellsGiven slot given (Err fault) (Some t) new = new ≡ Some t
+TellsGiven slot given (Ok n) old new = new ≡ option_map (given_once slot (take n given)) old
+TellsGiven slot given (Err fault) old new = new ≡ old
 
-abbrev pub TellsNone : Option Told → Option Told → Type 0
-TellsNone old new = new ≡ old
+-- What contracts see of ports: what they tell, if they do; whether each slot is in use: open, and not closed; and a count
+-- of the calls of `give` that failed.
+pub record PortsState : Type 0 where
+  pub told : Option Told
+  pub in_use : List Bool
+  pub faults : ℕ

@@ -21,6 +21,8 @@ pub struct MemoryPorts {
     asked: u64,
     handed_out: Vec<PortStep>,
     took: Vec<Vec<u8>>,
+    // Each with a line's end.
+    replies: Vec<u8>,
     // How many calls of `give` pass before the one that is to fail.
     passes: Option<u64>,
     faults: u64,
@@ -47,6 +49,7 @@ impl MemoryPorts {
             asked: 0,
             handed_out: Vec::new(alloc),
             took,
+            replies: Vec::new(alloc),
             passes: None,
             faults: 0,
         })
@@ -62,6 +65,11 @@ impl MemoryPorts {
         }
     }
 
+    /// All replies to lines, each with a line's end; those for which there was no memory are lost.
+    pub fn replies(&self) -> &[u8] {
+        &self.replies
+    }
+
     /// Makes the `n`th call of `give` from here on fail; none for 0.
     pub fn fail_give(&mut self, n: u64)
         ensures told { told_of self.new ≡ told_of self.old }
@@ -73,16 +81,17 @@ impl MemoryPorts {
 
 impl Ports for MemoryPorts {
     ghost use Rattle.std.specs.Prelude.{◌≡◌, ◌<◌, ◌≤◌, IfOk, length, slice_set, false};
+    ghost use Rattle.std.specs.Option.{option_map};
     ghost use Rattle.block_store.specs.Faults.{Counts};
     ghost use Rattle.nvt_ports.specs.Event.{Fits, in_use_after};
     ghost use Rattle.nvt_ports.specs.Memory.{told_of};
-    ghost use Rattle.nvt_ports.specs.Told.{TellsGiven, TellsNext, TellsNone};
+    ghost use Rattle.nvt_ports.specs.Told.{TellsGiven, handed_out_by, heard};
 
-    ghost told = { told_of };
-
-    ghost in_use = { λ ports. ports.in_use };
-
-    ghost faults = { λ ports. ports.faults };
+    ghost state = { λ ports. record {
+      told = told_of ports;
+      in_use = ports.in_use;
+      faults = ports.faults;
+    } };
 
     fn next(&mut self, room: &[usize; 64], buf: &mut [u8]) -> PortEvent {
         self.asked = self.asked.saturating_add(1);
@@ -104,7 +113,9 @@ impl Ports for MemoryPorts {
         self.in_use[slot] = false;
     }
 
-    fn reply(&mut self, _text: &[u8]) {}
+    fn reply(&mut self, text: &[u8]) {
+        let _ = self.keep_reply(text);
+    }
 
     fn refresh(&mut self, _config: &Config) {}
 }
@@ -143,6 +154,16 @@ impl MemoryPorts {
         ensures faults { self.new.faults ≡ self.old.faults }
     {
         self.took[slot].extend_from_slice(bytes)
+    }
+
+    fn keep_reply(&mut self, text: &[u8]) -> Result<(), AllocError>
+        ensures in_use { self.new.in_use ≡ self.old.in_use }
+        ensures handed_out { self.new.handed_out ≡ self.old.handed_out }
+        ensures stays { Stays self.old self.new }
+    {
+        self.replies.extend_from_slice(text)?;
+        self.replies.push(b'\n')?;
+        Ok(())
     }
 
     // Hands out the next step, or the next piece of its bytes.

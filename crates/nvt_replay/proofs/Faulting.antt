@@ -10,7 +10,8 @@ use Rattle.replay_lines.specs.Fault.{EndsRun}
 use Rattle.replay_lines.specs.StreamLine.{Says}
 use Rattle.nvt_replay.specs.CutOff.{IsCutOff, PlaysInPart}
 use Rattle.nvt_replay.specs.Played.{Prints}
-use Rattle.nvt_replay.specs.Replay.{AcceptsAll, EndsAtLine, EndsScript, Explains, IsBeforeScript, IsConfigured, LeavesLine, PlaysBefore, RefusesEdits, ReplaysBefore}
+use Rattle.edit_lines.specs.Configured.{AcceptsAll, IsConfigured, RefusesEdits}
+use Rattle.nvt_replay.specs.Replay.{EndsAtLine, EndsScript, Explains, IsBeforeScript, LeavesLine, PlaysBefore, ReplaysBefore}
 
 -- ---- a line that was begun
 

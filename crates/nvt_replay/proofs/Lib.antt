@@ -1,7 +1,6 @@
 pub mod Closing
 pub mod Cutting
 pub mod Faulting
-pub mod Marks
 pub mod Pieces
 pub mod Playing
 pub mod Prints

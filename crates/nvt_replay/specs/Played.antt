@@ -2,34 +2,28 @@
 use Rattle.std.specs.Prelude.{◌≡◌, ◌⊎◌, ℕ, zero, suc, ◌<◌, ◌&&◌, Bool, true, false, nat_lt, List, [], ◌∷◌, ◌++◌, length, take, drop, min, codes, Option, Some, None, MatchOption, Ok, if◌then◌else◌}
 use Rattle.std.specs.Io.KnownBytes.{Appends}
 use Rattle.hex.specs.Hex.{decode_of}
-use Rattle.io_queue.specs.Act.{DiskOutcome}
 use Rattle.io_queue.specs.Execution.{contents_at}
 use Rattle.data_transfer.specs.Parts.{part_at}
 use Rattle.number_table.specs.Table.{place}
-use Rattle.target_core.specs.Agreement.{front_of}
 use Rattle.target_core.specs.declared.fault.OpenFault.{OpenFault}
 use Rattle.target_core.specs.Connection.{KnownConnection}
 use Rattle.target_core.specs.Fault.{word_of_open_fault}
 use Rattle.target_core.specs.Transition.{Transition}
-use Rattle.target_core.specs.Target.{TargetState, free_number, is_ended_at, is_idle, meets, open_fault, room_at, with_connection, with_stream}
+use Rattle.target_core.specs.Target.{TargetState, free_number, is_ended_at, open_fault, room_at, with_connection, with_stream}
 use Rattle.target_decision.specs.Session.{is_ended}
 use Rattle.target_decision.specs.World.{connections_max}
-use Rattle.target_history.specs.Event.{given_up, opened, stepped, ticked}
-use Rattle.target_history.specs.Occurrence.{DisksAct}
+use Rattle.target_history.specs.Event.{given_up, opened, ticked}
 use Rattle.replay_lines.specs.declared.reply.Reply.{Reply}
 use Rattle.replay_lines.specs.declared.stream_line.StreamLine.{StreamLine}
 use Rattle.replay_lines.specs.declared.stream_line.StreamLine.TheVariants as line
 use Rattle.replay_lines.specs.Printed.{edit_made_line, event_line, output_lines, reply_line}
 use Rattle.edit_lines.specs.Line.{MakesLine, Refuses}
 use Rattle.replay_lines.specs.StreamLine.{Says}
+use Rattle.target_steps.specs.Steps.{StepsUntilIdle}
 
 -- a writer's known bytes grew by some text of which this holds
 abbrev pub Prints : Option (List ℕ) → Option (List ℕ) → (List ℕ → Type 0) → Type 0
 Prints old new P = (text : List ℕ) × Appends old new text × P text
-
--- no connection is open
-abbrev pub HasNone : TargetState → Type 0
-HasNone t = (k : ℕ) → place t.connections k ≡ None
 
 -- ---- the bytes of an `rx`
 
@@ -47,30 +41,6 @@ abbrev pub Receives : ℕ → List ℕ → TargetState → TargetState → Type 
 Receives k bytes old new = new ≡ given k (place old.streams k) (place old.connections k) bytes old
 
 -- ---- the steps in between
-
--- whether a step of a connection has nothing to do
-abbrev pub is_idle_at : Option (List ℕ) → Option KnownConnection → Bool
-is_idle_at None o = true
-is_idle_at (Some held) None = true
-is_idle_at (Some held) (Some c) = is_idle held c
-
--- a step of connection k, which is not idle, with what the disks may do at its event
-pub record Steps (k : ℕ) (old new : TargetState) : Type 0 where
-  pub busy : is_idle_at (place old.streams k) (place old.connections k) ≡ false
-  pub disk_outcome : DiskOutcome
-  pub did : DisksAct (meets old (stepped k (front_of (place old.streams k)) disk_outcome)) old.disks new.disks
-  pub transition : Transition (stepped k (front_of (place old.streams k)) disk_outcome) old new
-
--- n of them, one after the other
-abbrev pub StepsTimes : ℕ → ℕ → TargetState → TargetState → Type 0
-StepsTimes zero k old new = new ≡ old
-StepsTimes (suc n) k old new = (mid : TargetState) × Steps k old mid × StepsTimes n k mid new
-
--- connection k steps until it is idle
-pub record StepsUntilIdle (k : ℕ) (old new : TargetState) : Type 0 where
-  pub number : ℕ
-  pub steps : StepsTimes number k old new
-  pub idle : is_idle_at (place new.streams k) (place new.connections k) ≡ true
 
 -- the connections below n step until each is idle, one after the other, in rising number
 unfoldable pub StepBelow : ℕ → TargetState → TargetState → Type 0

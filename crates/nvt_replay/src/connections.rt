@@ -1,21 +1,22 @@
 //! A target, and which of its connections are open.
 
 ghost use Rattle.std.specs.Prelude.{◌≡◌, IfErr, IfOk, IsOkUnless, MatchOption, OnErr};
-ghost use Rattle.std.specs.Prelude.{OnOk, is_some, slice_set, take};
+ghost use Rattle.std.specs.Prelude.{OnOk, is_some, take};
 ghost use Rattle.number_table.specs.Table.{place};
 ghost use Rattle.target_core.specs.Transition.{Transition};
 ghost use Rattle.target_core.specs.Target.{free_number, is_ended_at, open_fault, output_at};
 ghost use Rattle.target_history.specs.Event.{given_up, opened, ticked};
 ghost use Rattle.target_decision.specs.World.{connections_max};
-ghost use Rattle.nvt_replay.specs.Played.{Receives, StepBelow, StepsUntilIdle, TakesOutput};
-ghost use Rattle.nvt_replay.specs.Played.{HasNone, number_taken};
+ghost use Rattle.nvt_replay.specs.Played.{Receives, StepBelow, TakesOutput, number_taken};
 ghost use Rattle.edit_lines.specs.Line.{IsRefused, MakesLine};
+ghost use Rattle.target_steps.specs.Steps.{StepsUntilIdle};
 
 use block_store::MemoryDisk;
 use edit_lines::{NotMade, make_line};
 use std::alloc::{AllocError, Global};
 use std::marker::Model;
 use target_core::{OpenFault, StepFault, Stepped, Target};
+use target_steps::Marks;
 
 pub const CONNECTIONS: usize = target_core::CONNECTIONS_MAX;
 
@@ -23,32 +24,27 @@ pub const CONNECTIONS: usize = target_core::CONNECTIONS_MAX;
 #[derive(Drop)]
 pub struct Connections {
     target: Target<MemoryDisk>,
-    marks: [bool; CONNECTIONS],
+    marks: Marks,
 }
 
 impl Model for Connections {
-    ghost use Rattle.std.specs.Prelude.{◌≡◌, ℕ, is_some, slice_index_or, false};
-    ghost use Rattle.number_table.specs.Table.{place};
     ghost use Rattle.target_core.specs.Target.{TargetState};
+    ghost use Rattle.target_steps.specs.Marks.{AreMarks};
 
     ghost Value = { TargetState };
 
     ghost view = { λ c. c.target };
 
-    ghost invariant = { λ c. (k : ℕ) →
-        slice_index_or c.marks k false ≡ is_some (place c.target.connections k) };
+    ghost invariant = { λ c. AreMarks c.marks c.target };
 }
 
 impl Connections {
-    /// The connections of a target that has none yet.
+    /// The connections of a target.
     pub fn over(target: Target<MemoryDisk>) -> Connections
-        requires { HasNone target }
         ensures { result ≡ target }
     {
-        Connections {
-            target,
-            marks: [false; CONNECTIONS],
-        }
+        let marks = Marks::of(&target);
+        Connections { target, marks }
     }
 
     /// Opens a connection on a port, and returns its number, as the target does.
@@ -60,7 +56,7 @@ impl Connections {
         ensures err { OnErr result (self.new ≡ self.old) }
     {
         let k = self.target.open(port)?;
-        mark(&mut self.marks, k, true);
+        self.marks.add(k);
         Ok(k)
     }
 
@@ -76,7 +72,7 @@ impl Connections {
     pub fn is_open(&self, k: usize) -> bool
         ensures { result ≡ is_some (place self.now.connections k) }
     {
-        self.marks.get(k).copied().unwrap_or(false)
+        self.marks.is_known(k)
     }
 
     /// Hands the connection as many of the first bytes as it has room for, and returns their number.
@@ -141,7 +137,7 @@ impl Connections {
             (λ c. Transition (given_up k) self.old self.new) }
     {
         self.target.end(k);
-        mark(&mut self.marks, k, false);
+        self.marks.remove(k);
     }
 
     /// Sets the clock, in ms, and ends the connections of each controller whose time has run out.
@@ -149,14 +145,5 @@ impl Connections {
         ensures { Transition (ticked ms) self.old self.new }
     {
         self.target.tick(ms);
-    }
-}
-
-// Notes whether the connection of that number is open.
-fn mark(marks: &mut [bool], k: usize, is_open: bool)
-    ensures { marks.new ≡ slice_set marks.old k is_open }
-{
-    if k < marks.len() {
-        marks[k] = is_open;
     }
 }

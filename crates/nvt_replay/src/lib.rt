@@ -3,7 +3,6 @@
 #![tactic(auto)]
 
 mod connections;
-mod disks;
 pub mod playback;
 
 pub use config_text::Lines;

@@ -7,16 +7,13 @@ ghost use Rattle.std.specs.Io.KnownBytes.{Appends};
 ghost use Rattle.std.specs.List.{AllPass};
 ghost use Rattle.hex.specs.Hex.{decode_of, is_hex_digit};
 ghost use Rattle.config_rules.specs.Configuration.{are_disks, disks_alone};
+ghost use Rattle.edit_lines.specs.Configured.{AcceptsAll, Configures, IsConfigured, RefusesEdits};
 ghost use Rattle.line_words.specs.Lines.{lines_of};
 ghost use Rattle.number_table.specs.Table.{place};
-ghost use Rattle.target_core.specs.Target.{IsNewTarget, TargetState};
 ghost use Rattle.nvt_replay.specs.CutOff.{EditsInPart, EndsInPart, HandsOutInPart, OpensInPart};
 ghost use Rattle.nvt_replay.specs.CutOff.{PlaysInPart, ReceivesInPart, DrainsInPart, TicksInPart};
-ghost use Rattle.nvt_replay.specs.Replay.{AcceptsAll, Configures, EndsScript, Explains};
-ghost use Rattle.nvt_replay.specs.Replay.{EndsAtLine, IsBeforeScript, IsConfigured, LeavesLine};
-ghost use Rattle.nvt_replay.specs.Replay.{TransitionByLine, TransitionsByLines, PlaysBefore};
-ghost use Rattle.nvt_replay.specs.Replay.{Replays, ReplaysBefore};
-ghost use Rattle.nvt_replay.specs.Replay.{RefusesDisks, RefusesEdits, RefusesLines, TakesLine, zeroed};
+ghost use Rattle.nvt_replay.specs.Replay.{EndsAtLine, EndsScript, Explains, IsBeforeScript, LeavesLine};
+ghost use Rattle.nvt_replay.specs.Replay.{PlaysBefore, Replays, ReplaysBefore};
 ghost use Rattle.nvt_replay.specs.Played.{ArePrinted, HandsOut, Plays, PlaysAll, PlaysLine};
 ghost use Rattle.nvt_replay.specs.Played.{PlaysEdit, PlaysEnd, PlaysOpen, PlaysReceive, Prints};
 ghost use Rattle.nvt_replay.specs.Played.{PlaysTick, Drains};
@@ -26,14 +23,12 @@ ghost use Rattle.replay_lines.specs.StreamLine.{HasHex, IsHex, IsStreamLine};
 ghost use Rattle.replay_lines.specs.Writing.{AppendsFront};
 
 use crate::connections::{CONNECTIONS, Connections};
-use crate::disks::memory_disks;
-use config_rules::are_disks;
 use config_text::Lines;
-use edit_lines::NotMade;
+use edit_lines::{NotMade, configure};
 use replay_lines::{Printer, ReplayFault, StreamLine, read_stream_line};
 use std::alloc::{AllocError, Global};
 use std::io::Write;
-use target_core::{OpenFault, Target};
+use target_core::OpenFault;
 
 /// Applies the edits to a target with disks of these sizes, in units of 512 bytes, and runs the
 /// script over it. Prints what the target sends and which connections it opens and ends.
@@ -62,7 +57,6 @@ pub fn replay<W: Write>(
 }
 
 // A playback over a target of these disks after the edits.
-#[tactic(auto, using(crate::proofs::ReplayLemmas::refused_disks))]
 fn begin(alloc: Global, edits: &[u8], units: &[u64]) -> Result<Playback, ReplayFault>
     ensures disks { OnOk result (are_disks units.now ≡ true) }
     ensures refused { OnFalse (are_disks units.now) (result ≡ Err ReplayFault.Disks) }
@@ -73,65 +67,13 @@ fn begin(alloc: Global, edits: &[u8], units: &[u64]) -> Result<Playback, ReplayF
     ensures unfailed { IfOk result (λ playback. playback.printer.writes.has_failed ≡ false) }
     ensures fault { IfErr result (λ fault. RefusesEdits fault edits.now units.now) }
 {
-    let mut playback = over_zeros(alloc, units)?;
-    take_edits(alloc, &mut playback.connections, edits)?;
-    Ok(playback)
-}
-
-// A playback over a target with a disk of zeros in memory, of each of these sizes.
-fn over_zeros(alloc: Global, units: &[u64]) -> Result<Playback, ReplayFault>
-    ensures ok { IfOk result (λ playback. IsNewTarget (zeroed units.now) playback.connections) }
-    ensures unfailed { IfOk result (λ playback. playback.printer.writes.has_failed ≡ false) }
-    ensures disks { OnOk result (are_disks units.now ≡ true) }
-    ensures refused { OnFalse (are_disks units.now) (result ≡ Err ReplayFault.Disks) }
-    ensures fault { IfErr result (λ fault. RefusesDisks fault units.now) }
-{
-    if !are_disks(units) {
-        return Err(ReplayFault::Disks);
-    }
-    let disks = memory_disks(alloc, units)?;
-    match Target::new(alloc, disks) {
+    match configure(alloc, edits, units) {
         Ok(target) => Ok(Playback {
             connections: Connections::over(target),
             bytes: Vec::new(alloc),
             printer: Printer::new(alloc),
         }),
-        Err(_) => Err(ReplayFault::Memory),
-    }
-}
-
-// Applies the edits, up to the first line that is refused.
-fn take_edits(alloc: Global, connections: &mut Connections, edits: &[u8]) -> Result<(), ReplayFault>
-    ensures ok { OnOk result (Configures (lines_of edits.now) connections.old.config connections.new.config) }
-    ensures transition { OnOk result (TransitionsByLines (lines_of edits.now) connections.old connections.new) }
-    ensures fault { IfErr result (λ fault.
-        RefusesLines fault (lines_of edits.now) connections.old.config) }
-{
-    let mut number = 0;
-    for line in Lines::of(edits) {
-        number += 1;
-        take_edit(alloc, connections, number, line)?;
-    }
-    Ok(())
-}
-
-// Applies one line of edits.
-fn take_edit(
-    alloc: Global,
-    connections: &mut Connections,
-    number: usize,
-    line: &[u8],
-) -> Result<(), ReplayFault>
-    ensures takes { TakesLine connections.old.config line.now number result connections.new.config }
-    ensures transition { OnOk result (TransitionByLine line.now connections.old connections.new) }
-{
-    match connections.edit(alloc, line) {
-        Ok(()) => Ok(()),
-        Err(NotMade::Memory) => Err(ReplayFault::Memory),
-        Err(NotMade::Refused(reply)) => Err(ReplayFault::EditLine {
-            line: number,
-            reply,
-        }),
+        Err(fault) => Err(fault),
     }
 }
 

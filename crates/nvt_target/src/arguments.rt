@@ -3,7 +3,9 @@
 use crate::command_line;
 use clap::error::ErrorKind;
 use clap::{ArgMatches, Error};
-use replay_program::{ReplayArguments, ReplayFault};
+use command_parts::{DiskArguments, ReplayFault};
+use replay_program::ReplayArguments;
+use serve_program::ServeArguments;
 use std::alloc::{AllocError, Global};
 use std::rt::Env;
 use std::{env, io};
@@ -12,6 +14,7 @@ use std::{env, io};
 #[derive(Drop)]
 pub enum Usage {
     Replay(ReplayArguments),
+    Serve(ServeArguments),
     /// The help, which was printed.
     Help,
     Bad,
@@ -67,8 +70,11 @@ fn refused<R: Print>(rt: &R, error: &Error) -> Result<Usage, ReplayFault> {
 }
 
 fn usage_of(alloc: Global, matches: &ArgMatches<'_>) -> Result<Usage, ReplayFault> {
-    match matches.subcommand_matches("replay") {
-        Some(replay) => replay_usage(alloc, replay),
+    if let Some(replay) = matches.subcommand_matches("replay") {
+        return replay_usage(alloc, replay);
+    }
+    match matches.subcommand_matches("run") {
+        Some(run) => serve_usage(alloc, run),
         None => Ok(Usage::Bad),
     }
 }
@@ -77,18 +83,42 @@ fn replay_usage(alloc: Global, replay: &ArgMatches<'_>) -> Result<Usage, ReplayF
     match (
         replay.get_str("EDITS"),
         replay.get_str("STREAM"),
-        replay.get_one::<u16>("disks"),
-        replay.get_one::<u64>("units"),
+        disk_arguments(replay),
     ) {
-        (Some(edits), Some(stream), Some(disks), Some(units)) => Ok(Usage::Replay(
-            ReplayArguments {
+        (Some(edits), Some(stream), Some(disks)) => Ok(Usage::Replay(ReplayArguments {
+            edits: String::from_str(alloc, edits)?,
+            stream: String::from_str(alloc, stream)?,
+            disks,
+            explain: replay.get_flag("explain"),
+        })),
+        _ => Ok(Usage::Bad),
+    }
+}
+
+fn serve_usage(alloc: Global, run: &ArgMatches<'_>) -> Result<Usage, ReplayFault> {
+    match (
+        run.get_str("EDITS"),
+        run.get_one::<u16>("control"),
+        run.get_one::<u64>("turns"),
+        disk_arguments(run),
+    ) {
+        (Some(edits), Some(control), Some(turns), Some(disks)) => Ok(Usage::Serve(
+            ServeArguments {
                 edits: String::from_str(alloc, edits)?,
-                stream: String::from_str(alloc, stream)?,
-                disks: usize::from(disks),
-                units,
-                explain: replay.get_flag("explain"),
+                control,
+                turns,
+                disks,
             },
         )),
         _ => Ok(Usage::Bad),
     }
+}
+
+fn disk_arguments(matches: &ArgMatches<'_>) -> Option<DiskArguments> {
+    let disks = matches.get_one::<u16>("disks")?;
+    let units = matches.get_one::<u64>("units")?;
+    Some(DiskArguments {
+        disks: usize::from(disks),
+        units,
+    })
 }

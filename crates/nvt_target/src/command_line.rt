@@ -1,6 +1,6 @@
 //! The command line, as the program declares it.
 
-use crate::help::HELP;
+use crate::help::{HELP, RUN_HELP};
 use clap::{Arg, ArgAction, Command, value_parser};
 use std::alloc::{AllocError, Global};
 
@@ -8,16 +8,16 @@ const DISKS_MAX: i64 = 256;
 
 const UNITS_MAX: i64 = 1_048_576;
 
-/// The program, with its command `replay`.
+const SERVICE_MAX: i64 = 65_535;
+
+/// The program, with its commands `replay` and `run`.
 pub fn program<'a>(alloc: Global) -> Result<Command<'a>, AllocError> {
-    match replay(alloc) {
-        Ok(replay) => Command::new(alloc, "nvt_target")
-            .about("A target of NVMe over TCP")
-            .after_help(HELP)
-            .subcommand_required(true)
-            .subcommand(replay),
-        Err(AllocError) => Err(AllocError),
-    }
+    let program = Command::new(alloc, "nvt_target")
+        .about("A target of NVMe over TCP")
+        .after_help(HELP)
+        .subcommand_required(true);
+    let program = with_command(Ok(program), replay(alloc));
+    with_command(program, run(alloc))
 }
 
 fn replay<'a>(alloc: Global) -> Result<Command<'a>, AllocError> {
@@ -30,6 +30,28 @@ fn replay<'a>(alloc: Global) -> Result<Command<'a>, AllocError> {
     let command = with(command, disks(alloc));
     let command = with(command, units(alloc));
     with(command, explain(alloc))
+}
+
+fn run<'a>(alloc: Global) -> Result<Command<'a>, AllocError> {
+    let command = Command::new(alloc, "run")
+        .about("Applies the lines of EDITS, and serves hosts over TCP")
+        .after_help(RUN_HELP)
+        .arg(file(alloc, "EDITS", "A file of one edit a line"));
+    let command = with(command, control(alloc));
+    let command = with(command, turns(alloc));
+    let command = with(command, disks(alloc));
+    with(command, units(alloc))
+}
+
+// The program with one command more, unless memory was wanted before.
+fn with_command<'a>(
+    program: Result<Command<'a>, AllocError>,
+    command: Result<Command<'a>, AllocError>,
+) -> Result<Command<'a>, AllocError> {
+    match (program, command) {
+        (Ok(program), Ok(command)) => program.subcommand(command),
+        _ => Err(AllocError),
+    }
 }
 
 // The command with one argument more, unless memory was wanted before.
@@ -62,6 +84,19 @@ fn disks<'a>(alloc: Global) -> Arg<'a> {
 fn units<'a>(alloc: Global) -> Arg<'a> {
     let help = "The size of each disk in units of 512 bytes, 1 to 1048576";
     option(alloc, "units", "2048", help).value_parser(value_parser!(u64).range(1..=UNITS_MAX))
+}
+
+fn control<'a>(alloc: Global) -> Arg<'a> {
+    Arg::new(alloc, "control")
+        .long("control")
+        .required(true)
+        .value_parser(value_parser!(u16).range(1..=SERVICE_MAX))
+        .help("The TCP port for lines of edits, at 127.0.0.1")
+}
+
+fn turns<'a>(alloc: Global) -> Arg<'a> {
+    let help = "How many turns the target is served; an idle one takes up to 1 ms";
+    option(alloc, "turns", "18446744073709551615", help).value_parser(value_parser!(u64))
 }
 
 fn explain<'a>(alloc: Global) -> Arg<'a> {

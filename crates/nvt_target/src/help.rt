@@ -1,4 +1,4 @@
-//! What the help tells beside the arguments: the lines of the two files, and what is printed.
+//! What the help tells beside the arguments: the lines of files and of the control port, and what is printed.
 
 /// The lines of edits, their replies in words, the lines of a script, and an example.
 pub const HELP: &str = "EDITS has one edit a line, words with one space between:
@@ -62,3 +62,29 @@ Example:
   printf 'open 1\\nend 0\\n' > STREAM
   nvt_target replay EDITS STREAM --disks 1 --units 2048
 prints `0 open`.";
+
+/// Where hosts and lines of edits come from, what is printed, and a first session.
+pub const RUN_HELP: &str =
+    "EDITS has one edit a line; `nvt_target help replay` lists them, and the replies to them. A line that
+is refused ends the program before it listens to anything.
+
+Hosts connect to the address of each port of the edits. At 127.0.0.1, on the control port, any
+local user can send further edits, one a line; each is answered by a line, `ok` or why it is
+refused. Ports that are added are listened to from then on, those that are deleted no more, and
+a host that is connected learns what an edit changed from its log pages.
+
+On standard error there is a line for each listener, as `listening on 127.0.0.1:4420, port 1`.
+On standard output there is `port ID: cannot listen` for a port whose address cannot be listened
+to; it is tried again at the next edit.
+
+A first session, with a Linux host beside it:
+  printf 'port add 1 ipv4 127.0.0.1 4420\\n' > EDITS
+  printf 'subsys add nqn.2026-01.test:a SN-A open\\n' >> EDITS
+  printf 'link add 1 nqn.2026-01.test:a\\n' >> EDITS
+  nvt_target run EDITS --control 4419 --disks 2 --units 262144 &
+  nvme discover -t tcp -a 127.0.0.1 -s 4420
+  nvme connect -t tcp -a 127.0.0.1 -s 4420 -n nqn.2026-01.test:a
+  nc 127.0.0.1 4419
+and then, to nc, the line
+  ns add nqn.2026-01.test:a 1 0 262144 512 11111111-1111-4111-8111-111111111111 1
+which is answered `ok`: the host has a disk of 128 MiB.";

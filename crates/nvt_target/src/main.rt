@@ -1,7 +1,6 @@
-//! A storage target of NVMe over TCP as a program: `replay` applies a file of edits to an empty
-//! target and runs a script of connections over it. It prints each PDU that the target sends, in
-//! hex, and the connections that it opens and ends. What it prints depends on its two files and its
-//! arguments alone.
+//! A storage target of NVMe over TCP as a program. `run` applies a file of edits to an empty target, and serves hosts
+//! over TCP. `replay` runs a script of connections over such a target, and prints each PDU that it sends, in hex, and
+//! the connections that it opens and ends: what that prints depends on its two files and its arguments alone.
 #![tactic(auto)]
 
 mod arguments;
@@ -9,7 +8,7 @@ mod command_line;
 mod help;
 
 use arguments::Usage;
-use replay_program::{ReplayFault, exit_status};
+use command_parts::{ReplayFault, exit_status};
 use std::process::ExitCode;
 
 const BAD_ARGUMENTS: u8 = 2;
@@ -17,6 +16,7 @@ const BAD_ARGUMENTS: u8 = 2;
 fn main(rt: HostRuntime) -> ExitCode {
     match arguments::read(&rt) {
         Ok(Usage::Replay(arguments)) => finish(&rt, replay_program::run(&rt, &arguments)),
+        Ok(Usage::Serve(arguments)) => finish(&rt, serve_program::run(&rt, &arguments)),
         Ok(Usage::Help) => ExitCode::SUCCESS,
         Ok(Usage::Bad) => {
             let _ = eprintln!(rt; "error: bad arguments");

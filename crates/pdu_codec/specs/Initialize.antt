@@ -23,6 +23,13 @@ ic_req_of bytes = record {
   maxr2t = field_at 4 12 bytes;
 }
 
+-- what an ICReq says after its common header, before 112 reserved bytes
+abbrev pub ic_req_fields : IcReq → List ℕ
+ic_req_fields r = to_le_bytes w16 r.pfv ++ (r.hpda ∷ r.dgst ∷ []) ++ to_le_bytes w32 r.maxr2t
+
+abbrev pub ic_req : IcReq → List ℕ
+ic_req r = common_header types.IcReq 0 128 0 128 ++ ic_req_fields r ++ replicate 112 0
+
 -- what an ICResp of these bytes answers
 abbrev pub ic_resp_of : List ℕ → IcResp
 ic_resp_of bytes = record {

@@ -1,12 +1,16 @@
 pub mod C2hData
+pub mod CapsuleCmd
 pub mod CapsuleResp
 pub mod CommonHeader
 pub mod ConnectData
 pub mod Cqe
 pub mod DataHead
+pub mod H2cData
 pub mod Initialize
+pub mod Laws
 pub mod Output
 pub mod R2t
 pub mod Sgl
 pub mod Sqe
+pub mod SqeFields
 pub mod TermReq

@@ -13,3 +13,8 @@ term_fields fes fei = to_le_bytes w16 fes ++ to_le_bytes w32 fei
 abbrev pub c2h_term_req : ℕ → ℕ → List ℕ → List ℕ
 c2h_term_req fes fei head =
     common_header types.C2hTermReq 0 24 0 (24 + length head) ++ term_fields fes fei ++ replicate 10 0 ++ head
+
+-- The same of the host.
+abbrev pub h2c_term_req : ℕ → ℕ → List ℕ → List ℕ
+h2c_term_req fes fei head =
+    common_header types.H2cTermReq 0 24 0 (24 + length head) ++ term_fields fes fei ++ replicate 10 0 ++ head

@@ -21,6 +21,7 @@ pub struct Connect {
 
 impl Connect {
     ghost use Rattle.pdu_codec.specs.Sqe.{connect_of};
+    ghost use Rattle.pdu_codec.specs.SqeFields.{connect_dwords};
 
     // The offsets of the fields in the submission queue entry.
 
@@ -45,6 +46,15 @@ impl Connect {
             cattr: entry[Connect::CATTR_AT],
             kato: u32_at(entry, Connect::KATO_AT),
         }
+    }
+
+    /// Command dwords 10 to 15, as a host writes them.
+    pub fn dwords(&self) -> [u32; 6]
+        ensures { result ≡ connect_dwords self.now }
+    {
+        let queue = u32::from(self.recfmt) + 0x1_0000 * u32::from(self.qid);
+        let size = u32::from(self.sqsize) + 0x1_0000 * u32::from(self.cattr);
+        [queue, size, self.kato, 0, 0, 0]
     }
 }
 

@@ -1,7 +1,7 @@
 ghost use Rattle.std.specs.Prelude.{◌≡◌, ◌≤◌, ◌+◌, length, slice_range};
 ghost use Rattle.pdu_codec.specs.ConnectData.{hostid_of, cntlid_of, subnqn_of, hostnqn_of};
 
-use nvt_fields::u16_at;
+use nvt_fields::{u16_at, write_zeroed};
 
 /// The data of a Connect command, 1,024 bytes, lent at their places (Base 2.0, section 6.3).
 #[derive(Drop)]
@@ -43,6 +43,39 @@ impl<'a> ConnectData<'a> {
             subnqn: part(bytes, ConnectData::SUBNQN_AT),
             hostnqn: part(bytes, ConnectData::HOSTNQN_AT),
         }
+    }
+}
+
+/// The data of a Connect command as a host writes it: its names as they are, of at most 256 bytes each.
+#[derive(Drop)]
+pub struct ConnectDataFields<'a> {
+    /// Host identifier.
+    pub hostid: &'a [u8; 16],
+    /// Controller identifier, FFFFh to leave it to the subsystem.
+    pub cntlid: u16,
+    /// The subsystem's name.
+    pub subnqn: &'a [u8],
+    /// The host's name.
+    pub hostnqn: &'a [u8],
+}
+
+impl ConnectDataFields<'_> {
+    ghost use Rattle.pdu_codec.specs.ConnectData.{connect_data};
+
+    /// Writes the data over what stood there.
+    pub fn write(&self, bytes: &mut [u8; ConnectData::LEN])
+        requires subnqn { length self.now.subnqn.now ≤ 256 }
+        requires hostnqn { length self.now.hostnqn.now ≤ 256 }
+        ensures { bytes.new ≡ connect_data self.now.hostid.now self.now.cntlid
+            self.now.subnqn.now self.now.hostnqn.now }
+    {
+        let hostid = self.hostid;
+        let cntlid = self.cntlid.to_le_bytes();
+        bytes.fill(0);
+        bytes[..16].copy_from_slice(hostid);
+        bytes[16..18].copy_from_slice(&cntlid);
+        write_zeroed(&mut bytes[256..512], self.subnqn);
+        write_zeroed(&mut bytes[512..768], self.hostnqn);
     }
 }
 

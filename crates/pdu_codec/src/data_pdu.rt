@@ -8,9 +8,9 @@ use crate::append::{Full, append, append_room, common_header};
 use bytes::BytesMut;
 use nvt_fields::PduType;
 
-const HEADER_LEN: u32 = 24;
+pub(crate) const HEADER_LEN: u32 = 24;
 
-const LAST_PDU: u8 = 0x04;
+pub(crate) const LAST_PDU: u8 = 0x04;
 
 /// One C2HData of a command. This controller never sets SUCCESS in one.
 #[derive(Drop)]

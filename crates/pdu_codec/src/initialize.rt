@@ -1,5 +1,5 @@
 //! The PDUs that set a connection up (TCP Transport 1.0, section 3.6).
-ghost use Rattle.std.specs.Prelude.{◌≡◌, ◌≤◌, length};
+ghost use Rattle.std.specs.Prelude.{◌≡◌, ◌≤◌, ◌+◌, ◌++◌, length, OnOk, OnErr, IsOk};
 
 use crate::append::{Full, append, common_header};
 use bytes::BytesMut;
@@ -19,7 +19,8 @@ pub struct IcReq {
 }
 
 impl IcReq {
-    ghost use Rattle.pdu_codec.specs.Initialize.{ic_req_of};
+    ghost use Rattle.pdu_codec.specs.Initialize.{ic_req, ic_req_fields, ic_req_of};
+    ghost use Rattle.pdu_codec.specs.Output.{AppendsOrFull};
 
     // Offsets of fields in the header.
 
@@ -38,6 +39,29 @@ impl IcReq {
             dgst: header[11],
             maxr2t: u32_at(header, 12),
         }
+    }
+
+    /// Appends the PDU, of 128 bytes.
+    pub fn write(&self, out: &mut BytesMut) -> Result<(), Full>
+        ensures exact { AppendsOrFull out.old out.new (ic_req self.now) result }
+        ensures bytes { OnOk result (out.new.items ≡ out.old.items ++ ic_req self.now) }
+        ensures full { OnErr result (out.new ≡ out.old) }
+        ensures fits { 128 ≤ out.old.spare → IsOk result }
+        ensures spare { out.old.spare ≤ out.new.spare + 128 }
+    {
+        let common = common_header(PduType::IcReq, 0, 128, 0, 128);
+        append(out, &common, &self.fields(), 112, &[])
+    }
+
+    // What follows the common header, up to the reserved bytes.
+    fn fields(&self) -> [u8; 8]
+        ensures { result ≡ ic_req_fields self.now }
+    {
+        let pfv = self.pfv.to_le_bytes();
+        let max = self.maxr2t.to_le_bytes();
+        [
+            pfv[0], pfv[1], self.hpda, self.dgst, max[0], max[1], max[2], max[3],
+        ]
     }
 }
 

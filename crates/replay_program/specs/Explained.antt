@@ -1,7 +1,8 @@
 -- How a replay with words ends.
 use Rattle.std.specs.Prelude.{ℕ, Bool, List, ◌⊎◌}
 use Rattle.line_words.specs.Lines.{lines_of}
-use Rattle.nvt_replay.specs.Replay.{EndsScript, RefusesEdits}
+use Rattle.edit_lines.specs.Configured.{RefusesEdits}
+use Rattle.nvt_replay.specs.Replay.{EndsScript}
 use Rattle.replay_lines.specs.declared.fault.ReplayFault.{ReplayFault}
 
 -- a fault of the disks or the edits, or one of the script that runs, as without words, whether or not a write has failed

@@ -1,8 +1,8 @@
 //! The command `replay`, from its files to the standard output.
 
-use crate::arguments::{ReplayArguments, disk_sizes};
+use crate::arguments::ReplayArguments;
 use crate::explained;
-use crate::files::read_file;
+use command_parts::{disk_sizes, read_file};
 use nvt_replay::{ReplayFault, replay, written};
 use std::alloc::Global;
 use std::io::{self, BufWriter, Write};
@@ -16,7 +16,7 @@ pub fn run<R: Files + Print + AllocGlobal>(
     arguments: &ReplayArguments,
 ) -> Result<(), ReplayFault> {
     let alloc = rt.alloc();
-    let units = disk_sizes(alloc, arguments)?;
+    let units = disk_sizes(alloc, &arguments.disks)?;
     let edits = read_file(rt, alloc, arguments.edits.as_str())?;
     let stream = read_file(rt, alloc, arguments.stream.as_str());
     match BufWriter::with_capacity(alloc, OUTPUT_BUFFER, io::writer(rt)) {

@@ -1,5 +1,5 @@
 //! The target: a configuration and the connections that hosts made.
-ghost use Rattle.std.specs.Prelude.{◌≡◌, ◌<◌, ◌≤◌, IfOk, IfErr, IsOk, IsOkUnless, Ok, OnErr, OnOk, MatchOption, Some, None, [], drop, length, map, replicate, true};
+ghost use Rattle.std.specs.Prelude.{◌≡◌, ◌<◌, ◌≤◌, IfOk, IfErr, IsOk, IsOkUnless, Ok, OnErr, OnOk, MatchOption, Some, None, [], drop, is_some, length, map, replicate, true};
 ghost use Rattle.std.specs.Bool.{OnFalse, OnTrue};
 ghost use Rattle.std.specs.Option.{option_copied};
 ghost use Rattle.number_table.specs.Table.{place};
@@ -100,6 +100,19 @@ impl<D: Disk + Drop> Target<D> {
         ensures { result.now ≡ self.now.config }
     {
         &self.config
+    }
+
+    /// The allocator that it takes its memory from.
+    pub fn allocator(&self) -> Global {
+        self.alloc
+    }
+
+    /// Whether a connection of this number is known: opened, and not given up.
+    pub fn is_known(&self, k: usize) -> bool
+        ensures known { result ≡ is_some (place self.now.connections k) }
+        ensures most { length self.now.connections ≡ connections_max }
+    {
+        self.connections.get(k).is_some()
     }
 
     /// Makes the edit, or says why not. After a refusal, `Memory` included, the target is as it was.

@@ -123,7 +123,9 @@ fn command_on(world: &World<'_>, v: &ConnectionState, sqe: &Sqe<'_>, payload: &[
     }
     match v.session {
         Session::Connected { role, .. } => on_queue(world, &v.notices, role, sqe, payload),
-        _ => before_connect(world, v.port, sqe, payload),
+        Session::Opened | Session::Initialized | Session::Ended => {
+            before_connect(world, v.port, sqe, payload)
+        }
     }
 }
 
@@ -230,10 +232,10 @@ fn refused_with(session: &Session, cid: u16, transfer: Option<u16>, refusal: Ref
 fn head_after(session: &Session, consequence: &Consequence) -> u16
     ensures { result ≡ head_after session.now consequence.now }
 {
-    match (session, consequence) {
-        (_, Consequence::Begin(beginning)) => next_head(beginning.sqsize, 0),
-        (_, Consequence::Join(joining)) => next_head(joining.sqsize, 0),
-        _ => session.head_counted(),
+    match consequence {
+        Consequence::Begin(beginning) => next_head(beginning.sqsize, 0),
+        Consequence::Join(joining) => next_head(joining.sqsize, 0),
+        Consequence::Nothing | Consequence::Update { .. } => session.head_counted(),
     }
 }
 

@@ -5,7 +5,7 @@ ghost use Rattle.target_decision.specs.Data.{bytes_in, bytes_of, data_len, len_i
 ghost use Rattle.target_decision.specs.Decision.{data_of, payload_of};
 ghost use Rattle.target_decision.specs.World.{world_in};
 
-use crate::decision::{Answer, Decision, Reply};
+use crate::decision::{Answer, Decision};
 use crate::session::ConnectionState;
 use crate::world::World;
 use admin_queue::{AdminController, Payload};
@@ -62,13 +62,16 @@ fn payload_of(decision: &Decision) -> Option<Payload>
     ensures { result ≡ payload_of decision.now }
 {
     match decision {
-        Decision::Reply(
-            Reply {
-                answer: Answer::Given(given),
-                ..
-            },
-        ) => given.data,
-        _ => None,
+        Decision::Reply(reply) => match &reply.answer {
+            Answer::Given(given) => given.data,
+            Answer::Performed(_) => None,
+        },
+        Decision::Initialize(_)
+        | Decision::Request(_)
+        | Decision::Wait { .. }
+        | Decision::Receive { .. }
+        | Decision::Terminate(_)
+        | Decision::Close => None,
     }
 }
 

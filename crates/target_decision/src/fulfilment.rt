@@ -17,7 +17,7 @@ ghost use Rattle.target_decision.specs.World.{world_in};
 use crate::carry::{Carried, carry};
 use crate::consequence::Consequence;
 use crate::data::{Data, len_in};
-use crate::decision::{Answer, Decision, Reply};
+use crate::decision::{Answer, Decision};
 use crate::session::ConnectionState;
 use crate::tell::TOLD_ROOM;
 use crate::transfer::WaitingCommand;
@@ -105,13 +105,16 @@ fn room_of(decision: &Decision) -> usize
     ensures { result ≡ room_of decision.now }
 {
     match decision {
-        Decision::Reply(
-            Reply {
-                answer: Answer::Performed(operation),
-                ..
-            },
-        ) => operation.room(),
-        _ => 0,
+        Decision::Reply(reply) => match &reply.answer {
+            Answer::Given(_) => 0,
+            Answer::Performed(operation) => operation.room(),
+        },
+        Decision::Initialize(_)
+        | Decision::Request(_)
+        | Decision::Wait { .. }
+        | Decision::Receive { .. }
+        | Decision::Terminate(_)
+        | Decision::Close => 0,
     }
 }
 

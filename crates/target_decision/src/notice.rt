@@ -15,15 +15,20 @@ pub(crate) fn note(notices: &mut Notices, decision: &Decision)
     match decision {
         Decision::Wait { cid } => notices.update(NoticeUpdate::Requested { cid: *cid }),
         Decision::Reply(reply) => follow(notices, &reply.consequence),
-        _ => {}
+        Decision::Initialize(_)
+        | Decision::Request(_)
+        | Decision::Receive { .. }
+        | Decision::Terminate(_)
+        | Decision::Close => {}
     }
 }
 
 fn follow(notices: &mut Notices, consequence: &Consequence)
     ensures { notices.new ≡ notices_followed notices.old consequence.now }
 {
-    if let Consequence::Update { update, .. } = consequence {
-        follow_update(notices, update);
+    match consequence {
+        Consequence::Update { update, .. } => follow_update(notices, update),
+        Consequence::Nothing | Consequence::Begin(_) | Consequence::Join(_) => {}
     }
 }
 
@@ -37,6 +42,6 @@ fn follow_update(notices: &mut Notices, update: &Update)
             Change::Shutdown | Change::Stay => {}
         },
         Update::Command(Effect::Notices(update)) => notices.update(*update),
-        Update::Command(_) => {}
+        Update::Command(Effect::Nothing | Effect::KeepAlive | Effect::KeepAliveTimeout(_)) => {}
     }
 }

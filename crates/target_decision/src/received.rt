@@ -62,6 +62,12 @@ fn finished(world: &World<'_>, session: &Session, command: &WaitingCommand, came
             role: Role::Io { cntlid, .. },
             ..
         } => io::finished(world, *cntlid, command, came),
-        _ => refused(Status::COMMAND_SEQUENCE_ERROR),
+        Session::Connected {
+            role: Role::Admin { .. },
+            ..
+        }
+        | Session::Opened
+        | Session::Initialized
+        | Session::Ended => refused(Status::COMMAND_SEQUENCE_ERROR),
     }
 }

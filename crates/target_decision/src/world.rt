@@ -74,7 +74,13 @@ impl<'a> World<'a> {
                 role: Role::Admin { cntlid },
                 ..
             } => self.admin_controller(&v.notices, cntlid),
-            _ => None,
+            Session::Connected {
+                role: Role::Io { .. },
+                ..
+            }
+            | Session::Opened
+            | Session::Initialized
+            | Session::Ended => None,
         }
     }
 }

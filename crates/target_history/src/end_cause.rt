@@ -38,7 +38,25 @@ impl EndCause {
     {
         match edit {
             Edit::PortDel { id } => EndCause::Port(*id),
-            _ => EndCause::Permission,
+            Edit::SubsystemAdd { .. }
+            | Edit::SubsystemSet { .. }
+            | Edit::SubsystemDel { .. }
+            | Edit::NamespaceAdd(_)
+            | Edit::NamespaceSize { .. }
+            | Edit::NamespaceGroup { .. }
+            | Edit::NamespaceDel { .. }
+            | Edit::PortAdd(_)
+            | Edit::PortSet(_)
+            | Edit::LinkAdd { .. }
+            | Edit::LinkDel { .. }
+            | Edit::HostAdd { .. }
+            | Edit::HostDel { .. }
+            | Edit::AllowAdd { .. }
+            | Edit::AllowDel { .. }
+            | Edit::AnaSet { .. }
+            | Edit::ReferralAdd(_)
+            | Edit::ReferralSet(_)
+            | Edit::ReferralDel { .. } => EndCause::Permission,
         }
     }
 
@@ -131,7 +149,16 @@ impl EndCause {
     {
         match (self, controller) {
             (EndCause::Clock(now), Some(controller)) => runs_out(*now, controller),
-            _ => false,
+            (EndCause::Clock(_), None) => false,
+            (
+                EndCause::Nothing
+                | EndCause::Port(_)
+                | EndCause::Permission
+                | EndCause::Controller(_)
+                | EndCause::Queue { .. }
+                | EndCause::Reset(_),
+                _,
+            ) => false,
         }
     }
 
@@ -149,7 +176,12 @@ impl EndCause {
     {
         match self {
             EndCause::Port(id) => *id == u64::from(port),
-            _ => false,
+            EndCause::Nothing
+            | EndCause::Permission
+            | EndCause::Controller(_)
+            | EndCause::Queue { .. }
+            | EndCause::Reset(_)
+            | EndCause::Clock(_) => false,
         }
     }
 
@@ -178,7 +210,12 @@ impl EndCause {
     {
         match self {
             EndCause::Reset(reset) => *reset == cntlid,
-            _ => false,
+            EndCause::Nothing
+            | EndCause::Port(_)
+            | EndCause::Permission
+            | EndCause::Controller(_)
+            | EndCause::Queue { .. }
+            | EndCause::Clock(_) => false,
         }
     }
 }

@@ -1,6 +1,7 @@
 //! What the tests of refused growths share: edits of each kind, a call that is made again, and what a
 //! test says at its end.
 use crate::line::{Blocks, Line, edit};
+use crate::names::{A, B};
 use nvt_config::{Access, AnaState, Edit, Family};
 use nvt_fields::NqnFault;
 use std::alloc::{AllocError, Global};
@@ -19,10 +20,6 @@ macro_rules! again {
         answer
     }};
 }
-
-pub const A: &[u8] = b"nqn.2026-01.test:a";
-
-pub const B: &[u8] = b"nqn.2026-01.test:b";
 
 pub const HOST: &[u8] = b"nqn.2026-01.test:h1";
 

@@ -56,6 +56,10 @@ pub fn edit(alloc: Global, line: Line<'_>) -> Result<Edit, NqnFault> {
         Line::SubsystemAdd(nqn, serial, access) => subsystem_add(alloc, nqn, serial, access),
         Line::SubsystemSet(nqn, access) => subsystem_set(alloc, nqn, access),
         Line::SubsystemDel(nqn) => subsystem_del(alloc, nqn),
+        Line::NamespaceAdd(nqn, blocks) => namespace_add(alloc, nqn, blocks),
+        Line::NamespaceSize(nqn, nsid, blocks) => namespace_size(alloc, nqn, nsid, blocks),
+        Line::NamespaceGroup(nqn, nsid, group) => namespace_group(alloc, nqn, nsid, group),
+        Line::NamespaceDel(nqn, nsid) => namespace_del(alloc, nqn, nsid),
         Line::PortAdd(id, address, service) => port_add(alloc, id, address, service),
         Line::PortSet(id, family, address, service) => {
             port_set(alloc, id, family, address, service)
@@ -67,23 +71,12 @@ pub fn edit(alloc: Global, line: Line<'_>) -> Result<Edit, NqnFault> {
         Line::HostDel(nqn) => host_del(alloc, nqn),
         Line::AllowAdd(nqn, host) => allow_add(alloc, nqn, host),
         Line::AllowDel(nqn, host) => allow_del(alloc, nqn, host),
+        Line::AnaSet(port, nqn, group, state) => ana_set(alloc, port, nqn, group, state),
         Line::ReferralAdd(id, address, service) => referral_add(alloc, id, address, service),
         Line::ReferralSet(id, family, address, service) => {
             referral_set(alloc, id, family, address, service)
         }
         Line::ReferralDel(id) => Ok(Edit::ReferralDel { id }),
-        _ => namespace_edit(alloc, line),
-    }
-}
-
-fn namespace_edit(alloc: Global, line: Line<'_>) -> Result<Edit, NqnFault> {
-    match line {
-        Line::NamespaceAdd(nqn, blocks) => namespace_add(alloc, nqn, blocks),
-        Line::NamespaceSize(nqn, nsid, blocks) => namespace_size(alloc, nqn, nsid, blocks),
-        Line::NamespaceGroup(nqn, nsid, group) => namespace_group(alloc, nqn, nsid, group),
-        Line::NamespaceDel(nqn, nsid) => namespace_del(alloc, nqn, nsid),
-        Line::AnaSet(port, nqn, group, state) => ana_set(alloc, port, nqn, group, state),
-        _ => Err(NqnFault::BadNqn),
     }
 }
 

@@ -2,11 +2,28 @@ use nvt_config::{Edit, Endpoint, NewNamespace};
 
 /// Whether two edits are of one kind and have the same values.
 pub fn is_same_edit(edit: &Edit, other: &Edit) -> bool {
-    is_same_of_subsystem(edit, other)
-        || is_same_of_namespace(edit, other)
-        || is_same_of_endpoint(edit, other)
-        || is_same_of_link(edit, other)
-        || is_same_of_host(edit, other)
+    match edit {
+        Edit::SubsystemAdd { .. } | Edit::SubsystemSet { .. } | Edit::SubsystemDel { .. } => {
+            is_same_of_subsystem(edit, other)
+        }
+        Edit::NamespaceAdd(_)
+        | Edit::NamespaceSize { .. }
+        | Edit::NamespaceGroup { .. }
+        | Edit::NamespaceDel { .. } => is_same_of_namespace(edit, other),
+        Edit::PortAdd(_)
+        | Edit::PortSet(_)
+        | Edit::PortDel { .. }
+        | Edit::ReferralAdd(_)
+        | Edit::ReferralSet(_)
+        | Edit::ReferralDel { .. } => is_same_of_endpoint(edit, other),
+        Edit::LinkAdd { .. } | Edit::LinkDel { .. } | Edit::AnaSet { .. } => {
+            is_same_of_link(edit, other)
+        }
+        Edit::HostAdd { .. }
+        | Edit::HostDel { .. }
+        | Edit::AllowAdd { .. }
+        | Edit::AllowDel { .. } => is_same_of_host(edit, other),
+    }
 }
 
 fn is_same_of_subsystem(edit: &Edit, other: &Edit) -> bool {

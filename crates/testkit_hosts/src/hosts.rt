@@ -127,39 +127,25 @@ impl Hosts {
     }
 
     fn has_number(&self, number: usize) -> bool {
-        for it in &self.queues {
-            if it.stage != Stage::Closed && it.number == number {
-                return true;
-            }
-        }
-        false
+        self.queues
+            .iter()
+            .any(|it| it.stage != Stage::Closed && it.number == number)
     }
 
     fn least_number(&self) -> usize {
-        for number in 0..64 {
-            if !self.has_number(number) {
-                return number;
-            }
-        }
-        64
+        (0..64usize)
+            .find(|number| !self.has_number(*number))
+            .unwrap_or(64)
     }
 
     fn has_cntlid(&self, cntlid: u16) -> bool {
-        for it in &self.queues {
-            if it.cntlid == cntlid {
-                return true;
-            }
-        }
-        false
+        self.queues.iter().any(|it| it.cntlid == cntlid)
     }
 
     fn least_cntlid(&self) -> u16 {
-        for cntlid in 1..33 {
-            if !self.has_cntlid(cntlid) {
-                return cntlid;
-            }
-        }
-        33
+        (1..33u16)
+            .find(|cntlid| !self.has_cntlid(*cntlid))
+            .unwrap_or(33)
     }
 
     /// What an ICReq is owed.

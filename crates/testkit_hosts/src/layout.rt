@@ -1,28 +1,9 @@
 //! Edits, what a plain program knows of the configuration that they leave, and what each controller shows of it.
 use nvt_config::{Access, AnaState, Family};
-use testkit_edits::{Blocks, Line};
-
-/// The subsystem.
-pub const A: &[u8] = b"nqn.2026-01.test:a";
+use testkit_edits::{A, Blocks, H0, H1, Line, host_name, uuid_byte};
 
 /// The discovery subsystem.
 pub const DISCOVERY_NQN: &[u8] = b"nqn.2014-08.org.nvmexpress.discovery";
-
-// The hosts. The last one is never added.
-const H0: &[u8] = b"nqn.2026-01.test:h0";
-
-const H1: &[u8] = b"nqn.2026-01.test:h1";
-
-const STRANGER: &[u8] = b"nqn.2026-01.test:h2";
-
-/// The name of a host.
-pub fn host_name(host: usize) -> &'static [u8] {
-    match host {
-        0 => H0,
-        1 => H1,
-        _ => STRANGER,
-    }
-}
 
 /// A controller, by its admin queue: its host, its port, and whether it is a discovery controller.
 #[derive(Clone, Copy)]
@@ -136,7 +117,7 @@ pub const AT_FIRST: Layout = Layout {
     referrals: [0; 4],
 };
 
-/// The lines that come first. They change no discovery log page.
+/// The lines that come first. They change no discovery log page. The third host is never added.
 pub const FIRST: &[Line<'static>] = &[
     Line::PortAdd(1, b"127.0.0.1", 4420),
     Line::PortAdd(2, b"127.0.0.1", 4420),
@@ -161,12 +142,6 @@ pub fn line_of(change: Change) -> Line<'static> {
         Change::Allow(host) => Line::AllowAdd(A, host_name(host)),
         Change::Forbid(host) => Line::AllowDel(A, host_name(host)),
         Change::SetAccess(access) => Line::SubsystemSet(A, access),
-        _ => endpoint_line(change),
-    }
-}
-
-fn endpoint_line(change: Change) -> Line<'static> {
-    match change {
         Change::SetPort(port, service) => {
             Line::PortSet(port as u64, Family::Ipv4, b"127.0.0.1", u64::from(service))
         }
@@ -177,7 +152,6 @@ fn endpoint_line(change: Change) -> Line<'static> {
             Line::ReferralSet(id as u64, Family::Ipv4, b"127.0.0.9", u64::from(service))
         }
         Change::DeleteReferral(id) => Line::ReferralDel(id as u64),
-        _ => Line::SubsystemSet(A, Access::Closed),
     }
 }
 
@@ -188,13 +162,7 @@ fn blocks_of(nsid: usize, namespace: Namespace) -> Blocks {
         disk: nsid as u64,
         blocks: u64::from(namespace.blocks),
         block_size: if namespace.is_large { 4096 } else { 512 },
-        uuid: if nsid == 1 {
-            0x11
-        } else if nsid == 2 {
-            0x22
-        } else {
-            0x33
-        },
+        uuid: uuid_byte(nsid),
         group: namespace.group as u64,
     }
 }

@@ -1,9 +1,10 @@
 //! The bytes of log pages, typed from their formats.
 use super::bytes::put;
-use super::layout::{A, DISCOVERY_NQN, Layout, place_of};
+use super::layout::{DISCOVERY_NQN, Layout, place_of};
 use super::past::Past;
 use nvt_config::AnaState;
 use std::alloc::{AllocError, Global};
+use testkit_edits::A;
 
 /// The identifier of the Changed Namespace List.
 pub const CHANGED: u8 = 0x04;

@@ -1,8 +1,8 @@
 //! PDUs that a host sends on an admin queue.
 use super::bytes::put;
-use super::layout::{A, DISCOVERY_NQN, host_name, place_of};
+use super::layout::{DISCOVERY_NQN, place_of};
 use std::alloc::{AllocError, Global};
-use testkit_edits::capsule;
+use testkit_edits::{A, capsule, host_name};
 
 /// SQSIZE of each queue.
 const SQSIZES: [u8; 6] = [31, 4, 7, 31, 3, 5];

@@ -1,7 +1,7 @@
 //! Edits, and what a plain program knows of the configuration that they leave.
-use crate::places::{A, host_name, place_of};
+use crate::places::place_of;
 use nvt_config::{Access, AnaState};
-use testkit_edits::{Blocks, Line};
+use testkit_edits::{A, Blocks, Line, host_name, uuid_byte};
 
 /// How many units of 512 bytes each disk has.
 pub const UNITS: [u64; 3] = [40, 48, 24];
@@ -75,13 +75,7 @@ fn blocks_of(nsid: usize, namespace: Namespace) -> Blocks {
         disk: namespace.disk as u64,
         blocks: u64::from(namespace.blocks),
         block_size: u64::from(namespace.block_size),
-        uuid: if nsid == 1 {
-            0x11
-        } else if nsid == 2 {
-            0x22
-        } else {
-            0x33
-        },
+        uuid: uuid_byte(nsid),
         group: namespace.group as u64,
     }
 }

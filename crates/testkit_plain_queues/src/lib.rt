@@ -20,6 +20,6 @@ pub use pdus::{
     COMPARE, Command, FLUSH, Head, IN_CAPSULE, READ, TRANSPORT, WRITE, WRITE_ZEROES,
     begin_h2c_data, begin_io_capsule, configure, connect, ic_req, term_req,
 };
-pub use places::{A, CONTROLLERS, H0, H1, H2, QUEUES, admin_of, place_of, qid_of};
+pub use places::{CONTROLLERS, QUEUES, admin_of, place_of, qid_of};
 pub use plain::{Controller, Plain, Transfer};
 pub use seen::{NOTHING_SEEN, Seen};

@@ -1,7 +1,8 @@
 //! PDUs that a host sends, in numbers of four bytes. Each is appended to an empty list.
 use crate::bytes::{byte_at, half_at, lay, pad, pair, word_at};
-use crate::places::{A, host_name, place_of, qid_of, sqsize_of};
+use crate::places::{place_of, qid_of, sqsize_of};
 use std::alloc::AllocError;
+use testkit_edits::{A, host_name};
 
 /// An I/O command, as its capsule says it.
 #[derive(Clone, Copy)]

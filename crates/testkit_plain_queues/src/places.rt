@@ -1,31 +1,13 @@
 //! Who connects where.
 
-/// The subsystem.
-pub const A: &[u8] = b"nqn.2026-01.test:a";
-
-/// The hosts' names.
-pub const H0: &[u8] = b"nqn.2026-01.test:h0";
-
-pub const H1: &[u8] = b"nqn.2026-01.test:h1";
-
-pub const H2: &[u8] = b"nqn.2026-01.test:h2";
-
-/// The name of a host. The first one reads all disks and is never refused.
-pub fn host_name(host: usize) -> &'static [u8] {
-    match host {
-        0 => H0,
-        1 => H1,
-        _ => H2,
-    }
-}
-
 /// How many controllers there are at most, and how many queues: a controller's are an admin queue and two
 /// I/O queues, in this order.
 pub const CONTROLLERS: usize = 4;
 
 pub const QUEUES: usize = 12;
 
-/// Who the host of a controller is, and the port that it comes by.
+/// Who the host of a controller is, and the port that it comes by. The first host reads all disks and is
+/// never refused.
 #[derive(Clone, Copy)]
 pub struct Place {
     pub host: usize,

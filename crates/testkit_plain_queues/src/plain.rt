@@ -167,60 +167,38 @@ impl Plain {
     }
 
     fn has_cid(&self, queue: usize, cid: u16) -> bool {
-        for transfer in &self.transfers {
-            if transfer.queue == queue && transfer.command.cid == cid {
-                return true;
-            }
-        }
-        false
+        self.transfers.iter().any(|transfer| transfer.queue == queue && transfer.command.cid == cid)
     }
 
     // The least tag that no command of the queue has.
     fn least_tag(&self, queue: usize) -> u16 {
-        for ttag in 0..64u16 {
-            if self.tagged(queue, ttag).is_none() {
-                return ttag;
-            }
-        }
-        64
+        (0..64u16)
+            .find(|ttag| self.tagged(queue, *ttag).is_none())
+            .unwrap_or(64)
     }
 
     fn has_number(&self, number: usize) -> bool {
-        for queue in 0..QUEUES {
-            if !self.is_closed(queue) && self.number(queue) == number {
-                return true;
-            }
-        }
-        false
+        (0..QUEUES).any(|queue| !self.is_closed(queue) && self.number(queue) == number)
     }
 
     // The least number that no connection has.
     fn least_number(&self) -> usize {
-        for number in 0..64usize {
-            if !self.has_number(number) {
-                return number;
-            }
-        }
-        64
+        (0..64usize)
+            .find(|number| !self.has_number(*number))
+            .unwrap_or(64)
     }
 
     fn has_cntlid(&self, cntlid: u16) -> bool {
-        for controller in &self.controllers {
-            if controller.cntlid == cntlid {
-                return true;
-            }
-        }
-        false
+        self.controllers
+            .iter()
+            .any(|controller| controller.cntlid == cntlid)
     }
 
     // The least identifier that no controller has.
     fn least_cntlid(&self) -> u16 {
-        for cntlid in 1..33u16 {
-            if !self.has_cntlid(cntlid) {
-                return cntlid;
-            }
-        }
-        33
+        (1..33u16)
+            .find(|cntlid| !self.has_cntlid(*cntlid))
+            .unwrap_or(33)
     }
 
     /// A connection opens: its number.

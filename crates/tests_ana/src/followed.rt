@@ -1,12 +1,8 @@
 //! A configuration and the view that follows its edits.
 use ana_view::{AnaView, Plan};
-use nvt_config::{Config, Edit, NewFault};
+use nvt_config::{Config, Edit};
 use std::alloc::{AllocError, Global};
-use testkit_edits::{Blocks, Line, edit, is_same};
-
-pub const A: &[u8] = b"nqn.2026-01.test:a";
-
-pub const B: &[u8] = b"nqn.2026-01.test:b";
+use testkit_edits::{Line, config_over, edit, is_same};
 
 // More disks than a test has namespaces at a time.
 const UNITS: &[u64] = &[64; 12];
@@ -19,27 +15,9 @@ pub struct Followed {
 }
 
 pub fn start(alloc: Global) -> Result<Followed, AllocError> {
-    match Config::new(alloc, UNITS) {
-        Ok(config) => follow_config(alloc, config),
-        Err(NewFault::Disks | NewFault::Memory) => Err(AllocError),
-    }
-}
-
-fn follow_config(alloc: Global, config: Config) -> Result<Followed, AllocError> {
+    let config = config_over(alloc, UNITS)?;
     let view = AnaView::new(alloc, &config)?;
     Ok(Followed { config, view })
-}
-
-/// A namespace of one block on a disk, with a UUID of its own.
-pub fn on_disk(nsid: u64, disk: u8, group: u64) -> Blocks {
-    Blocks {
-        nsid,
-        disk: u64::from(disk),
-        blocks: 1,
-        block_size: 512,
-        uuid: disk.saturating_add(1),
-        group,
-    }
 }
 
 /// The plan of an edit that the configuration accepts, where it does.

@@ -1,9 +1,9 @@
 //! The bytes of log pages (Base 2.0, section 5.16.1.13), typed from the standard's table.
-use super::followed::{A, B, Followed, edit_of, make, plan, start};
+use super::followed::{Followed, edit_of, make, plan, start};
 use ana_view::AnaCounts;
 use nvt_config::{Access, AnaState, Edit};
 use std::alloc::{AllocError, Global};
-use testkit_edits::{Blocks, Line};
+use testkit_edits::{A, B, Blocks, Line};
 
 // What a test does, or expects of the controller of A on port 1.
 #[derive(Clone, Copy)]

@@ -1,12 +1,12 @@
 //! What controllers show beside the plain program, while random edits are made.
-use super::followed::{A, B, Followed, edit_of, is_planned, make, on_disk, plan, start};
+use super::followed::{Followed, edit_of, is_planned, make, plan, start};
 use super::seen::{GROUPS, Group, NSIDS, PLACES, Past};
 use ana_view::{AnaCounts, Plan};
 use nvt_config::{Access, AnaState, Edit};
 use rand_core::utils::NextWord;
 use rand_pcg::Pcg32;
 use std::alloc::{AllocError, Global};
-use testkit_edits::Line;
+use testkit_edits::{A, B, Line, on_disk};
 
 const SCRIPTS: u64 = 3;
 

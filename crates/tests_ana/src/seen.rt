@@ -1,7 +1,7 @@
 //! A plain program: it keeps what was to be seen of the groups after each edit, and looks back over it.
-use super::followed::{A, B};
 use nvt_config::{AnaState, Config};
 use std::alloc::{AllocError, Global};
+use testkit_edits::{A, B};
 
 /// The identifiers that tests use.
 pub const NSIDS: [u32; 5] = [1, 2, 255, 256, 1_024];

@@ -1,10 +1,11 @@
-//! Random edits of each kind, with values of any width that keeps their lines within 1,024 bytes.
+//! Random edits of each command, with values of any width that keeps their lines within 1,024 bytes.
+use line_words::Command;
 use nvt_config::{Access, AnaState, Edit, Family};
 use nvt_fields::NqnFault;
 use rand_core::utils::NextWord;
 use rand_pcg::Pcg32;
 use std::alloc::Global;
-use testkit_edits::{Blocks, Kind, Line, edit};
+use testkit_edits::{Blocks, Line, edit};
 use uuid::Uuid;
 
 const NAME_MIN: usize = 5;
@@ -109,66 +110,74 @@ fn blocks(random: &mut Pcg32) -> Blocks {
     }
 }
 
-/// An edit of this kind.
-pub fn drawn(alloc: Global, random: &mut Pcg32, kind: Kind) -> Result<Edit, NqnFault> {
-    let name = Letters::name(random);
-    let host = Letters::name(random);
-    let line = match kind {
-        Kind::HostAdd => Line::HostAdd(host.as_bytes()),
-        Kind::HostDel => Line::HostDel(host.as_bytes()),
-        Kind::AllowAdd => Line::AllowAdd(name.as_bytes(), host.as_bytes()),
-        Kind::AllowDel => Line::AllowDel(name.as_bytes(), host.as_bytes()),
-        _ => return drawn_of_subsystem(alloc, random, kind, name.as_bytes()),
-    };
-    edit(alloc, line)
+// The names and the texts of an edit.
+#[derive(Drop)]
+struct Texts {
+    name: Letters,
+    host: Letters,
+    serial: Letters,
+    address: Letters,
 }
 
-fn drawn_of_subsystem(
-    alloc: Global,
-    random: &mut Pcg32,
-    kind: Kind,
-    name: &[u8],
-) -> Result<Edit, NqnFault> {
-    let serial = Letters::of(random, 1, SERIAL_MAX);
-    let line = match kind {
-        Kind::SubsystemAdd => Line::SubsystemAdd(name, serial.as_bytes(), access(random)),
-        Kind::SubsystemSet => Line::SubsystemSet(name, access(random)),
-        Kind::SubsystemDel => Line::SubsystemDel(name),
-        Kind::NamespaceAdd => return drawn_namespace(alloc, random, name),
-        Kind::NamespaceSize => Line::NamespaceSize(name, number(random), number(random)),
-        Kind::NamespaceGroup => Line::NamespaceGroup(name, number(random), number(random)),
-        Kind::NamespaceDel => Line::NamespaceDel(name, number(random)),
-        Kind::LinkAdd => Line::LinkAdd(number(random), name),
-        Kind::LinkDel => Line::LinkDel(number(random), name),
-        Kind::AnaSet => Line::AnaSet(number(random), name, number(random), state(random)),
-        _ => return drawn_endpoint(alloc, random, kind),
-    };
-    edit(alloc, line)
+impl Texts {
+    fn of(random: &mut Pcg32) -> Texts {
+        Texts {
+            name: Letters::name(random),
+            host: Letters::name(random),
+            serial: Letters::of(random, 1, SERIAL_MAX),
+            address: Letters::of(random, 1, ADDRESS_MAX),
+        }
+    }
+
+    // A line of this command, with other values at random.
+    fn line<'a>(&'a self, random: &mut Pcg32, command: Command) -> Line<'a> {
+        let name = self.name.as_bytes();
+        let host = self.host.as_bytes();
+        let serial = self.serial.as_bytes();
+        let address = self.address.as_bytes();
+        match command {
+            Command::SubsystemAdd => Line::SubsystemAdd(name, serial, access(random)),
+            Command::SubsystemSet => Line::SubsystemSet(name, access(random)),
+            Command::SubsystemDel => Line::SubsystemDel(name),
+            Command::NamespaceAdd => Line::NamespaceAdd(name, blocks(random)),
+            Command::NamespaceSize => Line::NamespaceSize(name, number(random), number(random)),
+            Command::NamespaceGroup => Line::NamespaceGroup(name, number(random), number(random)),
+            Command::NamespaceDel => Line::NamespaceDel(name, number(random)),
+            Command::PortAdd => Line::PortAdd(number(random), address, number(random)),
+            Command::PortSet => {
+                Line::PortSet(number(random), family(random), address, number(random))
+            }
+            Command::PortDel => Line::PortDel(number(random)),
+            Command::LinkAdd => Line::LinkAdd(number(random), name),
+            Command::LinkDel => Line::LinkDel(number(random), name),
+            Command::HostAdd => Line::HostAdd(host),
+            Command::HostDel => Line::HostDel(host),
+            Command::AllowAdd => Line::AllowAdd(name, host),
+            Command::AllowDel => Line::AllowDel(name, host),
+            Command::AnaSet => Line::AnaSet(number(random), name, number(random), state(random)),
+            Command::ReferralAdd => Line::ReferralAdd(number(random), address, number(random)),
+            Command::ReferralSet => {
+                Line::ReferralSet(number(random), family(random), address, number(random))
+            }
+            Command::ReferralDel => Line::ReferralDel(number(random)),
+        }
+    }
 }
 
-fn drawn_namespace(alloc: Global, random: &mut Pcg32, name: &[u8]) -> Result<Edit, NqnFault> {
-    let mut edit = edit(alloc, Line::NamespaceAdd(name, blocks(random)))?;
-    if let Edit::NamespaceAdd(new) = &mut edit {
+/// An edit whose line begins with this command.
+pub fn drawn(alloc: Global, random: &mut Pcg32, command: Command) -> Result<Edit, NqnFault> {
+    let texts = Texts::of(random);
+    let mut edit = edit(alloc, texts.line(random, command))?;
+    widen(random, &mut edit);
+    Ok(edit)
+}
+
+// The values of an edit that its line does not choose: any UUID, and either family.
+fn widen(random: &mut Pcg32, edit: &mut Edit) {
+    if let Edit::NamespaceAdd(new) = edit {
         new.uuid = uuid(random);
     }
-    Ok(edit)
-}
-
-fn drawn_endpoint(alloc: Global, random: &mut Pcg32, kind: Kind) -> Result<Edit, NqnFault> {
-    let id = number(random);
-    let address = Letters::of(random, 1, ADDRESS_MAX);
-    let service = number(random);
-    let line = match kind {
-        Kind::PortAdd => Line::PortAdd(id, address.as_bytes(), service),
-        Kind::PortSet => Line::PortSet(id, family(random), address.as_bytes(), service),
-        Kind::PortDel => Line::PortDel(id),
-        Kind::ReferralAdd => Line::ReferralAdd(id, address.as_bytes(), service),
-        Kind::ReferralSet => Line::ReferralSet(id, family(random), address.as_bytes(), service),
-        _ => Line::ReferralDel(id),
-    };
-    let mut edit = edit(alloc, line)?;
-    if let Edit::PortAdd(endpoint) | Edit::ReferralAdd(endpoint) = &mut edit {
+    if let Edit::PortAdd(endpoint) | Edit::ReferralAdd(endpoint) = edit {
         endpoint.family = family(random);
     }
-    Ok(edit)
 }

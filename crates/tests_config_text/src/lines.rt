@@ -2,13 +2,14 @@
 use super::drawn::drawn;
 use bytes::BytesMut;
 use config_text::{Full, LineFault, LineFaultKind, lines_are_read_back, read_edit, write_edit};
+use line_words::{COMMANDS, Command};
 use nvt_config::Edit;
 use rand_pcg::Pcg32;
 use std::alloc::{AllocError, Global};
-use testkit_edits::{Kind, is_same_edit};
+use testkit_edits::is_same_edit;
 use testkit_tables::{Outcome, Placed, check, check_bytes, pass};
 
-// Of each kind.
+// Of each command.
 const EDITS: usize = 100;
 
 const SEED: u64 = 0x6c69_6e65;
@@ -104,28 +105,28 @@ fn check_edit(alloc: Global, edit: &Edit) -> Outcome {
     check_sound(alloc, edit, &mut line)
 }
 
-fn check_drawn(alloc: Global, random: &mut Pcg32, kind: Kind) -> Outcome {
-    match drawn(alloc, random, kind) {
+fn check_drawn(alloc: Global, random: &mut Pcg32, command: Command) -> Outcome {
+    match drawn(alloc, random, command) {
         Ok(edit) => check_edit(alloc, &edit),
         Err(_) => check(false, "memory"),
     }
 }
 
-fn check_kind(alloc: Global, number: u64, kind: Kind) -> Outcome {
+fn check_command(alloc: Global, number: u64, command: Command) -> Outcome {
     let mut random = Pcg32::new(SEED, number);
     for step in 0..EDITS {
-        pass!(check_drawn(alloc, &mut random, kind).at_step(step));
+        pass!(check_drawn(alloc, &mut random, command).at_step(step));
     }
     Ok(())
 }
 
-// There is a script for each kind of edit.
+// There is a script for each command.
 #[test]
 fn a_line_is_read_back(rt: HostRuntime) -> Outcome {
     lines_are_read_back();
-    for (number, kind) in Kind::ALL.iter().enumerate() {
+    for (number, command) in COMMANDS.iter().enumerate() {
         let number = number as u64;
-        pass!(check_kind(rt.alloc(), number, *kind).in_script(SEED, number));
+        pass!(check_command(rt.alloc(), number, *command).in_script(SEED, number));
     }
     Ok(())
 }

@@ -1,7 +1,7 @@
 //! Whether edits change the records of a host, beside those of the plain program.
 use super::followed::UNITS;
 use super::plain;
-use super::random::{HOSTS, kind, line};
+use super::random::{HOSTS, command, line};
 use discovery_view::changes_for;
 use nvt_config::Config;
 use rand_core::utils::NextWord;
@@ -62,8 +62,8 @@ fn check_hosts(alloc: Global, before: &Config, after: &Config, seen: &mut Seen) 
 // Makes one to three edits, some of which are refused.
 fn edit(alloc: Global, random: &mut Pcg32, config: &mut Config) {
     for _ in 0..=random.next_word() % 3 {
-        let kind = kind(random);
-        is_applied(alloc, config, line(kind, random));
+        let command = command(random);
+        is_applied(alloc, config, line(command, random));
     }
 }
 

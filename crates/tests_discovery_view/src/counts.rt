@@ -1,10 +1,10 @@
 //! What counts as a change of a host's records.
 use super::followed::{
-    A, B, Followed, H1, ONE_RECORD, STRANGER, Script, check_numbers, holds, is_made, page,
+    Followed, ONE_RECORD, STRANGER, Script, check_numbers, holds, is_made, page,
 };
 use nvt_config::{Access, Edit, Family};
 use std::alloc::Global;
-use testkit_edits::{Line, edit};
+use testkit_edits::{A, B, H1, Line, edit};
 use testkit_tables::{Outcome, Placed, check, check_bytes, pass};
 
 // Each edit is accepted in turn, and then each host has this GENCTR and this NUMREC.

@@ -1,17 +1,11 @@
 //! A configuration and the view that follows its edits, and what a test expects of them.
 use super::{counts, pages};
 use discovery_view::DiscoveryView;
-use nvt_config::{Access, Config, Edit, NewFault};
+use nvt_config::{Access, Config, Edit};
 use nvt_fields::u64_at;
 use std::alloc::{AllocError, Global};
-use testkit_edits::{Line, edit};
+use testkit_edits::{A, B, H1, Line, config_over, edit};
 use testkit_tables::{Outcome, Placed, check, check_bytes, check_number, pass};
-
-pub const A: &[u8] = b"nqn.2026-01.test:a";
-
-pub const B: &[u8] = b"nqn.2026-01.test:b";
-
-pub const H1: &[u8] = b"nqn.2026-01.test:h1";
 
 pub const STRANGER: &[u8] = b"nqn.2026-01.test:stranger";
 
@@ -24,12 +18,10 @@ pub struct Followed {
     pub view: DiscoveryView,
 }
 
-pub fn start(alloc: Global) -> Result<Followed, NewFault> {
-    let config = Config::new(alloc, UNITS)?;
-    match DiscoveryView::new(alloc, &config) {
-        Ok(view) => Ok(Followed { config, view }),
-        Err(AllocError) => Err(NewFault::Memory),
-    }
+pub fn start(alloc: Global) -> Result<Followed, AllocError> {
+    let config = config_over(alloc, UNITS)?;
+    let view = DiscoveryView::new(alloc, &config)?;
+    Ok(Followed { config, view })
 }
 
 /// Makes an edit, unless it is refused; whether it is accepted.

@@ -1,8 +1,8 @@
 //! The bytes of pages.
-use super::followed::{A, B, H1, ONE_RECORD, Script, holds};
+use super::followed::{ONE_RECORD, Script, holds};
 use discovery_view::DiscoveryView;
 use nvt_config::{Access, Family};
-use testkit_edits::Line;
+use testkit_edits::{A, B, H1, Line};
 use testkit_tables::{Outcome, Placed, check_bytes, check_number, pass};
 
 fn put(bytes: &mut [u8], at: usize, value: &[u8]) {

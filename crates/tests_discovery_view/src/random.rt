@@ -1,11 +1,12 @@
 //! The view beside the plain count, on random lists of edits.
 use super::followed::{Followed, UNITS, follow, page, start};
 use super::plain;
+use line_words::{COMMANDS, Command};
 use nvt_config::{Access, AnaState, Edit, Family};
 use rand_core::utils::NextWord;
 use rand_pcg::Pcg32;
 use std::alloc::{AllocError, Global};
-use testkit_edits::{Blocks, Kind, Line, edit};
+use testkit_edits::{Blocks, Line, edit};
 use testkit_tables::{Outcome, Placed, check, check_bytes, check_number, check_rows, pass};
 
 const SCRIPTS: u64 = 300;
@@ -73,82 +74,84 @@ fn blocks(random: &mut Pcg32) -> Blocks {
     }
 }
 
-// The kinds of which others need the items, and the rarest that is accepted: they come more often.
-const FREQUENT: &[Kind] = &[
-    Kind::SubsystemAdd,
-    Kind::PortAdd,
-    Kind::LinkAdd,
-    Kind::LinkAdd,
-    Kind::HostAdd,
-    Kind::NamespaceAdd,
-    Kind::AllowAdd,
-    Kind::AllowDel,
+// The commands of which others need the items, and the rarest that is accepted: they come more often.
+const FREQUENT: &[Command] = &[
+    Command::SubsystemAdd,
+    Command::PortAdd,
+    Command::LinkAdd,
+    Command::LinkAdd,
+    Command::HostAdd,
+    Command::NamespaceAdd,
+    Command::AllowAdd,
+    Command::AllowDel,
 ];
 
-pub fn kind(random: &mut Pcg32) -> Kind {
-    let kinds = pick(random, Kind::ALL, &[FREQUENT]);
-    let at = random.next_word() as usize % kinds.len().max(1);
-    kinds.get(at).copied().unwrap_or(Kind::HostAdd)
+pub fn command(random: &mut Pcg32) -> Command {
+    let commands = pick(random, COMMANDS, &[FREQUENT]);
+    let at = random.next_word() as usize % commands.len().max(1);
+    commands.get(at).copied().unwrap_or(Command::HostAdd)
 }
 
-/// A line of this kind, whose edit is often refused.
-pub fn line(kind: Kind, random: &mut Pcg32) -> Line<'static> {
-    match kind {
-        Kind::SubsystemAdd => Line::SubsystemAdd(name(random), b"SN", access(random)),
-        Kind::SubsystemSet => Line::SubsystemSet(name(random), access(random)),
-        Kind::SubsystemDel => Line::SubsystemDel(name(random)),
-        Kind::PortAdd => Line::PortAdd(port(random), address(random), service(random)),
-        Kind::PortDel => Line::PortDel(port(random)),
-        Kind::LinkAdd => Line::LinkAdd(port(random), name(random)),
-        Kind::LinkDel => Line::LinkDel(port(random), name(random)),
-        Kind::HostAdd => Line::HostAdd(host(random)),
-        Kind::HostDel => Line::HostDel(host(random)),
-        Kind::AllowAdd => Line::AllowAdd(name(random), host(random)),
-        Kind::AllowDel => Line::AllowDel(name(random), host(random)),
-        Kind::AnaSet => Line::AnaSet(port(random), name(random), 1, state(random)),
-        Kind::ReferralAdd => Line::ReferralAdd(port(random), address(random), service(random)),
-        Kind::ReferralDel => Line::ReferralDel(port(random)),
-        Kind::PortSet | Kind::ReferralSet => set_line(kind, random),
-        _ => namespace_line(kind, random),
+/// A line of this command, whose edit is often refused.
+pub fn line(command: Command, random: &mut Pcg32) -> Line<'static> {
+    match command {
+        Command::SubsystemAdd => Line::SubsystemAdd(name(random), b"SN", access(random)),
+        Command::SubsystemSet => Line::SubsystemSet(name(random), access(random)),
+        Command::SubsystemDel => Line::SubsystemDel(name(random)),
+        Command::NamespaceAdd => Line::NamespaceAdd(name(random), blocks(random)),
+        Command::NamespaceSize => Line::NamespaceSize(name(random), nsid(random), 2),
+        Command::NamespaceGroup => Line::NamespaceGroup(name(random), nsid(random), 2),
+        Command::NamespaceDel => Line::NamespaceDel(name(random), nsid(random)),
+        Command::PortAdd => Line::PortAdd(port(random), address(random), service(random)),
+        Command::PortSet => {
+            Line::PortSet(
+                port(random),
+                family(random),
+                address(random),
+                service(random),
+            )
+        }
+        Command::PortDel => Line::PortDel(port(random)),
+        Command::LinkAdd => Line::LinkAdd(port(random), name(random)),
+        Command::LinkDel => Line::LinkDel(port(random), name(random)),
+        Command::HostAdd => Line::HostAdd(host(random)),
+        Command::HostDel => Line::HostDel(host(random)),
+        Command::AllowAdd => Line::AllowAdd(name(random), host(random)),
+        Command::AllowDel => Line::AllowDel(name(random), host(random)),
+        Command::AnaSet => Line::AnaSet(port(random), name(random), 1, state(random)),
+        Command::ReferralAdd => Line::ReferralAdd(port(random), address(random), service(random)),
+        Command::ReferralSet => {
+            Line::ReferralSet(
+                port(random),
+                family(random),
+                address(random),
+                service(random),
+            )
+        }
+        Command::ReferralDel => Line::ReferralDel(port(random)),
     }
 }
 
-fn set_line(kind: Kind, random: &mut Pcg32) -> Line<'static> {
-    let port = port(random);
-    let (family, address, service) = (family(random), address(random), service(random));
-    match kind {
-        Kind::PortSet => Line::PortSet(port, family, address, service),
-        _ => Line::ReferralSet(port, family, address, service),
-    }
-}
-
-fn namespace_line(kind: Kind, random: &mut Pcg32) -> Line<'static> {
-    match kind {
-        Kind::NamespaceAdd => Line::NamespaceAdd(name(random), blocks(random)),
-        Kind::NamespaceSize => Line::NamespaceSize(name(random), nsid(random), 2),
-        Kind::NamespaceGroup => Line::NamespaceGroup(name(random), nsid(random), 2),
-        _ => Line::NamespaceDel(name(random), nsid(random)),
-    }
-}
+const COUNT: usize = COMMANDS.len();
 
 // How many records the hosts were shown, how many changes were counted, and how many edits of each
-// kind were accepted.
+// command were accepted.
 #[derive(Clone, Copy)]
 struct Seen {
     records: u64,
     changes: u64,
-    accepted: [u32; Kind::COUNT],
+    accepted: [u32; COUNT],
 }
 
 impl Seen {
     const NOTHING: Seen = Seen {
         records: 0,
         changes: 0,
-        accepted: [0; Kind::COUNT],
+        accepted: [0; COUNT],
     };
 
-    fn accept(&mut self, kind: Kind) {
-        if let Some(count) = self.accepted.get_mut(kind.place()) {
+    fn accept(&mut self, command: Command) {
+        if let Some(count) = self.accepted.get_mut(command as usize) {
             *count = count.saturating_add(1);
         }
     }
@@ -217,10 +220,10 @@ fn make_list(
     seen: &mut Seen,
 ) -> Result<(), AllocError> {
     for _ in 0..EDITS {
-        let kind = kind(random);
-        let line = line(kind, random);
+        let command = command(random);
+        let line = line(command, random);
         if go_on(alloc, followed, edits, line)? {
-            seen.accept(kind);
+            seen.accept(command);
         }
     }
     Ok(())
@@ -274,13 +277,13 @@ fn check_script(alloc: Global, number: u64, seen: &mut Seen) -> Outcome {
     }
 }
 
-// What was seen is enough; the rows are the kinds of edits.
+// What was seen is enough; the rows are the commands.
 fn check_seen(seen: &Seen) -> Outcome {
     pass!(check(seen.records > 300, "how many records were seen"));
     pass!(check(seen.changes > 300, "how many changes were seen"));
     check_rows(
         &seen.accepted.map(|count| count > 0),
-        "an edit of this kind that is accepted",
+        "an edit of this command that is accepted",
     )
 }
 

@@ -1,11 +1,11 @@
 //! The view of ANA groups: it is made, and follows edits, which a controller counts.
 use super::lists::{EDITS, UNITS};
 use ana_view::{AnaCounts, AnaView, Plan};
-use nvt_config::{Config, Edit, EditFault, NewFault};
+use nvt_config::{Config, Edit, EditFault};
 use std::alloc::{AllocError, Global};
 use std::test::Fail;
-use testkit_edits::growths::{A, edit_of, tell, used};
-use testkit_edits::{Line, again};
+use testkit_edits::growths::{edit_of, tell, used};
+use testkit_edits::{A, Line, again, config_over};
 use testkit_tables::{Outcome, Placed, check, check_bytes, check_number};
 
 // A configuration and its view.
@@ -16,20 +16,14 @@ struct Followed {
     counts: AnaCounts,
 }
 
-fn follow_config(alloc: Global, config: Config) -> Result<Followed, AllocError> {
+fn start(alloc: Global) -> Result<Followed, AllocError> {
+    let config = config_over(alloc, UNITS)?;
     let view = AnaView::new(alloc, &config)?;
     Ok(Followed {
         config,
         view,
         counts: AnaCounts::new(),
     })
-}
-
-fn start(alloc: Global) -> Result<Followed, AllocError> {
-    match Config::new(alloc, UNITS) {
-        Ok(config) => follow_config(alloc, config),
-        Err(NewFault::Disks | NewFault::Memory) => Err(AllocError),
-    }
 }
 
 // Makes an edit that is planned; where memory is wanted for it, nothing is counted.

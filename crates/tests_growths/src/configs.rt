@@ -5,8 +5,8 @@ use nvt_config::{
 };
 use std::alloc::{AllocError, Global};
 use std::test::Fail;
-use testkit_edits::growths::{A, EDITS, HOST, UNITS, edit_of, tell, used};
-use testkit_edits::{Line, again, is_same};
+use testkit_edits::growths::{EDITS, HOST, UNITS, edit_of, tell, used};
+use testkit_edits::{A, Line, again, is_same};
 use testkit_tables::{Outcome, Placed, check, check_rows, pass};
 
 // Makes the edit of a line; whether it is accepted, and all is as before where it wants memory.

@@ -1,10 +1,10 @@
 //! The lists of active namespaces: they are made, and follow edits.
 use change_lists::ActiveView;
-use nvt_config::{Access, AnaState, Config, Edit, EditFault, NewFault};
+use nvt_config::{Access, AnaState, Config, Edit, EditFault};
 use std::alloc::{AllocError, Global};
 use std::test::Fail;
-use testkit_edits::growths::{A, B, edit_of, tell, used};
-use testkit_edits::{Blocks, Line, again};
+use testkit_edits::growths::{edit_of, tell, used};
+use testkit_edits::{A, B, Blocks, Line, again, config_over};
 use testkit_tables::{Outcome, Placed, check, check_bytes};
 
 /// The disks.
@@ -61,16 +61,10 @@ struct Followed {
     view: ActiveView,
 }
 
-fn follow_config(alloc: Global, config: Config) -> Result<Followed, AllocError> {
+fn start(alloc: Global) -> Result<Followed, AllocError> {
+    let config = config_over(alloc, UNITS)?;
     let view = ActiveView::new(alloc, &config)?;
     Ok(Followed { config, view })
-}
-
-fn start(alloc: Global) -> Result<Followed, AllocError> {
-    match Config::new(alloc, UNITS) {
-        Ok(config) => follow_config(alloc, config),
-        Err(NewFault::Disks | NewFault::Memory) => Err(AllocError),
-    }
 }
 
 // Makes an edit; whether the configuration accepts it.

@@ -50,7 +50,7 @@ fn restore(script: &mut Script, random: &mut Pcg32, queue: usize) -> Outcome {
     match it.stage {
         Stage::Ended => return script.gives_up(queue),
         Stage::Closed => return script.connects(queue),
-        _ => {}
+        Stage::Opened | Stage::Connected => {}
     }
     if it.is_enabled {
         return script.sends(queue, 0x101, &Command::Configure(0));

@@ -96,7 +96,7 @@ impl Script {
         let Queue { stage, number, .. } = self.hosts.queue(queue);
         match stage {
             Stage::Ended => self.target.ends_by(number, pdu),
-            _ => self.target.takes(number, pdu),
+            Stage::Closed | Stage::Opened | Stage::Connected => self.target.takes(number, pdu),
         }
     }
 
@@ -109,7 +109,7 @@ impl Script {
         pass!(self.asks(queue));
         match self.hosts.queue(queue).stage {
             Stage::Connected => Ok(()),
-            _ => self.gives_up(queue),
+            Stage::Closed | Stage::Opened | Stage::Ended => self.gives_up(queue),
         }
     }
 

@@ -1,9 +1,9 @@
 //! Which identifiers a list has, and its bytes (Base 2.0, section 5.17.2.2).
-use super::followed::{A, B, Change, Followed, follow, start};
+use super::followed::{Change, Followed, follow, start};
 use change_lists::ActiveView;
 use nvt_config::Access;
 use std::alloc::Global;
-use testkit_edits::Line;
+use testkit_edits::{A, B, Line};
 use testkit_tables::{Outcome, Placed, check, pass};
 
 // What a test does, or expects.

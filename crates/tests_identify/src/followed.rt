@@ -1,13 +1,9 @@
 //! A configuration and the view that follows its edits.
 use change_lists::ActiveView;
-use nvt_config::{Config, Edit, EditFault, NewFault};
+use nvt_config::{Config, Edit, EditFault};
 use nvt_fields::NqnFault;
 use std::alloc::{AllocError, Global};
-use testkit_edits::{Blocks, Line, edit};
-
-pub const A: &[u8] = b"nqn.2026-01.test:a";
-
-pub const B: &[u8] = b"nqn.2026-01.test:b";
+use testkit_edits::{Line, config_over, edit, on_disk};
 
 // More disks than a test has namespaces at a time.
 const UNITS: &[u64] = &[8; 12];
@@ -20,13 +16,7 @@ pub struct Followed {
 }
 
 pub fn start(alloc: Global) -> Result<Followed, AllocError> {
-    match Config::new(alloc, UNITS) {
-        Ok(config) => follow_config(alloc, config),
-        Err(NewFault::Disks | NewFault::Memory) => Err(AllocError),
-    }
-}
-
-fn follow_config(alloc: Global, config: Config) -> Result<Followed, AllocError> {
+    let config = config_over(alloc, UNITS)?;
     let view = ActiveView::new(alloc, &config)?;
     Ok(Followed { config, view })
 }
@@ -39,21 +29,11 @@ pub enum Change {
     Other(Line<'static>),
 }
 
-// A namespace with a UUID of its own.
-fn on_disk(nsid: u64, disk: u8) -> Blocks {
-    Blocks {
-        nsid,
-        disk: u64::from(disk),
-        blocks: 1,
-        block_size: 512,
-        uuid: disk.saturating_add(1),
-        group: 1,
-    }
-}
-
 fn line(change: Change) -> Line<'static> {
     match change {
-        Change::Add(subsystem, nsid, disk) => Line::NamespaceAdd(subsystem, on_disk(nsid, disk)),
+        Change::Add(subsystem, nsid, disk) => {
+            Line::NamespaceAdd(subsystem, on_disk(nsid, disk, 1))
+        }
         Change::Other(line) => line,
     }
 }

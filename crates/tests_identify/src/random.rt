@@ -1,10 +1,10 @@
 //! The lists beside a plain filter and sort, on random edits.
-use super::followed::{A, B, Change, Followed, follow, start};
+use super::followed::{Change, Followed, follow, start};
 use nvt_config::{Access, Config};
 use rand_core::utils::NextWord;
 use rand_pcg::Pcg32;
 use std::alloc::{AllocError, Global};
-use testkit_edits::Line;
+use testkit_edits::{A, B, Line};
 use testkit_tables::{Outcome, Placed, check, check_bytes, pass};
 
 const SCRIPTS: u64 = 25;

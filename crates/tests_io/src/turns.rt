@@ -183,7 +183,7 @@ fn is_done(driver: &mut FailingDriver, row: &Row) -> bool {
     let before = before();
     let read: &[u8] = match row.opcode {
         Opcode::Read => part(&before, 512, 1536),
-        _ => &[],
+        Opcode::Flush | Opcode::Write | Opcode::Compare | Opcode::WriteZeroes => &[],
     };
     is_answered(driver, row, read, row.status)
 }

@@ -1,19 +1,15 @@
 //! What a set notes of edits, beside a plain program that keeps the configurations and looks back over
 //! them.
 use change_lists::ChangedSet;
-use nvt_config::{Access, Config, Namespace, NewFault};
+use nvt_config::{Access, Config, Namespace};
 use rand_core::utils::NextWord;
 use rand_pcg::Pcg32;
 use std::alloc::{AllocError, Global};
-use testkit_edits::{Blocks, Line, is_applied};
+use testkit_edits::{A, B, Blocks, Line, config_over, is_applied};
 
 const SCRIPTS: u64 = 12;
 
 const STEPS: usize = 40;
-
-const A: &[u8] = b"nqn.2026-01.test:a";
-
-const B: &[u8] = b"nqn.2026-01.test:b";
 
 const UNITS: &[u64] = &[64; 8];
 
@@ -188,10 +184,8 @@ fn first_wrong_of(
 }
 
 fn first_wrong(alloc: Global, seed: u64, seen: &mut Seen) -> Result<usize, AllocError> {
-    match Config::new(alloc, UNITS) {
-        Ok(mut config) => first_wrong_of(alloc, &mut config, seed, seen),
-        Err(NewFault::Disks | NewFault::Memory) => Err(AllocError),
-    }
+    let mut config = config_over(alloc, UNITS)?;
+    first_wrong_of(alloc, &mut config, seed, seen)
 }
 
 #[test]

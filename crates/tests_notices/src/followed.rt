@@ -1,11 +1,11 @@
 //! A configuration, the view of its groups, and what a controller's host is told of edits.
-use super::shown::{A, HOST, Place};
+use super::shown::{HOST, Place};
 use ana_view::AnaView;
 use event_queue::Completion;
 use notices::{Notices, Viewer};
-use nvt_config::{Config, Edit, NewFault};
+use nvt_config::{Config, Edit};
 use std::alloc::{AllocError, Global};
-use testkit_edits::{Line, edit};
+use testkit_edits::{A, Line, config_over, edit};
 
 const UNITS: &[u64] = &[64; 8];
 
@@ -25,13 +25,7 @@ fn viewer(place: Place) -> Viewer<'static> {
 }
 
 pub fn start(alloc: Global) -> Result<Followed, AllocError> {
-    match Config::new(alloc, UNITS) {
-        Ok(config) => follow_config(alloc, config),
-        Err(NewFault::Disks | NewFault::Memory) => Err(AllocError),
-    }
-}
-
-fn follow_config(alloc: Global, config: Config) -> Result<Followed, AllocError> {
+    let config = config_over(alloc, UNITS)?;
     let view = AnaView::new(alloc, &config)?;
     Ok(Followed {
         config,

@@ -1,14 +1,14 @@
 //! What hosts are told beside the plain program, while random things happen.
 use super::followed::{Followed, make, start};
 use super::looked_back::{Happened, Past};
-use super::shown::{A, B, GROUPS, HOST, NSIDS, Place};
+use super::shown::{GROUPS, HOST, NSIDS, Place};
 use event_queue::EventKind;
 use notices::NoticeUpdate;
 use nvt_config::{Access, AnaState};
 use rand_core::utils::NextWord;
 use rand_pcg::Pcg32;
 use std::alloc::{AllocError, Global};
-use testkit_edits::{Blocks, Line};
+use testkit_edits::{A, B, Blocks, Line};
 
 const SCRIPTS: u64 = 12;
 

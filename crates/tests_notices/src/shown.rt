@@ -1,11 +1,8 @@
 //! What configurations show, by plain walks over them.
 use nvt_config::{Config, Namespace, Port};
+use testkit_edits::A;
 
-/// The names that tests use.
-pub const A: &[u8] = b"nqn.2026-01.test:a";
-
-pub const B: &[u8] = b"nqn.2026-01.test:b";
-
+/// The host of the controller.
 pub const HOST: &[u8] = b"nqn.2026-01.test:host";
 
 /// The identifiers that tests use.

@@ -1,11 +1,11 @@
 //! What a host is told, step by step (Base 2.0, sections 5.2.1, 5.16.1.5 and 5.16.1.13).
 use super::followed::{Followed, make, start};
-use super::shown::{A, Place};
+use super::shown::Place;
 use event_queue::{Completion, EventKind};
 use notices::NoticeUpdate;
 use nvt_config::{Access, AnaState};
 use std::alloc::{AllocError, Global};
-use testkit_edits::{Blocks, Line};
+use testkit_edits::{A, Blocks, Line};
 
 const NAMESPACE: u64 = 0x0004_0002;
 

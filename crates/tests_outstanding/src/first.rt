@@ -1,7 +1,6 @@
 //! The edits that come first.
 use nvt_config::Access;
-use testkit_edits::Line;
-use testkit_plain_queues::{A, H0, H1, H2};
+use testkit_edits::{A, H0, H1, H2, Line};
 
 /// A closed subsystem, three ports that it is linked to, and three hosts that it allows.
 pub const FIRST: &[Line<'static>] = &[

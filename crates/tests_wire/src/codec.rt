@@ -1,4 +1,5 @@
 //! PDUs as they are written and read.
+use crate::runs::check_runs;
 use bytes::BytesMut;
 use nvt_fields::{FatalErrorStatus, Status};
 use pdu_codec::{
@@ -130,19 +131,6 @@ const WRITTEN: &[(Pdus, usize, &[(&[u8], usize)])] = &[
         ],
     ),
 ];
-
-// The step is the run.
-fn check_runs(bytes: &[u8], runs: &[(&[u8], usize)]) -> Outcome {
-    let mut rest = bytes;
-    for (step, (run, times)) in runs.iter().enumerate() {
-        for _ in 0..*times {
-            let (front, behind) = rest.split_at(run.len().min(rest.len()));
-            pass!(check_bytes(front, run).at_step(step));
-            rest = behind;
-        }
-    }
-    check(rest.is_empty(), "nothing behind them")
-}
 
 fn check_written(out: &mut BytesMut, pdus: Pdus, runs: &[(&[u8], usize)]) -> Outcome {
     pass!(check(write(out, pdus).is_ok(), "room for them"));

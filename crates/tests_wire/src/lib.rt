@@ -10,3 +10,7 @@ mod codec;
 mod cut;
 #[cfg(test)]
 mod host;
+#[cfg(test)]
+mod runs;
+#[cfg(test)]
+mod sent;

@@ -1,4 +1,4 @@
-use Rattle.std.proofs.Common.{◌≡◌, ◌∙◌, ◌+◌, ◌-◌, ◌*◌, ◌/◌, ◌++◌, ap, sym, length, replicate, arith}
+use Rattle.std.proofs.Common.{◌≡◌, ◌∙◌, ◌+◌, ◌-◌, ◌*◌, ◌++◌, ap, sym, length, replicate, arith}
 use Rattle.std.proofs.lemmas.Result.{on_ok_weaker}
 use Rattle.block_store.specs.Range.{bytes_of, units_at}
 use Rattle.io_queue.specs.Act.{extent_bytes}

@@ -1,9 +1,9 @@
-use Rattle.std.proofs.Common.{◌≡◌, ◌∙◌, ◌∷◌, ◌++◌, ap, sym, length, arith}
+use Rattle.std.proofs.Common.{◌∙◌, ◌++◌, ap, sym, arith}
 use Rattle.io_queue.specs.Act.{extent_bytes}
 use Rattle.std.specs.List.{flat_map}
 use Rattle.data_transfer.specs.Pieces.{pieces}
 use Rattle.io_queue.specs.Reply.{pdu_with, piece_pdu}
-use Rattle.io_queue.proofs.Pieces.{begins, can_read, extent_len, front_stays, next_part, part_read, part_room, spare_begun}
+use Rattle.io_queue.proofs.Pieces.{can_read, extent_len, front_stays, next_part, part_read, part_room, spare_begun}
 use Rattle.io_queue.proofs.Sending.{all_sent, goes_on}
 use Rattle.io_queue.proofs.reply.read_pieces.Goals as goal
 

@@ -3,7 +3,8 @@ use Rattle.std.proofs.lemmas.Result.{err_from_is_err_and}
 use Rattle.std.specs.List.{All}
 use Rattle.line_words.specs.Lines.{lines_of}
 use Rattle.line_words.proofs.LineLemmas.{length-lines_of}
-use Rattle.nvt_replay.proofs.ReplayLemmas.{IsNext, all_taken, next_line, well_formed_more}
+use Rattle.edit_lines.proofs.Taking.{IsNext, all_taken, next_line}
+use Rattle.nvt_replay.proofs.ReplayLemmas.{well_formed_more}
 use Rattle.replay_lines.specs.StreamLine.{IsStreamLine}
 use Rattle.replay_program.proofs.Lines.{ends_at}
 use Rattle.replay_program.proofs.explained.play.Goals as goal

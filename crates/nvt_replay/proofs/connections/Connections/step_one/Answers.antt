@@ -1,5 +1,5 @@
-use Rattle.nvt_replay.proofs.Marks.{stepped_marked}
-use Rattle.nvt_replay.proofs.Steps.{ended_steps, one_steps, steps_more}
+use Rattle.target_steps.proofs.Knowing.{marks_stay, stepped_known}
+use Rattle.target_steps.proofs.Steps.{ended_steps, one_steps, steps_more}
 use Rattle.nvt_replay.proofs.connections.Connections.step_one.Goals as goal
 
 pub loop-smaller-in-One-1 : goal.loop-smaller-in-One-1
@@ -9,7 +9,8 @@ pub loop-preserved-in-One-1 : goal.loop-preserved-in-One-1
 loop-preserved-in-One-1 c =
     let step = one_steps c.args.k c.loop.self-inside.target c.step.new.self (rw c.in-Ok-One.field-0-is at c.in-Ok-One.ensures.steps) in
     record {
-      marks = stepped_marked c.loop.self-inside.target c.step.new.self c.args.k _ _ c.loop.self-inside.marks c.loop.invariant.marks step.step.transition;
+      marks = marks_stay c.loop.self-inside.target c.step.new.self c.loop.self-inside.marks
+          (stepped_known c.loop.self-inside.target c.step.new.self c.args.k _ _ step.step.transition) c.loop.invariant.marks;
       behind = λ last more. c.loop.invariant.behind last (steps_more c.args.k c.loop.self-inside.target c.step.new.self last step.step more);
     }
 
@@ -20,6 +21,7 @@ pub loop-preserved : goal.loop-preserved
 loop-preserved c =
     let step = ended_steps c.args.k c.loop.self-inside.target c.step.new.self (rw c.in-Ok-Ended.field-0-is at c.in-Ok-Ended.ensures.steps) in
     record {
-      marks = stepped_marked c.loop.self-inside.target c.step.new.self c.args.k _ _ c.loop.self-inside.marks c.loop.invariant.marks step.step.transition;
+      marks = marks_stay c.loop.self-inside.target c.step.new.self c.loop.self-inside.marks
+          (stepped_known c.loop.self-inside.target c.step.new.self c.args.k _ _ step.step.transition) c.loop.invariant.marks;
       behind = λ last more. c.loop.invariant.behind last (steps_more c.args.k c.loop.self-inside.target c.step.new.self last step.step more);
     }

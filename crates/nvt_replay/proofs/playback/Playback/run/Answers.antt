@@ -8,7 +8,8 @@ use Rattle.nvt_replay.specs.Played.{PlaysAll, Prints}
 use Rattle.nvt_replay.proofs.Cutting.{script_cut}
 use Rattle.nvt_replay.proofs.Faulting.{ends_script, plays_before}
 use Rattle.nvt_replay.proofs.Playing.{played_before, played_more}
-use Rattle.nvt_replay.proofs.ReplayLemmas.{IsNext, all_taken, is_stream_line, malformed_at, next_line, well_formed_more}
+use Rattle.edit_lines.proofs.Taking.{IsNext, all_taken, next_line}
+use Rattle.nvt_replay.proofs.ReplayLemmas.{is_stream_line, malformed_at, well_formed_more}
 use Rattle.nvt_replay.proofs.playback.Playback.run.Goals as goal
 
 pub overflow_add-number : goal.overflow_add-number

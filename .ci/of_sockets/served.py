@@ -1,0 +1,186 @@
+"""A program that serves, and connections to it."""
+
+import os
+import socket
+import subprocess
+import tempfile
+import time
+from pathlib import Path
+
+# How long anything is waited for.
+SECONDS = 10
+NQN = b"nqn.2026-01.test:a"
+
+
+def check(holds, what):
+    """Fails the test where this does not hold."""
+    if not holds:
+        raise AssertionError(what)
+
+
+def check_equal(what, got, wanted):
+    check(got == wanted, f"{what}: wanted {shown(wanted)}, got {shown(got)}")
+
+
+def eventually(look):
+    """Looks again and again, until what is checked holds or too much time has passed."""
+    until = time.monotonic() + SECONDS
+    while True:
+        try:
+            return look()
+        except (AssertionError, OSError):
+            if time.monotonic() > until:
+                raise
+        time.sleep(0.1)
+
+
+def shown(value):
+    text = repr(value)
+    return text if len(text) < 300 else f"{text[:300]} .. ({len(value)} long)"
+
+
+def free_ports(count):
+    """As many port numbers that nobody listens to now."""
+    sockets = [socket.create_server(("127.0.0.1", 0)) for _ in range(count)]
+    numbers = [each.getsockname()[1] for each in sockets]
+    for each in sockets:
+        each.close()
+    return numbers
+
+
+def one_disk(service, blocks=2048):
+    """The edits of a target with one namespace, on port 1."""
+    return [
+        b"port add 1 ipv4 127.0.0.1 %d" % service,
+        b"subsys add %s SN-A open" % NQN,
+        b"link add 1 %s" % NQN,
+        b"ns add %s 1 0 %d 512 11111111-1111-4111-8111-111111111111 1" % (NQN, blocks),
+    ]
+
+
+class Served:
+    """`nvt_target run` on these edits, until the block ends."""
+
+    def __init__(self, program, edits, control=None, options=(), turns=2**64 - 1):
+        self.control = control or free_ports(1)[0]
+        self.folder = tempfile.TemporaryDirectory(prefix="sockets-")
+        Path(self.folder.name, "EDITS").write_bytes(b"".join(line + b"\n" for line in edits))
+        words = ["nvt_target", "run", "EDITS", "--control", str(self.control)]
+        self.words = [*words, "--turns", str(turns), *options]
+        self.program = program
+        self.process = None
+
+    def __enter__(self):
+        with open(self.path("out"), "wb") as out, open(self.path("err"), "wb") as err:
+            self.process = subprocess.Popen(
+                self.words,
+                executable=self.program,
+                cwd=self.folder.name,
+                stdin=subprocess.DEVNULL,
+                stdout=out,
+                stderr=err,
+            )
+        return self
+
+    def __exit__(self, *_):
+        self.process.kill()
+        self.process.wait(SECONDS)
+        self.folder.cleanup()
+
+    def path(self, name):
+        return os.path.join(self.folder.name, name)
+
+    def out(self):
+        return Path(self.path("out")).read_bytes()
+
+    def err(self):
+        return Path(self.path("err")).read_bytes()
+
+    def ended(self):
+        """The exit status of a program that ends by itself."""
+        return self.process.wait(SECONDS)
+
+    def is_running(self):
+        return self.process.poll() is None
+
+    def connect(self, port):
+        """A connection to a port that it listens to, or will in a moment."""
+        until = time.monotonic() + SECONDS
+        while True:
+            try:
+                peer = socket.create_connection(("127.0.0.1", port), SECONDS)
+                peer.setsockopt(socket.IPPROTO_TCP, socket.TCP_NODELAY, 1)
+                return peer
+            except ConnectionRefusedError:
+                check(self.is_running(), f"the program ended: {self.err().decode()}")
+                check(time.monotonic() < until, f"nobody listens to port {port}")
+                time.sleep(0.01)
+
+    def editor(self):
+        """A connection for lines of edits."""
+        return Editor(self.connect(self.control))
+
+    def processor_time(self):
+        """The seconds of processor time that it took so far."""
+        fields = Path(f"/proc/{self.process.pid}/stat").read_text().rsplit(")", 1)[1].split()
+        return (int(fields[11]) + int(fields[12])) / os.sysconf("SC_CLK_TCK")
+
+    def memory(self):
+        """The bytes of memory that it has in use."""
+        pages = Path(f"/proc/{self.process.pid}/statm").read_text().split()[1]
+        return int(pages) * os.sysconf("SC_PAGE_SIZE")
+
+
+class Editor:
+    """A connection for lines of edits."""
+
+    def __init__(self, peer):
+        self.peer = peer
+        self.held = b""
+
+    def send(self, data):
+        self.peer.sendall(data)
+
+    def reply(self):
+        """The next line that comes, without its LF; nothing where the connection is closed."""
+        while b"\n" not in self.held:
+            data = self.peer.recv(65536)
+            if not data:
+                check(not self.held, f"a reply without LF: {self.held!r}")
+                return None
+            self.held += data
+        line, self.held = self.held.split(b"\n", 1)
+        return line
+
+    def edit(self, line):
+        """The reply to a line."""
+        self.send(line + b"\n")
+        return self.reply()
+
+    def done(self, line):
+        """The same, once listeners have followed the edit: before that no other line is answered."""
+        answer = self.edit(line)
+        check_equal("an empty line", self.edit(b""), b"line 0 Empty")
+        return answer
+
+
+def received(peer, count):
+    """So many bytes that come, or fewer where the connection ends before."""
+    data = bytearray()
+    while len(data) < count:
+        try:
+            piece = peer.recv(count - len(data))
+        except ConnectionResetError:
+            break
+        if not piece:
+            break
+        data += piece
+    return bytes(data)
+
+
+def is_closed(peer):
+    """Whether the other side closes the connection, and sends nothing before."""
+    try:
+        return peer.recv(1) == b""
+    except ConnectionResetError:
+        return True

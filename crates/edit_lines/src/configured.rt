@@ -1,0 +1,95 @@
+//! A target that the lines of a file configure.
+
+ghost use Rattle.std.specs.Prelude.{◌≡◌, IfErr, IfOk, OnOk, true};
+ghost use Rattle.std.specs.Bool.{OnFalse};
+ghost use Rattle.config_rules.specs.Configuration.{are_disks, disks_alone};
+ghost use Rattle.edit_lines.specs.Configured.{Configures, IsConfigured, RefusesDisks, RefusesEdits};
+ghost use Rattle.edit_lines.specs.Configured.{RefusesLines, TakesLine, TransitionByLine};
+ghost use Rattle.edit_lines.specs.Configured.{TransitionsByLines, zeroed};
+ghost use Rattle.line_words.specs.Lines.{lines_of};
+ghost use Rattle.target_core.specs.Target.{IsNewTarget};
+
+use crate::disks::memory_disks;
+use crate::line::{NotMade, make_line};
+use block_store::MemoryDisk;
+use config_rules::are_disks;
+use config_text::Lines;
+use replay_lines::ReplayFault;
+use std::alloc::Global;
+use target_core::Target;
+
+/// A target with disks of zeros in memory of these sizes, in units of 512 bytes, that the lines of edits configured.
+/// The first line that is refused is told by its number, counted from 1; before it, disks that there may not be.
+#[tactic(auto, using(crate::proofs::Taking::refused_disks))]
+pub fn configure(
+    alloc: Global,
+    edits: &[u8],
+    units: &[u64],
+) -> Result<Target<MemoryDisk>, ReplayFault>
+    ensures disks { OnOk result (are_disks units.now ≡ true) }
+    ensures refused { OnFalse (are_disks units.now) (result ≡ Err ReplayFault.Disks) }
+    ensures ok { IfOk result (λ target.
+        Configures (lines_of edits.now) (disks_alone units.now) target.config) }
+    ensures configured { IfOk result (IsConfigured edits.now units.now) }
+    ensures fault { IfErr result (λ fault. RefusesEdits fault edits.now units.now) }
+{
+    let mut target = over_zeros(alloc, units)?;
+    take_edits(alloc, &mut target, edits)?;
+    Ok(target)
+}
+
+// A target with a disk of zeros in memory, of each of these sizes.
+fn over_zeros(alloc: Global, units: &[u64]) -> Result<Target<MemoryDisk>, ReplayFault>
+    ensures ok { IfOk result (IsNewTarget (zeroed units.now)) }
+    ensures disks { OnOk result (are_disks units.now ≡ true) }
+    ensures refused { OnFalse (are_disks units.now) (result ≡ Err ReplayFault.Disks) }
+    ensures fault { IfErr result (λ fault. RefusesDisks fault units.now) }
+{
+    if !are_disks(units) {
+        return Err(ReplayFault::Disks);
+    }
+    let disks = memory_disks(alloc, units)?;
+    match Target::new(alloc, disks) {
+        Ok(target) => Ok(target),
+        Err(_) => Err(ReplayFault::Memory),
+    }
+}
+
+// Applies the edits, up to the first line that is refused.
+fn take_edits(
+    alloc: Global,
+    target: &mut Target<MemoryDisk>,
+    edits: &[u8],
+) -> Result<(), ReplayFault>
+    ensures ok { OnOk result (Configures (lines_of edits.now) target.old.config target.new.config) }
+    ensures transition { OnOk result (TransitionsByLines (lines_of edits.now) target.old target.new) }
+    ensures fault { IfErr result (λ fault.
+        RefusesLines fault (lines_of edits.now) target.old.config) }
+{
+    let mut number = 0;
+    for line in Lines::of(edits) {
+        number += 1;
+        take_edit(alloc, target, number, line)?;
+    }
+    Ok(())
+}
+
+// Applies one line of edits.
+fn take_edit(
+    alloc: Global,
+    target: &mut Target<MemoryDisk>,
+    number: usize,
+    line: &[u8],
+) -> Result<(), ReplayFault>
+    ensures takes { TakesLine target.old.config line.now number result target.new.config }
+    ensures transition { OnOk result (TransitionByLine line.now target.old target.new) }
+{
+    match make_line(alloc, target, line) {
+        Ok(()) => Ok(()),
+        Err(NotMade::Memory) => Err(ReplayFault::Memory),
+        Err(NotMade::Refused(reply)) => Err(ReplayFault::EditLine {
+            line: number,
+            reply,
+        }),
+    }
+}

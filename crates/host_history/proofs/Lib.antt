@@ -1,0 +1,2 @@
+pub mod Behaving
+pub mod Whole

@@ -1,0 +1,5 @@
+pub mod GroupLists
+pub mod Lists
+pub mod ReadBack
+pub mod RecordLists
+pub mod Splits

@@ -1,0 +1,4 @@
+pub mod Command
+pub mod Connect
+pub mod Capsule
+pub mod Requested

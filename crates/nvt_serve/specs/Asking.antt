@@ -1,0 +1,93 @@
+-- What is done with what ports hand out, beside what the ports tell of it.
+use Rattle.std.specs.Prelude.{◌≡◌, ◌<◌, ℕ, Bool, true, false, List, Option, Some, None, Result, MatchOption, slice_index_or}
+use Rattle.edit_lines.specs.declared.line.NotMade.{NotMade}
+use Rattle.edit_lines.specs.Line.{IsRefused, MakesLine}
+use Rattle.number_table.specs.Table.{place, with_value, without}
+use Rattle.nvt_serve.specs.declared.asking.Counted.{Counted}
+use Rattle.nvt_serve.specs.declared.asking.Counted.TheVariants as counted
+use Rattle.nvt_serve.specs.declared.ties.Ties.{Ties}
+use Rattle.nvt_serve.specs.Deed.{ClosedSlot, IsRefusedBy, Serving, Stays}
+use Rattle.nvt_serve.specs.Served.{Numbers}
+use Rattle.target_core.specs.declared.fault.NoConn.{NoConn}
+use Rattle.target_core.specs.declared.fault.OpenFault.{OpenFault}
+use Rattle.target_core.specs.Transition.{Transition}
+use Rattle.target_core.specs.Target.{ReceivesAt, TargetState, free_number, open_fault, room_at}
+use Rattle.target_history.specs.Event.{given_up, opened}
+use Rattle.target_steps.specs.Marks.{SetsMark}
+
+-- the ports were asked once, and this came of it
+abbrev pub numbers_by : Counted → Numbers
+numbers_by counted.Opened = record { asked = 1; opened = 1; edits = 0; refused = 0 }
+numbers_by counted.Edited = record { asked = 1; opened = 0; edits = 1; refused = 0 }
+numbers_by counted.Refused = record { asked = 1; opened = 0; edits = 0; refused = 1 }
+numbers_by counted.Nothing = record { asked = 1; opened = 0; edits = 0; refused = 0 }
+
+-- ---- room
+
+abbrev pub room_of_slot : TargetState → Option ℕ → ℕ
+room_of_slot t None = 0
+room_of_slot t (Some k) = room_at (place t.streams k) (place t.connections k)
+
+-- how many bytes the connection of each slot may receive
+abbrev pub HasRooms : List ℕ → TargetState → Ties → Type 0
+HasRooms rooms t ties = (slot : ℕ) → slice_index_or rooms slot 0 ≡ room_of_slot t (place ties.connections slot)
+
+-- ---- hosts that connect
+
+-- a connection is opened in a slot, and marked
+pub record OpensIn (slot port : ℕ) (old new : Serving) (before after : List Bool) : Type 0 where
+  pub number : ℕ
+  pub accepted : open_fault old.target port ≡ None
+  pub within : number < 64
+  pub free : free_number old.target ≡ Some number
+  pub transition : Transition (opened port number) old.target new.target
+  pub tied : new.connections ≡ with_value old.connections slot number
+  pub ports : new.ports ≡ old.ports
+  pub marked : SetsMark number true before after
+
+-- or it is refused, and the slot closed
+pub record RefusesIn (slot port : ℕ) (old new : Serving) (before after : List Bool) : Type 0 where
+  pub fault : OpenFault
+  pub why : IsRefusedBy (open_fault old.target port) fault
+  pub stays : Stays old new
+  pub ports : ClosedSlot slot old.ports new.ports
+  pub marked : after ≡ before
+
+abbrev pub OpensBy : ℕ → ℕ → Counted → Serving → Serving → List Bool → List Bool → Type 0
+OpensBy slot port counted.Opened old new before after = OpensIn slot port old new before after
+OpensBy slot port counted.Refused old new before after = RefusesIn slot port old new before after
+OpensBy slot port counted.Edited old new before after = ⊥
+OpensBy slot port counted.Nothing old new before after = ⊥
+
+-- ---- bytes
+
+-- the connection of a slot receives as many of these bytes as it has room for
+abbrev pub ReceivesIn : Option ℕ → List ℕ → TargetState → TargetState → Type 0
+ReceivesIn None bytes old new = new ≡ old
+ReceivesIn (Some k) bytes old new =
+    (result : Result ℕ NoConn) × ReceivesAt k (place old.streams k) (place old.connections k) old bytes result new
+
+-- ---- hosts that are gone
+
+-- the connection of a slot is given up, and the mark taken away
+pub record EndsIn (slot k : ℕ) (old new : Serving) (before after : List Bool) : Type 0 where
+  pub transition : MatchOption (place old.target.connections k) (new.target ≡ old.target) (λ c. Transition (given_up k) old.target new.target)
+  pub untied : new.connections ≡ without old.connections slot
+  pub marked : SetsMark k false before after
+
+abbrev pub EndsBy : ℕ → Option ℕ → Serving → Serving → List Bool → List Bool → Type 0
+EndsBy slot None old new before after = Stays old new × (after ≡ before)
+EndsBy slot (Some k) old new before after = EndsIn slot k old new before after
+
+-- .. and the slot is closed
+abbrev pub EndsSlot : ℕ → Option ℕ → Serving → Serving → List Bool → List Bool → Type 0
+EndsSlot slot o old new before after = EndsBy slot o old new before after × ClosedSlot slot old.ports new.ports
+
+-- ---- lines
+
+-- the edit of a line is made, or refused
+abbrev pub EditsBy : List ℕ → Counted → TargetState → TargetState → Type 0
+EditsBy line counted.Edited old new = MakesLine line old new
+EditsBy line counted.Refused old new = (why : NotMade) × IsRefused old.config line why × (new ≡ old)
+EditsBy line counted.Opened old new = ⊥
+EditsBy line counted.Nothing old new = ⊥

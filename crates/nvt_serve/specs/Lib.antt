@@ -1,0 +1,5 @@
+pub mod Asking
+pub mod Deed
+pub mod History
+pub mod Served
+pub mod Stepping

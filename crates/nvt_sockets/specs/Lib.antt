@@ -1,0 +1,6 @@
+pub mod HandsOut
+pub mod Kept
+pub mod Lately
+pub mod Pause
+pub mod Speaker
+pub mod Splitting

@@ -1,0 +1,5 @@
+pub mod Appended
+pub mod ConnectReadBack
+pub mod ConnectWritten
+pub mod NextMultiple
+pub mod ReadBack

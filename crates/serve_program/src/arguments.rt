@@ -1,0 +1,15 @@
+//! What the arguments of `run` ask for.
+
+use command_parts::DiskArguments;
+
+/// What the arguments of `run` ask for.
+#[derive(Drop)]
+pub struct ServeArguments {
+    /// The path of the file of edits.
+    pub edits: String,
+    /// The TCP port for lines of edits, at 127.0.0.1.
+    pub control: u16,
+    /// How many turns the target is served.
+    pub turns: u64,
+    pub disks: DiskArguments,
+}

@@ -1,0 +1,14 @@
+//! Tests of a host's queue: what it sends and tells in a conversation, each fault of a controller, and each
+//! refusal of a call.
+#![tactic(auto)]
+
+#[cfg(test)]
+mod calls;
+#[cfg(test)]
+mod conversation;
+#[cfg(test)]
+mod faults;
+#[cfg(test)]
+mod pdus;
+#[cfg(test)]
+mod queues;

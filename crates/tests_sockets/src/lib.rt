@@ -1,0 +1,15 @@
+//! Tests of what ports over sockets decide without a socket, through public calls: where lines end, what is kept to be
+//! sent, whose turn it is, and when there is a pause. What they do with sockets is for a script that talks to the built
+//! program, `.ci/sockets`.
+#![tactic(auto)]
+
+#[cfg(test)]
+mod backoffs;
+#[cfg(test)]
+mod kept;
+#[cfg(test)]
+mod lines;
+#[cfg(test)]
+mod pauses;
+#[cfg(test)]
+mod turns;
