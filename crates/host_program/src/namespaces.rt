@@ -1,0 +1,63 @@
+//! The command `list`.
+use crate::lines::push_nsid;
+use crate::opened::open_admin;
+use crate::peers::Peers;
+use crate::printed::print;
+use host_link::commands::identify;
+use host_link::{Link, SessionFault};
+use host_pages::NsList;
+use std::alloc::Global;
+use std::io::Write;
+
+/// Identify: the active namespaces above one (Base 2.0, section 5.17.2.2).
+const ACTIVE_NAMESPACES: u8 = 0x02;
+
+/// The most identifiers that one answer lists.
+const NSIDS_MAX: usize = 1024;
+
+/// So many lists of that many are all identifiers.
+const LISTS_MAX: u32 = 1 << 22;
+
+/// Prints the active namespaces of a controller, one a line.
+pub fn list<L: Link + Drop, W: Write>(
+    alloc: Global,
+    link: L,
+    peers: &Peers,
+    turns: u64,
+    out: &mut W,
+) -> Result<(), SessionFault> {
+    let mut session = open_admin(alloc, link, peers, turns)?;
+    let mut above = 0;
+    for _ in 0..LISTS_MAX {
+        let answer = session.execute(&identify(alloc, ACTIVE_NAMESPACES, above))?;
+        match print_list(alloc, &answer.payload, out)? {
+            Some(last) => above = last,
+            None => return Ok(()),
+        }
+    }
+    Ok(())
+}
+
+// Prints a list. Its last identifier, where others may follow.
+fn print_list<W: Write>(
+    alloc: Global,
+    list: &[u8],
+    out: &mut W,
+) -> Result<Option<u32>, SessionFault> {
+    let Ok(list) = NsList::read(list) else {
+        return Err(SessionFault::BadPage);
+    };
+    let mut line = Vec::new(alloc);
+    let (mut count, mut last) = (0usize, None);
+    for nsid in list.nsids() {
+        push_nsid(&mut line, nsid)?;
+        print(out, &mut line)?;
+        count = count.saturating_add(1);
+        last = Some(nsid);
+    }
+    if count == NSIDS_MAX {
+        Ok(last)
+    } else {
+        Ok(None)
+    }
+}

@@ -1,0 +1,43 @@
+//! The command `read`.
+use crate::identified::ask_block_len;
+use crate::lines::push_hex;
+use crate::links::Links;
+use crate::opened::{open_admin, open_io};
+use crate::peers::{IN_CAPSULE, Peers};
+use crate::printed::print;
+use host_link::{Blocks, Link, SessionFault, commands};
+use std::alloc::Global;
+use std::io::Write;
+
+/// Reads blocks, over two links to one controller, and prints each in hex, one a line.
+pub fn read<A: Link + Drop, L: Link + Drop, W: Write>(
+    alloc: Global,
+    links: Links<A, L>,
+    peers: &Peers,
+    blocks: Blocks,
+    turns: u64,
+    out: &mut W,
+) -> Result<(), SessionFault> {
+    let mut admin = open_admin(alloc, links.admin, peers, turns)?;
+    let block_len = ask_block_len(alloc, &mut admin, blocks.nsid)?;
+    let mut io = open_io(alloc, links.io, peers, &admin, IN_CAPSULE)?;
+    let answer = io.execute(&commands::read(alloc, blocks, block_len))?;
+    print_blocks(alloc, &answer.payload, block_len as usize, out)
+}
+
+fn print_blocks<W: Write>(
+    alloc: Global,
+    bytes: &[u8],
+    block_len: usize,
+    out: &mut W,
+) -> Result<(), SessionFault> {
+    let mut line = Vec::new(alloc);
+    if block_len == 0 {
+        return Ok(());
+    }
+    for block in bytes.chunks(block_len) {
+        push_hex(alloc, &mut line, block)?;
+        print(out, &mut line)?;
+    }
+    Ok(())
+}

@@ -1,0 +1,99 @@
+//! The command `write`.
+ghost use Rattle.std.specs.Prelude.{◌≡◌, ◌≤◌, ◌*◌, IfOk, replicate};
+ghost use Rattle.host_link.specs.Commands.{write};
+
+use crate::identified::ask_block_len;
+use crate::links::Links;
+use crate::opened::{open_admin, open_io};
+use crate::peers::{IN_CAPSULE, Peers};
+use crate::printed::written;
+use host_driver::HostCommand;
+use host_link::{Blocks, Link, Session, SessionFault, commands};
+use std::alloc::{AllocError, Global};
+use std::io::{ErrorKind, Read, Write};
+
+/// The most bytes of the line that is waited for.
+const LINE_MAX: usize = 1024;
+
+/// Blocks, each byte of which is to be this one.
+#[derive(Clone, Copy, Debug, PartialEq, Eq)]
+pub struct Fill {
+    pub blocks: Blocks,
+    pub byte: u8,
+}
+
+/// Writes blocks, over two links to one controller, and prints `ok`.
+pub fn write<A: Link + Drop, L: Link + Drop, W: Write>(
+    alloc: Global,
+    links: Links<A, L>,
+    peers: &Peers,
+    fill: Fill,
+    turns: u64,
+    out: &mut W,
+) -> Result<(), SessionFault> {
+    let mut admin = open_admin(alloc, links.admin, peers, turns)?;
+    let block_len = ask_block_len(alloc, &mut admin, fill.blocks.nsid)?;
+    let mut io = open_io(alloc, links.io, peers, &admin, IN_CAPSULE)?;
+    io.execute(&filled(alloc, fill, block_len)?)?;
+    written(out.write_all(b"ok\n"))
+}
+
+/// Writes blocks as `write` does, none of their data in the capsule. Once the controller has asked for data, prints
+/// `held`, and waits for a line before it sends any: up to its end, to the end of what is read, or to 1,024 bytes.
+pub fn write_held<A: Link + Drop, L: Link + Drop, R: Read, W: Write>(
+    alloc: Global,
+    links: Links<A, L>,
+    peers: &Peers,
+    fill: Fill,
+    turns: u64,
+    lines: &mut R,
+    out: &mut W,
+) -> Result<(), SessionFault> {
+    let mut admin = open_admin(alloc, links.admin, peers, turns)?;
+    let block_len = ask_block_len(alloc, &mut admin, fill.blocks.nsid)?;
+    let mut io = open_io(alloc, links.io, peers, &admin, 0)?;
+    io.submit(&filled(alloc, fill, block_len)?)?;
+    hold(&mut io, lines, out)?;
+    written(out.write_all(b"ok\n"))
+}
+
+// Waits until data are asked for, then for a line, and then for the answer; where the answer comes first, for that.
+fn hold<L: Link + Drop, R: Read, W: Write>(
+    io: &mut Session<L>,
+    lines: &mut R,
+    out: &mut W,
+) -> Result<(), SessionFault> {
+    if io.request()?.is_some() {
+        return Ok(());
+    }
+    written(out.write_all(b"held\n"))?;
+    written(out.flush())?;
+    pass_line(lines)?;
+    io.answer()?;
+    Ok(())
+}
+
+// The Write that fills blocks.
+fn filled(alloc: Global, fill: Fill, block_len: u32) -> Result<HostCommand, AllocError>
+    requires { block_len ≤ 4096 }
+    ensures { IfOk result (λ command.
+        command ≡ write fill.blocks (replicate (fill.blocks.count * block_len) fill.byte)) }
+{
+    let len = usize::from(fill.blocks.count) * block_len as usize;
+    Ok(commands::write(fill.blocks, vec![in alloc; fill.byte; len]?))
+}
+
+// Reads up to the end of a line.
+fn pass_line<R: Read>(lines: &mut R) -> Result<(), SessionFault> {
+    let mut byte = [0];
+    for _ in 0..LINE_MAX {
+        match lines.read(&mut byte) {
+            Ok(0) => return Ok(()),
+            Ok(_) if byte[0] == b'\n' => return Ok(()),
+            Ok(_) => {}
+            Err(error) if error.kind() == ErrorKind::Interrupted => {}
+            Err(_) => return Err(SessionFault::Io),
+        }
+    }
+    Ok(())
+}
