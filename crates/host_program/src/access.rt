@@ -1,10 +1,11 @@
 //! The command `ana`.
+use crate::asked::ask;
 use crate::lines::{push_change, push_group};
 use crate::opened::open_admin;
 use crate::peers::Peers;
 use crate::printed::print;
 use host_link::commands::get_log_page;
-use host_link::{Link, SessionFault};
+use host_link::{Link, Session, SessionFault};
 use host_pages::AnaLog;
 use std::alloc::Global;
 use std::io::Write;
@@ -24,9 +25,21 @@ pub fn ana<L: Link + Drop, W: Write>(
     out: &mut W,
 ) -> Result<(), SessionFault> {
     let mut session = open_admin(alloc, link, peers, turns)?;
+    tell_groups(alloc, &mut session, out)
+}
+
+fn tell_groups<L: Link + Drop, W: Write>(
+    alloc: Global,
+    session: &mut Session<L>,
+    out: &mut W,
+) -> Result<(), SessionFault> {
     let command = get_log_page(alloc, ASYMMETRIC_NAMESPACE_ACCESS, 0, READ_LEN);
-    let answer = session.execute(&command)?;
-    match AnaLog::read(&answer.payload) {
+    let page = ask(session, &command)?;
+    print_page(alloc, &page, out)
+}
+
+fn print_page<W: Write>(alloc: Global, page: &[u8], out: &mut W) -> Result<(), SessionFault> {
+    match AnaLog::read(page) {
         Ok(log) => print_log(alloc, &log, out),
         Err(_) => Err(SessionFault::BadPage),
     }

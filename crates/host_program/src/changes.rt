@@ -1,10 +1,11 @@
 //! The command `changed`.
+use crate::asked::{ask, ask_result};
 use crate::lines::push_changed;
 use crate::opened::open_admin;
 use crate::peers::Peers;
 use crate::printed::print;
 use host_link::commands::{event_request, get_log_page, set_features};
-use host_link::{Link, SessionFault};
+use host_link::{Link, Session, SessionFault};
 use host_pages::NsList;
 use std::alloc::Global;
 use std::io::Write;
@@ -33,14 +34,25 @@ pub fn changed<L: Link + Drop, W: Write>(
     out: &mut W,
 ) -> Result<(), SessionFault> {
     let mut session = open_admin(alloc, link, peers, turns)?;
+    tell_change(alloc, &mut session, out)
+}
+
+fn tell_change<L: Link + Drop, W: Write>(
+    alloc: Global,
+    session: &mut Session<L>,
+    out: &mut W,
+) -> Result<(), SessionFault> {
     let enable = set_features(alloc, EVENT_CONFIGURATION, NAMESPACE_NOTICES);
-    session.execute(&enable)?;
-    let event = session.execute(&event_request(alloc))?;
-    if event.result % (1 << 32) != NAMESPACE_CHANGED {
+    ask_result(session, &enable)?;
+    let event = ask_result(session, &event_request(alloc))?;
+    if event % (1 << 32) != NAMESPACE_CHANGED {
         return Err(SessionFault::BadPage);
     }
-    let list = get_log_page(alloc, CHANGED_NAMESPACES, 0, LIST_LEN);
-    print_changed(alloc, &session.execute(&list)?.payload, out)
+    let list = ask(
+        session,
+        &get_log_page(alloc, CHANGED_NAMESPACES, 0, LIST_LEN),
+    )?;
+    print_changed(alloc, &list, out)
 }
 
 fn print_changed<W: Write>(alloc: Global, list: &[u8], out: &mut W) -> Result<(), SessionFault> {

@@ -2,6 +2,7 @@
 ghost use Rattle.std.specs.Prelude.{◌≡◌};
 ghost use Rattle.host_program.specs.Asked.{record_count_of};
 
+use crate::asked::ask;
 use crate::lines::{push_genctr, push_record};
 use crate::opened::open_admin;
 use crate::peers::Peers;
@@ -34,9 +35,31 @@ pub fn discover<L: Link + Drop, W: Write>(
     out: &mut W,
 ) -> Result<(), SessionFault> {
     let peers = Peers::of_discovery(alloc, host)?;
-    let mut session = open_admin(alloc, link, &peers, turns)?;
-    let page = read_page(alloc, &mut session)?;
-    match DiscoveryPage::read(&page) {
+    discover_as(alloc, link, &peers, turns, out)
+}
+
+fn discover_as<L: Link + Drop, W: Write>(
+    alloc: Global,
+    link: L,
+    peers: &Peers,
+    turns: u64,
+    out: &mut W,
+) -> Result<(), SessionFault> {
+    let mut session = open_admin(alloc, link, peers, turns)?;
+    tell_records(alloc, &mut session, out)
+}
+
+fn tell_records<L: Link + Drop, W: Write>(
+    alloc: Global,
+    session: &mut Session<L>,
+    out: &mut W,
+) -> Result<(), SessionFault> {
+    let page = read_page(alloc, session)?;
+    print_read(alloc, &page, out)
+}
+
+fn print_read<W: Write>(alloc: Global, page: &[u8], out: &mut W) -> Result<(), SessionFault> {
+    match DiscoveryPage::read(page) {
         Ok(page) => print_page(alloc, &page, out),
         Err(_) => Err(SessionFault::BadPage),
     }
@@ -47,10 +70,21 @@ fn read_page<L: Link + Drop>(
     session: &mut Session<L>,
 ) -> Result<Vec<u8>, SessionFault> {
     let header = get_log_page(alloc, DISCOVERY, 0, PART_LEN);
-    let mut page = session.execute(&header)?.payload;
-    let Some(count) = record_count(&page) else {
-        return Err(SessionFault::BadPage);
-    };
+    let mut page = ask(session, &header)?;
+    match record_count(&page) {
+        Some(count) => read_records(alloc, session, count, &mut page)?,
+        None => return Err(SessionFault::BadPage),
+    }
+    Ok(page)
+}
+
+// Appends so many records.
+fn read_records<L: Link + Drop>(
+    alloc: Global,
+    session: &mut Session<L>,
+    count: u32,
+    page: &mut Vec<u8>,
+) -> Result<(), SessionFault> {
     let mut left = count;
     for read in 0..RECORDS_PER_READ {
         if left == 0 {
@@ -59,11 +93,14 @@ fn read_page<L: Link + Drop>(
         let done = u64::from(read * RECORDS_PER_READ);
         let records = left.min(RECORDS_PER_READ);
         let offset = u64::from(PART_LEN) * (1 + done);
-        let part = get_log_page(alloc, DISCOVERY, offset, records * PART_LEN);
-        page.extend_from_slice(&session.execute(&part)?.payload)?;
+        let part = ask(
+            session,
+            &get_log_page(alloc, DISCOVERY, offset, records * PART_LEN),
+        )?;
+        page.extend_from_slice(&part)?;
         left -= records;
     }
-    Ok(page)
+    Ok(())
 }
 
 // How many records a header counts, where their format is known and there are not too many.

@@ -2,6 +2,7 @@
 ghost use Rattle.std.specs.Prelude.{◌≡◌, ◌≤◌, IfOk, IfSome};
 ghost use Rattle.host_program.specs.Asked.{block_len_of};
 
+use crate::asked::ask;
 use host_link::commands::identify;
 use host_link::{Link, Session, SessionFault};
 use std::alloc::Global;
@@ -22,8 +23,8 @@ pub(crate) fn ask_block_len<L: Link + Drop>(
 ) -> Result<u32, SessionFault>
     ensures { IfOk result (λ len. len ≤ 4096) }
 {
-    let answer = session.execute(&identify(alloc, NAMESPACE, nsid))?;
-    match block_len(&answer.payload) {
+    let namespace = ask(session, &identify(alloc, NAMESPACE, nsid))?;
+    match block_len(&namespace) {
         Some(len) => Ok(len),
         None => Err(SessionFault::BadPage),
     }

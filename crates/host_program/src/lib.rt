@@ -3,6 +3,7 @@
 #![tactic(auto)]
 
 mod access;
+mod asked;
 mod changes;
 mod discovery;
 mod identified;

@@ -1,10 +1,11 @@
 //! The command `list`.
+use crate::asked::ask;
 use crate::lines::push_nsid;
 use crate::opened::open_admin;
 use crate::peers::Peers;
 use crate::printed::print;
 use host_link::commands::identify;
-use host_link::{Link, SessionFault};
+use host_link::{Link, Session, SessionFault};
 use host_pages::NsList;
 use std::alloc::Global;
 use std::io::Write;
@@ -27,15 +28,32 @@ pub fn list<L: Link + Drop, W: Write>(
     out: &mut W,
 ) -> Result<(), SessionFault> {
     let mut session = open_admin(alloc, link, peers, turns)?;
+    tell_namespaces(alloc, &mut session, out)
+}
+
+fn tell_namespaces<L: Link + Drop, W: Write>(
+    alloc: Global,
+    session: &mut Session<L>,
+    out: &mut W,
+) -> Result<(), SessionFault> {
     let mut above = 0;
     for _ in 0..LISTS_MAX {
-        let answer = session.execute(&identify(alloc, ACTIVE_NAMESPACES, above))?;
-        match print_list(alloc, &answer.payload, out)? {
+        match tell_namespaces_above(alloc, session, above, out)? {
             Some(last) => above = last,
-            None => return Ok(()),
+            None => break,
         }
     }
     Ok(())
+}
+
+fn tell_namespaces_above<L: Link + Drop, W: Write>(
+    alloc: Global,
+    session: &mut Session<L>,
+    above: u32,
+    out: &mut W,
+) -> Result<Option<u32>, SessionFault> {
+    let list = ask(session, &identify(alloc, ACTIVE_NAMESPACES, above))?;
+    print_list(alloc, &list, out)
 }
 
 // Prints a list. Its last identifier, where others may follow.

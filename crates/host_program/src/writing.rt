@@ -2,6 +2,7 @@
 ghost use Rattle.std.specs.Prelude.{◌≡◌, ◌≤◌, ◌*◌, IfOk, replicate};
 ghost use Rattle.host_link.specs.Commands.{write};
 
+use crate::asked::ask_result;
 use crate::identified::ask_block_len;
 use crate::links::Links;
 use crate::opened::{open_admin, open_io};
@@ -32,9 +33,33 @@ pub fn write<A: Link + Drop, L: Link + Drop, W: Write>(
     out: &mut W,
 ) -> Result<(), SessionFault> {
     let mut admin = open_admin(alloc, links.admin, peers, turns)?;
-    let block_len = ask_block_len(alloc, &mut admin, fill.blocks.nsid)?;
-    let mut io = open_io(alloc, links.io, peers, &admin, IN_CAPSULE)?;
-    io.execute(&filled(alloc, fill, block_len)?)?;
+    write_beside(alloc, &mut admin, links.io, peers, fill, out)
+}
+
+fn write_beside<A: Link + Drop, L: Link + Drop, W: Write>(
+    alloc: Global,
+    admin: &mut Session<A>,
+    link: L,
+    peers: &Peers,
+    fill: Fill,
+    out: &mut W,
+) -> Result<(), SessionFault> {
+    let block_len = ask_block_len(alloc, admin, fill.blocks.nsid)?;
+    let mut io = open_io(alloc, link, peers, admin, IN_CAPSULE)?;
+    write_over(alloc, &mut io, fill, block_len, out)
+}
+
+fn write_over<L: Link + Drop, W: Write>(
+    alloc: Global,
+    io: &mut Session<L>,
+    fill: Fill,
+    block_len: u32,
+    out: &mut W,
+) -> Result<(), SessionFault>
+    requires { block_len ≤ 4096 }
+{
+    let command = filled(alloc, fill, block_len)?;
+    ask_result(io, &command)?;
     written(out.write_all(b"ok\n"))
 }
 
@@ -50,11 +75,34 @@ pub fn write_held<A: Link + Drop, L: Link + Drop, R: Read, W: Write>(
     out: &mut W,
 ) -> Result<(), SessionFault> {
     let mut admin = open_admin(alloc, links.admin, peers, turns)?;
-    let block_len = ask_block_len(alloc, &mut admin, fill.blocks.nsid)?;
-    let mut io = open_io(alloc, links.io, peers, &admin, 0)?;
-    io.submit(&filled(alloc, fill, block_len)?)?;
-    hold(&mut io, lines, out)?;
-    written(out.write_all(b"ok\n"))
+    hold_beside(alloc, &mut admin, links.io, peers, fill, lines, out)
+}
+
+fn hold_beside<A: Link + Drop, L: Link + Drop, R: Read, W: Write>(
+    alloc: Global,
+    admin: &mut Session<A>,
+    link: L,
+    peers: &Peers,
+    fill: Fill,
+    lines: &mut R,
+    out: &mut W,
+) -> Result<(), SessionFault> {
+    let block_len = ask_block_len(alloc, admin, fill.blocks.nsid)?;
+    let mut io = open_io(alloc, link, peers, admin, 0)?;
+    submit(alloc, &mut io, fill, block_len)?;
+    hold(&mut io, lines, out)
+}
+
+fn submit<L: Link + Drop>(
+    alloc: Global,
+    io: &mut Session<L>,
+    fill: Fill,
+    block_len: u32,
+) -> Result<(), SessionFault>
+    requires { block_len ≤ 4096 }
+{
+    let command = filled(alloc, fill, block_len)?;
+    io.submit(&command)
 }
 
 // Waits until data are asked for, then for a line, and then for the answer; where the answer comes first, for that.
@@ -63,14 +111,28 @@ fn hold<L: Link + Drop, R: Read, W: Write>(
     lines: &mut R,
     out: &mut W,
 ) -> Result<(), SessionFault> {
-    if io.request()?.is_some() {
-        return Ok(());
+    if is_requested(io)? {
+        written(out.write_all(b"held\n"))?;
+        written(out.flush())?;
+        pass_line(lines)?;
+        await_answer(io)?;
     }
-    written(out.write_all(b"held\n"))?;
-    written(out.flush())?;
-    pass_line(lines)?;
-    io.answer()?;
-    Ok(())
+    written(out.write_all(b"ok\n"))
+}
+
+// Whether data are asked for, and not the answer there.
+fn is_requested<L: Link + Drop>(io: &mut Session<L>) -> Result<bool, SessionFault> {
+    match io.request() {
+        Ok(answer) => Ok(answer.is_none()),
+        Err(fault) => Err(fault),
+    }
+}
+
+fn await_answer<L: Link + Drop>(io: &mut Session<L>) -> Result<(), SessionFault> {
+    match io.answer() {
+        Ok(_) => Ok(()),
+        Err(fault) => Err(fault),
+    }
 }
 
 // The Write that fills blocks.
