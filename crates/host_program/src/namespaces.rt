@@ -6,7 +6,7 @@ use crate::peers::Peers;
 use crate::printed::print;
 use host_link::commands::identify;
 use host_link::{Link, Session, SessionFault};
-use host_pages::NsList;
+use host_pages::{ListedNsids, NsList};
 use std::alloc::Global;
 use std::io::Write;
 
@@ -62,14 +62,20 @@ fn print_list<W: Write>(
     list: &[u8],
     out: &mut W,
 ) -> Result<Option<u32>, SessionFault> {
-    let Ok(list) = NsList::read(list) else {
-        return Err(SessionFault::BadPage);
-    };
-    let mut line = Vec::new(alloc);
+    match NsList::read(list) {
+        Ok(list) => print_nsids(alloc, list.nsids(), out),
+        Err(_) => Err(SessionFault::BadPage),
+    }
+}
+
+fn print_nsids<W: Write>(
+    alloc: Global,
+    nsids: ListedNsids<'_>,
+    out: &mut W,
+) -> Result<Option<u32>, SessionFault> {
     let (mut count, mut last) = (0usize, None);
-    for nsid in list.nsids() {
-        push_nsid(&mut line, nsid)?;
-        print(out, &mut line)?;
+    for nsid in nsids {
+        print_nsid(alloc, nsid, out)?;
         count = count.saturating_add(1);
         last = Some(nsid);
     }
@@ -78,4 +84,10 @@ fn print_list<W: Write>(
     } else {
         Ok(None)
     }
+}
+
+fn print_nsid<W: Write>(alloc: Global, nsid: u32, out: &mut W) -> Result<(), SessionFault> {
+    let mut line = Vec::new(alloc);
+    push_nsid(&mut line, nsid)?;
+    print(out, &mut line)
 }

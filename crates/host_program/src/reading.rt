@@ -57,13 +57,17 @@ fn print_blocks<W: Write>(
     block_len: usize,
     out: &mut W,
 ) -> Result<(), SessionFault> {
-    let mut line = Vec::new(alloc);
     if block_len == 0 {
         return Ok(());
     }
     for block in bytes.chunks(block_len) {
-        push_hex(alloc, &mut line, block)?;
-        print(out, &mut line)?;
+        print_block(alloc, block, out)?;
     }
     Ok(())
+}
+
+fn print_block<W: Write>(alloc: Global, block: &[u8], out: &mut W) -> Result<(), SessionFault> {
+    let mut line = Vec::new(alloc);
+    push_hex(alloc, &mut line, block)?;
+    print(out, &mut line)
 }

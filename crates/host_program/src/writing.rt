@@ -102,7 +102,8 @@ fn submit<L: Link + Drop>(
     requires { block_len ≤ 4096 }
 {
     let command = filled(alloc, fill, block_len)?;
-    io.submit(&command)
+    io.submit(&command)?;
+    Ok(())
 }
 
 // Waits until data are asked for, then for a line, and then for the answer; where the answer comes first, for that.
@@ -141,8 +142,16 @@ fn filled(alloc: Global, fill: Fill, block_len: u32) -> Result<HostCommand, Allo
     ensures { IfOk result (λ command.
         command ≡ write fill.blocks (replicate (fill.blocks.count * block_len) fill.byte)) }
 {
-    let len = usize::from(fill.blocks.count) * block_len as usize;
-    Ok(commands::write(fill.blocks, vec![in alloc; fill.byte; len]?))
+    let bytes = vec![in alloc; fill.byte; len_of(fill.blocks, block_len)]?;
+    Ok(commands::write(fill.blocks, bytes))
+}
+
+// How many bytes the blocks have.
+fn len_of(blocks: Blocks, block_len: u32) -> usize
+    requires { block_len ≤ 4096 }
+    ensures { result ≡ blocks.count * block_len }
+{
+    usize::from(blocks.count) * block_len as usize
 }
 
 // Reads up to the end of a line.
