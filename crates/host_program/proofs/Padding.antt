@@ -1,5 +1,5 @@
 -- Fields without the padding at their end.
-use Rattle.std.proofs.Common.{◌≡◌, ℕ, Bool, true, false, List, [], ◌∷◌, ◌++◌, refl, ap, ◌∙◌}
+use Rattle.std.proofs.Common.{◌≡◌, ℕ, true, false, List, [], ◌∷◌, ◌++◌, refl, ap, ◌∙◌}
 use Rattle.host_program.specs.Lines.{before, is_padding, without_padding}
 
 -- a byte stays before something

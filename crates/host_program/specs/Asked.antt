@@ -1,5 +1,5 @@
 -- What a command has to know before it asks for more.
-use Rattle.std.specs.Prelude.{ℕ, ◌+◌, ◌*◌, ◌%◌, ◌==◌, ◌||◌, Bool, nat_lt, List, length, Option, Some, None, slice_get, if◌then◌else◌}
+use Rattle.std.specs.Prelude.{ℕ, ◌+◌, ◌*◌, ◌%◌, ◌==◌, ◌||◌, nat_lt, List, length, Option, Some, None, slice_get, if◌then◌else◌}
 use Rattle.nvt_fields.specs.Field.{field_at}
 
 -- the records that the header of a discovery log page counts; none where it is shorter than a header, where their format

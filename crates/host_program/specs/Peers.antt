@@ -1,5 +1,5 @@
 -- What the queues of the program are opened with.
-use Rattle.std.specs.Prelude.{ℕ, List, replicate}
+use Rattle.std.specs.Prelude.{ℕ, replicate}
 use Rattle.host_wire.specs.declared.params.HostParams.{HostParams}
 use Rattle.host_program.specs.declared.peers.Peers.{Peers}
 

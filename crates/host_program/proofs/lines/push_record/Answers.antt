@@ -1,4 +1,4 @@
-use Rattle.std.proofs.Common.{◌≡◌, ◌++◌, ◌∷◌, [], ap, ◌∙◌, slice_range}
+use Rattle.std.proofs.Common.{◌++◌, ◌∷◌, [], ap, ◌∙◌, slice_range}
 use Rattle.nvt_fields.specs.Name.{up_to_zero}
 use Rattle.host_program.specs.Lines.{record_head, text_of}
 use Rattle.host_program.proofs.Joined.{joined}

@@ -1,4 +1,4 @@
-use Rattle.std.proofs.Common.{◌≡◌, ◌++◌, ◌∷◌, [], ◌+◌, take, slice_index, ap, sym, ◌∙◌, arith}
+use Rattle.std.proofs.Common.{take, slice_index, ap, sym, ◌∙◌, arith}
 use Rattle.std.proofs.lemmas.List.{take_more}
 use Rattle.host_program.specs.Lines.{without_padding}
 use Rattle.host_program.proofs.Padding.{without_padding-pad, without_padding-text}
