@@ -1,213 +1,166 @@
 //! Links that end, links that stay silent, and controllers that answer what they should not.
-use crate::plain::{TURNS, peers};
-use host_link::{Link, LinkFault};
-use host_program::{SessionFault, ana, discover, list};
+use crate::base::check_text;
+use host_program::{Peers, SessionFault, ana, discover, list};
 use nvt_fields::Nqn;
 use std::alloc::Global;
-use std::test::Fail;
-use testkit_edits::{A, H1};
+use testkit_edits::H1;
+use testkit_links::{Part, ScriptedLink, TURNS, names};
+use testkit_tables::{Outcome, Placed, check, check_lines, pass};
 
-/// What a controller sends, a part after each send to it, and what it does then.
-#[derive(Drop)]
-struct Script<'a> {
-    parts: &'a [&'a [u8]],
-    // The next part, and whether it is due.
-    place: usize,
-    is_due: bool,
-    // Whether the link ends behind the last part, or stays silent.
+const IC: Part<'static> = Part::IcResp(0);
+
+// The reply to a Connect, of controller 1; and the value of CSTS, of a controller that is ready.
+const CONNECTED: Part<'static> = Part::Response(1, 0, 0);
+
+const READY: Part<'static> = Part::Response(1, 0, 0);
+
+const DONE: Part<'static> = Part::Response(0, 0, 0);
+
+const REFUSED: Part<'static> = Part::Response(0, 1, 0x82);
+
+// What `list` comes to over a link of these parts, which ends behind them or stays silent there.
+fn listed(alloc: Global, parts: &[Part<'_>], ends: bool) -> Result<(), SessionFault> {
+    match names(alloc, H1) {
+        Ok(names) => listed_for(alloc, parts, ends, &names),
+        Err(_) => Ok(()),
+    }
+}
+
+fn listed_for(
+    alloc: Global,
+    parts: &[Part<'_>],
     ends: bool,
-}
-
-impl Link for Script<'_> {
-    fn send(&mut self, bytes: &[u8]) -> Result<usize, LinkFault> {
-        self.is_due |= !bytes.is_empty();
-        Ok(bytes.len())
-    }
-
-    fn receive(&mut self, buffer: &mut [u8]) -> Result<usize, LinkFault> {
-        let Some(part) = self.parts.get(self.place) else {
-            return if self.ends { Err(LinkFault) } else { Ok(0) };
-        };
-        if !self.is_due {
-            return Ok(0);
-        }
-        self.is_due = false;
-        self.place = self.place.saturating_add(1);
-        let len = part.len().min(buffer.len());
-        buffer[..len].copy_from_slice(&part[..len]);
-        Ok(len)
-    }
-}
-
-fn scripted<'a>(parts: &'a [&'a [u8]], ends: bool) -> Script<'a> {
-    Script {
-        parts,
-        place: 0,
-        is_due: false,
-        ends,
-    }
-}
-
-/// An ICResp, with a PFV and a MAXH2CDATA of 4,096.
-fn ic_resp(pfv: u8) -> [u8; 128] {
-    let mut pdu = [0; 128];
-    pdu[0] = 1;
-    pdu[2] = 128;
-    pdu[4] = 128;
-    pdu[8] = pfv;
-    pdu[13] = 0x10;
-    pdu
-}
-
-/// A CapsuleResp for the command 0, with a result and a status.
-fn response(dword: u8, sct: u8, sc: u8) -> [u8; 24] {
-    let mut pdu = [0; 24];
-    pdu[0] = 5;
-    pdu[2] = 24;
-    pdu[4] = 24;
-    pdu[8] = dword;
-    pdu[22] = sc.wrapping_mul(2);
-    pdu[23] = (sct % 8) * 2 + sc / 128;
-    pdu
-}
-
-/// The last C2HData of the command 0, of these data, and then its CapsuleResp.
-fn data_in(alloc: Global, bytes: &[u8]) -> Result<Vec<u8>, Fail> {
-    let mut pdus = Vec::new(alloc);
-    let len = u32::try_from(bytes.len())?;
-    pdus.extend_from_slice(&[7, 4, 24, 24])?;
-    pdus.extend_from_slice(&len.wrapping_add(24).to_le_bytes())?;
-    pdus.extend_from_slice(&[0; 8])?;
-    pdus.extend_from_slice(&len.to_le_bytes())?;
-    pdus.extend_from_slice(&[0; 4])?;
-    pdus.extend_from_slice(bytes)?;
-    pdus.extend_from_slice(&response(0, 0, 0))?;
-    Ok(pdus)
-}
-
-fn text(alloc: Global, ran: Result<(), SessionFault>) -> Result<String, Fail> {
-    let fault = ran.err().ok_or("a fault")?;
-    Ok(fault.to_string(alloc)?)
-}
-
-#[test]
-fn conversations_end(rt: HostRuntime) -> Result<(), Fail> {
-    let alloc = rt.alloc();
-    let names = peers(alloc, A, H1)?;
-    let (ic, bad, connected, done) = (ic_resp(0), ic_resp(1), response(1, 0, 0), response(0, 0, 0));
-    let (ready, refused) = (response(1, 0, 0), response(0, 1, 0x82));
-    let term = b"\x03\0\x18\0\x18\0\0\0\x02\0\x09\0\0\0\0\0\0\0\0\0\0\0\0\0";
-    let whole: [&[u8]; 4] = [&ic, &connected, &done, &ready];
-    let rows: [(&[&[u8]], &str); 8] = [
-        (&[], "silent"),
-        (&whole[..1], "silent"),
-        (&whole[..2], "silent"),
-        (&whole[..3], "silent"),
-        (&whole, "silent"),
-        (&[&ic[..64]], "silent"),
-        (&[&bad], "fault 6 8"),
-        (&[&ic, term], "term 2 9"),
-    ];
-    for (parts, wanted) in rows {
-        for ends in [true, false] {
-            let end = if ends { "io" } else { "turns" };
-            let wanted = if wanted == "silent" { end } else { wanted };
-            let ran = list(
-                alloc,
-                scripted(parts, ends),
-                &names,
-                TURNS,
-                &mut Vec::new(alloc),
-            );
-            assert_eq!(rt; text(alloc, ran)?.as_str(), wanted);
-        }
-    }
-    let rows: [(&[&[u8]], &str); 2] = [
-        (&[&ic, &refused], "status 01 82"),
-        (&[&ic, &connected, &refused], "status 01 82"),
-    ];
-    for (parts, wanted) in rows {
-        let ran = list(
-            alloc,
-            scripted(parts, true),
-            &names,
-            TURNS,
-            &mut Vec::new(alloc),
-        );
-        assert_eq!(rt; text(alloc, ran)?.as_str(), wanted);
-    }
-    Ok(())
-}
-
-#[test]
-fn answers_come_once(rt: HostRuntime) -> Result<(), Fail> {
-    let alloc = rt.alloc();
-    let names = peers(alloc, A, H1)?;
-    let (ic, connected, done) = (ic_resp(0), response(1, 0, 0), response(0, 0, 0));
-    let mut twice = Vec::from_slice(alloc, &done)?;
-    twice.extend_from_slice(&done)?;
-    let parts: [&[u8]; 3] = [&ic, &connected, &twice];
-    let ran = list(
+    names: &Peers,
+) -> Result<(), SessionFault> {
+    let mut out = Vec::new(alloc);
+    list(
         alloc,
-        scripted(&parts, true),
-        &names,
+        ScriptedLink::of(alloc, parts, ends),
+        names,
         TURNS,
-        &mut Vec::new(alloc),
-    );
-    assert_eq!(rt; text(alloc, ran)?.as_str(), "fault 1 20");
-    Ok(())
+        &mut out,
+    )
 }
 
-// So many bytes of this one, but for those at these places.
-fn page(alloc: Global, len: usize, fill: u8, places: &[(usize, u8)]) -> Result<Vec<u8>, Fail> {
-    let mut page = vec![in alloc; fill; len]?;
-    for (at, byte) in places {
-        if let Some(place) = page.get_mut(*at) {
-            *place = *byte;
-        }
-    }
-    data_in(alloc, &page)
+// Whether a conversation that goes no further ends with its link, or with its turns.
+fn check_waits(alloc: Global, parts: &[Part<'_>]) -> Outcome {
+    pass!(check_text(alloc, listed(alloc, parts, true), b"io"));
+    check_text(alloc, listed(alloc, parts, false), b"turns")
 }
 
-#[test]
-fn pages_are_read_whole(rt: HostRuntime) -> Result<(), Fail> {
-    let alloc = rt.alloc();
-    let names = peers(alloc, A, H1)?;
-    let (ic, ready, done) = (ic_resp(0), response(1, 0, 0), response(0, 0, 0));
-    // A log of two groups, of which the second has 1,003 namespaces, or one more than there is room for.
-    for (low, is_whole) in [(0xEB, true), (0xEC, false)] {
-        let log = page(alloc, 4096, 0, &[(8, 2), (20, 1), (56, low), (57, 3)])?;
-        let parts: [&[u8]; 5] = [&ic, &ready, &done, &ready, &log];
-        let mut out = Vec::new(alloc);
-        let ran = ana(alloc, scripted(&parts, true), &names, TURNS, &mut out);
-        assert_eq!(rt; out.is_empty(), !is_whole);
-        if !is_whole {
-            assert_eq!(rt; text(alloc, ran)?.as_str(), "bad page");
-        }
-    }
-    Ok(())
+// Whether a conversation ends with this text, whatever its link does.
+fn check_ends(alloc: Global, parts: &[Part<'_>], text: &[u8]) -> Outcome {
+    pass!(check_text(alloc, listed(alloc, parts, true), text));
+    check_text(alloc, listed(alloc, parts, false), text)
 }
 
 #[test]
-fn pages_count_their_records(rt: HostRuntime) -> Result<(), Fail> {
+fn conversations_end(rt: HostRuntime) -> Outcome {
     let alloc = rt.alloc();
-    let host = Nqn::read(alloc, H1)?;
-    let (ic, ready, done) = (ic_resp(0), response(1, 0, 0), response(0, 0, 0));
-    // 1,025 records, and records of another format.
-    let (many, other) = ([(8, 1), (9, 4)], [(8, 0), (16, 1)]);
-    for places in [many, other] {
-        let header = page(alloc, 1024, 0, &places)?;
-        let parts: [&[u8]; 5] = [&ic, &ready, &done, &ready, &header];
-        let ran = discover(
+    let whole = [IC, CONNECTED, DONE, READY];
+    for row in 0..=whole.len() {
+        pass!(check_waits(alloc, &whole[..row]).in_row(row));
+    }
+    pass!(check_waits(alloc, &[Part::HalfIcResp]).in_row(5));
+    pass!(check_ends(alloc, &[Part::IcResp(1)], b"fault 6 8").in_row(6));
+    check_ends(alloc, &[IC, Part::Term], b"term 2 9").in_row(7)
+}
+
+#[test]
+fn refusals_are_told(rt: HostRuntime) -> Outcome {
+    let alloc = rt.alloc();
+    let refused = b"status 01 82";
+    pass!(check_text(alloc, listed(alloc, &[IC, REFUSED], true), refused).in_row(0));
+    check_text(
+        alloc,
+        listed(alloc, &[IC, CONNECTED, REFUSED], true),
+        refused,
+    )
+    .in_row(1)
+}
+
+#[test]
+fn answers_come_once(rt: HostRuntime) -> Outcome {
+    let alloc = rt.alloc();
+    let ran = listed(alloc, &[IC, CONNECTED, Part::Twice], true);
+    check_text(alloc, ran, b"fault 1 20")
+}
+
+// What `ana` comes to over a link of these parts.
+fn shown(
+    alloc: Global,
+    parts: &[Part<'_>],
+    names: &Peers,
+    out: &mut Vec<u8>,
+) -> Result<(), SessionFault> {
+    ana(
+        alloc,
+        ScriptedLink::of(alloc, parts, true),
+        names,
+        TURNS,
+        out,
+    )
+}
+
+#[test]
+fn pages_are_read_whole(rt: HostRuntime) -> Outcome {
+    match names(rt.alloc(), H1) {
+        Ok(names) => check_pages(rt.alloc(), &names),
+        Err(_) => check(false, "names"),
+    }
+}
+
+// A log of two groups, of which the second has 1,003 namespaces, or one more than there is room for.
+fn check_pages(alloc: Global, names: &Peers) -> Outcome {
+    pass!(check_whole(alloc, names, 0xEB));
+    let mut out = Vec::new(alloc);
+    let page = page_of(0xEC);
+    let parts = [IC, READY, DONE, READY, Part::Page(4096, 0, &page)];
+    let ran = shown(alloc, &parts, names, &mut out);
+    pass!(check(out.is_empty(), "nothing is printed"));
+    check_text(alloc, ran, b"bad page")
+}
+
+fn page_of(low: u8) -> [(usize, u8); 4] {
+    [(8, 2), (20, 1), (56, low), (57, 3)]
+}
+
+fn check_whole(alloc: Global, names: &Peers, low: u8) -> Outcome {
+    let mut out = Vec::new(alloc);
+    let page = page_of(low);
+    let parts = [IC, READY, DONE, READY, Part::Page(4096, 0, &page)];
+    let ran = shown(alloc, &parts, names, &mut out);
+    pass!(check(ran == Ok(()), "the command"));
+    check(!out.is_empty(), "the log is printed")
+}
+
+// What `discover` comes to over a link of these parts.
+fn discovered(alloc: Global, parts: &[Part<'_>], out: &mut Vec<u8>) -> Result<(), SessionFault> {
+    match Nqn::read(alloc, H1) {
+        Ok(host) => discover(
             alloc,
-            scripted(&parts, true),
+            ScriptedLink::of(alloc, parts, true),
             &host,
             TURNS,
-            &mut Vec::new(alloc),
-        );
-        assert_eq!(rt; text(alloc, ran)?.as_str(), "bad page");
+            out,
+        ),
+        Err(_) => Ok(()),
     }
-    Ok(())
+}
+
+// Whether a page with this header is refused.
+fn check_refused(alloc: Global, places: &[(usize, u8)]) -> Outcome {
+    let mut out = Vec::new(alloc);
+    let parts = [IC, READY, DONE, READY, Part::Page(1024, 0, places)];
+    let ran = discovered(alloc, &parts, &mut out);
+    check_text(alloc, ran, b"bad page")
+}
+
+#[test]
+fn pages_count_their_records(rt: HostRuntime) -> Outcome {
+    // 1,025 records, and records of another format.
+    pass!(check_refused(rt.alloc(), &[(8, 1), (9, 4)]).in_row(0));
+    check_refused(rt.alloc(), &[(8, 0), (16, 1)]).in_row(1)
 }
 
 // A record whose texts have bytes that no word has: TRSVCID `4`, a space, 7Fh and `1`, SUBNQN `nq`, a zero and `x`, and
@@ -232,16 +185,17 @@ const RECORD: &[(usize, u8)] = &[
 ];
 
 #[test]
-fn texts_are_words(rt: HostRuntime) -> Result<(), Fail> {
-    let alloc = rt.alloc();
-    let host = Nqn::read(alloc, H1)?;
-    let (ic, ready, done) = (ic_resp(0), response(1, 0, 0), response(0, 0, 0));
-    let header = page(alloc, 1024, 0, &[(8, 1)])?;
-    let entry = page(alloc, 1024, b' ', RECORD)?;
-    let parts: [&[u8]; 6] = [&ic, &ready, &done, &ready, &header, &entry];
-    let mut out = Vec::new(alloc);
-    discover(alloc, scripted(&parts, true), &host, TURNS, &mut out)?;
-    let wanted = "genctr 0 records 1\nrecord 9 8 7 513 a 4??1 nq\n";
-    assert_eq!(rt; out.as_slice(), wanted.as_bytes());
-    Ok(())
+fn texts_are_words(rt: HostRuntime) -> Outcome {
+    let mut out = Vec::new(rt.alloc());
+    let parts = [
+        IC,
+        READY,
+        DONE,
+        READY,
+        Part::Page(1024, 0, &[(8, 1)]),
+        Part::Page(1024, b' ', RECORD),
+    ];
+    let ran = discovered(rt.alloc(), &parts, &mut out);
+    pass!(check(ran == Ok(()), "the command"));
+    check_lines(&out, b"genctr 0 records 1\nrecord 9 8 7 513 a 4??1 nq\n")
 }

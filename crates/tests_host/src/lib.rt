@@ -5,9 +5,9 @@
 #[cfg(test)]
 mod bad;
 #[cfg(test)]
-mod joined;
+mod base;
 #[cfg(test)]
-mod plain;
+mod blocks;
 #[cfg(test)]
 mod rows;
 #[cfg(test)]

@@ -2,33 +2,47 @@
 use host_driver::HostFault;
 use host_program::SessionFault;
 use nvt_fields::{FatalErrorStatus, Status};
-use std::test::Fail;
+use testkit_tables::{Outcome, Placed, check_bytes, pass};
 
 #[test]
-fn faults_are_told(rt: HostRuntime) -> Result<(), Fail> {
-    let alloc = rt.alloc();
-    let fes = FatalErrorStatus::InvalidHeaderField;
-    for (fault, wanted) in [
-        (SessionFault::from(HostFault::Failed), "failed"),
+fn faults_of_queues_are_told(rt: HostRuntime) -> Outcome {
+    let invalid = FatalErrorStatus::InvalidHeaderField;
+    let rows = [
+        (HostFault::Failed, "failed"),
         (
-            SessionFault::from(HostFault::Fault { fes, fei: 20 }),
+            HostFault::Fault {
+                fes: invalid,
+                fei: 20,
+            },
             "fault 1 20",
         ),
         (
-            SessionFault::from(HostFault::Term {
+            HostFault::Term {
                 fes: 9,
                 fei: 70_000,
-            }),
+            },
             "term 9 70000",
         ),
         (
-            SessionFault::from(HostFault::Refused(Status::CONNECT_INVALID_HOST)),
+            HostFault::Refused(Status::CONNECT_INVALID_HOST),
             "status 01 84",
         ),
-        (SessionFault::from(HostFault::NotConnected), "not connected"),
-        (SessionFault::from(HostFault::TooLarge), "too large"),
-        (SessionFault::from(HostFault::QueueFull), "queue full"),
-        (SessionFault::from(HostFault::Memory), "memory"),
+        (HostFault::NotConnected, "not connected"),
+        (HostFault::TooLarge, "too large"),
+        (HostFault::QueueFull, "queue full"),
+        (HostFault::Memory, "memory"),
+    ];
+    for (row, (fault, text)) in rows.iter().enumerate() {
+        let fault = SessionFault::from(*fault);
+        let printed = format!(in rt.alloc(); "{fault}")?;
+        pass!(check_bytes(printed.as_bytes(), text.as_bytes()).in_row(row));
+    }
+    Ok(())
+}
+
+#[test]
+fn faults_are_told(rt: HostRuntime) -> Outcome {
+    let rows = [
         (
             SessionFault::Status(Status::INVALID_NAMESPACE_OR_FORMAT),
             "status 00 0b",
@@ -37,8 +51,10 @@ fn faults_are_told(rt: HostRuntime) -> Result<(), Fail> {
         (SessionFault::Io, "io"),
         (SessionFault::Turns, "turns"),
         (SessionFault::Memory, "memory"),
-    ] {
-        assert_eq!(rt; fault.to_string(alloc)?.as_str(), wanted);
+    ];
+    for (row, (fault, text)) in rows.iter().enumerate() {
+        let printed = format!(in rt.alloc(); "{fault}")?;
+        pass!(check_bytes(printed.as_bytes(), text.as_bytes()).in_row(row));
     }
     Ok(())
 }

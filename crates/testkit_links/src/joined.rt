@@ -1,8 +1,9 @@
 //! Links to a target in memory.
-use crate::plain::{Shared, makes};
+ghost use Rattle.std.specs.Prelude.{◌≤◌, IfOk, length};
+
+use crate::target::SharedTarget;
 use block_store::MemoryDisk;
 use host_link::{Link, LinkFault};
-use std::alloc::Global;
 use target_core::{Stepped, Target};
 use testkit_edits::Line;
 
@@ -12,41 +13,36 @@ const STEPS_MAX: usize = 64;
 /// A connection of a target. What is sent is received and answered at once.
 #[derive(Drop)]
 pub struct TargetLink<'a> {
-    target: &'a Shared,
+    target: &'a SharedTarget,
     k: usize,
 }
 
 impl<'a> TargetLink<'a> {
-    /// A new connection to a port.
-    pub fn open(target: &'a Shared, port: u16) -> Option<TargetLink<'a>> {
-        let Ok(mut opened) = target.try_borrow_mut() else {
-            return None;
-        };
-        match opened.open(port) {
-            Ok(k) => Some(TargetLink { target, k }),
-            Err(_) => None,
-        }
+    pub(crate) fn of(target: &'a SharedTarget, k: usize) -> TargetLink<'a> {
+        TargetLink { target, k }
     }
 }
 
 impl Link for TargetLink<'_> {
     fn send(&mut self, bytes: &[u8]) -> Result<usize, LinkFault> {
-        let Ok(mut target) = self.target.try_borrow_mut() else {
-            return Err(LinkFault);
-        };
-        receive_at(&mut target, self.k, bytes)
+        match self.target.target.try_borrow_mut() {
+            Ok(mut target) => receive_at(&mut target, self.k, bytes),
+            Err(_) => Err(LinkFault),
+        }
     }
 
     fn receive(&mut self, buffer: &mut [u8]) -> Result<usize, LinkFault> {
-        let Ok(mut target) = self.target.try_borrow_mut() else {
-            return Err(LinkFault);
-        };
-        send_at(&mut target, self.k, buffer)
+        match self.target.target.try_borrow_mut() {
+            Ok(mut target) => send_at(&mut target, self.k, buffer),
+            Err(_) => Err(LinkFault),
+        }
     }
 }
 
 // A connection receives the first of these bytes.
-fn receive_at(target: &mut Target<MemoryDisk>, k: usize, bytes: &[u8]) -> Result<usize, LinkFault> {
+fn receive_at(target: &mut Target<MemoryDisk>, k: usize, bytes: &[u8]) -> Result<usize, LinkFault>
+    ensures { IfOk result (λ n. n ≤ length bytes.now) }
+{
     if target.ended(k) {
         return Err(LinkFault);
     }
@@ -58,17 +54,10 @@ fn receive_at(target: &mut Target<MemoryDisk>, k: usize, bytes: &[u8]) -> Result
 }
 
 // A connection sends what it has to send, as much as there is room for.
-fn send_at(
-    target: &mut Target<MemoryDisk>,
-    k: usize,
-    buffer: &mut [u8],
-) -> Result<usize, LinkFault> {
-    for _ in 0..STEPS_MAX {
-        match target.step(k) {
-            Ok(Stepped::One) => {}
-            Ok(Stepped::Idle | Stepped::Ended) | Err(_) => break,
-        }
-    }
+fn send_at(target: &mut Target<MemoryDisk>, k: usize, buffer: &mut [u8]) -> Result<usize, LinkFault>
+    ensures { IfOk result (λ n. n ≤ length buffer.new) }
+{
+    take_steps(target, k);
     let len = target.output(k).len().min(buffer.len());
     if len == 0 && target.ended(k) {
         return Err(LinkFault);
@@ -78,22 +67,29 @@ fn send_at(
     Ok(len)
 }
 
+fn take_steps(target: &mut Target<MemoryDisk>, k: usize) {
+    for _ in 0..STEPS_MAX {
+        match target.step(k) {
+            Ok(Stepped::One) => {}
+            Ok(Stepped::Idle | Stepped::Ended) | Err(_) => break,
+        }
+    }
+}
+
 /// How often a link that is edited is received from before its edits are made.
 const WAITS: u32 = 12;
 
 /// A link to a target on which edits are made while its host waits.
 #[derive(Drop)]
 pub struct EditedLink<'a> {
-    alloc: Global,
     link: TargetLink<'a>,
     edits: &'a [Line<'a>],
     waits: u32,
 }
 
 impl<'a> EditedLink<'a> {
-    pub fn over(alloc: Global, link: TargetLink<'a>, edits: &'a [Line<'a>]) -> EditedLink<'a> {
+    pub fn over(link: TargetLink<'a>, edits: &'a [Line<'a>]) -> EditedLink<'a> {
         EditedLink {
-            alloc,
             link,
             edits,
             waits: 0,
@@ -108,7 +104,7 @@ impl Link for EditedLink<'_> {
 
     fn receive(&mut self, buffer: &mut [u8]) -> Result<usize, LinkFault> {
         self.waits = self.waits.saturating_add(1);
-        if self.waits == WAITS && !makes(self.alloc, self.link.target, self.edits) {
+        if self.waits == WAITS && !self.link.target.makes(self.edits) {
             return Err(LinkFault);
         }
         self.link.receive(buffer)
