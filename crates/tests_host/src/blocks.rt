@@ -18,7 +18,7 @@ struct Filled {
     digits: [u8; 2],
 }
 
-const fn filled(nsid: u32, lba: u64, count: u16, len: u16, byte: u8, digits: [u8; 2]) -> Filled {
+const fn row(nsid: u32, lba: u64, count: u16, len: u16, byte: u8, digits: [u8; 2]) -> Filled {
     Filled {
         nsid,
         lba,
@@ -53,11 +53,11 @@ fn reads_what_it_wrote(rt: HostRuntime) -> Outcome {
 fn check_filled(alloc: Global, target: &SharedTarget) -> Outcome {
     // In the capsule, by one R2T, and as much as a command may have.
     let rows = [
-        filled(1, 0, 1, 512, 5, *b"05"),
-        filled(1, 3, 17, 512, 0xAB, *b"ab"),
-        filled(1, 2047, 1, 512, 255, *b"ff"),
-        filled(1, 0, 256, 512, 16, *b"10"),
-        filled(7, 992, 32, 4096, 7, *b"07"),
+        row(1, 0, 1, 512, 5, *b"05"),
+        row(1, 3, 17, 512, 0xAB, *b"ab"),
+        row(1, 2047, 1, 512, 255, *b"ff"),
+        row(1, 0, 256, 512, 16, *b"10"),
+        row(7, 992, 32, 4096, 7, *b"07"),
     ];
     for (row, filled) in rows.iter().enumerate() {
         pass!(check_row(alloc, target, filled).in_row(row));
