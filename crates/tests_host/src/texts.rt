@@ -1,8 +1,9 @@
 //! The text of each fault.
+use crate::base::check_text;
 use host_driver::HostFault;
 use host_program::SessionFault;
 use nvt_fields::{FatalErrorStatus, Status};
-use testkit_tables::{Outcome, Placed, check_bytes, pass};
+use testkit_tables::{Outcome, Placed, pass};
 
 #[test]
 fn faults_of_queues_are_told(rt: HostRuntime) -> Outcome {
@@ -33,9 +34,8 @@ fn faults_of_queues_are_told(rt: HostRuntime) -> Outcome {
         (HostFault::Memory, "memory"),
     ];
     for (row, (fault, text)) in rows.iter().enumerate() {
-        let fault = SessionFault::from(*fault);
-        let printed = format!(in rt.alloc(); "{fault}")?;
-        pass!(check_bytes(printed.as_bytes(), text.as_bytes()).in_row(row));
+        let ran = Err(SessionFault::from(*fault));
+        pass!(check_text(rt.alloc(), ran, text.as_bytes()).in_row(row));
     }
     Ok(())
 }
@@ -53,8 +53,7 @@ fn faults_are_told(rt: HostRuntime) -> Outcome {
         (SessionFault::Memory, "memory"),
     ];
     for (row, (fault, text)) in rows.iter().enumerate() {
-        let printed = format!(in rt.alloc(); "{fault}")?;
-        pass!(check_bytes(printed.as_bytes(), text.as_bytes()).in_row(row));
+        pass!(check_text(rt.alloc(), Err(*fault), text.as_bytes()).in_row(row));
     }
     Ok(())
 }
