@@ -1,0 +1,54 @@
+-- The commands of a host, as its queue takes them.
+use Rattle.std.specs.Prelude.{ℕ, ◌+◌, ◌-◌, ◌*◌, ◌/◌, ◌%◌, ◌^◌, List, [], ◌∷◌}
+use Rattle.host_wire.specs.Command.{Command}
+use Rattle.host_link.specs.declared.blocks.Blocks.{Blocks}
+use Rattle.host_link.specs.declared.commands.Property.{Property}
+use Rattle.host_link.specs.declared.commands.Property.TheVariants.{ControllerConfiguration, ControllerStatus}
+
+-- a command without data to send
+abbrev pub with_dwords : ℕ → ℕ → List ℕ → ℕ → Command
+with_dwords opcode nsid cdw into = record { opcode = opcode; nsid = nsid; cdw = cdw; out = []; into = into }
+
+-- these and zeros are command dwords 10 to 15
+abbrev pub four : ℕ → ℕ → ℕ → ℕ → List ℕ
+four d10 d11 d12 d13 = d10 ∷ d11 ∷ d12 ∷ d13 ∷ 0 ∷ 0 ∷ []
+
+-- ---- Fabrics commands: opcode 7Fh, with their type for an identifier of a namespace
+
+abbrev pub offset_of : Property → ℕ
+offset_of ControllerConfiguration = 20
+offset_of ControllerStatus = 28
+
+abbrev pub property_set : Property → ℕ → Command
+property_set property value = with_dwords 127 0 (four 0 (offset_of property) value 0) 0
+
+abbrev pub property_get : Property → Command
+property_get property = with_dwords 127 4 (four 0 (offset_of property) 0 0) 0
+
+-- ---- admin commands
+
+abbrev pub identify : ℕ → ℕ → Command
+identify cns nsid = with_dwords 6 nsid (four cns 0 0 0) 4096
+
+-- the number of dwords is 0's based, and RAE is 0
+abbrev pub get_log_page : ℕ → ℕ → ℕ → Command
+get_log_page lid offset len =
+    with_dwords 2 0 (four (lid + (len / 4 - 1) * 65536) 0 (offset % 2 ^ 32) (offset / 2 ^ 32)) len
+
+abbrev pub set_features : ℕ → ℕ → Command
+set_features fid value = with_dwords 9 0 (four fid value 0 0) 0
+
+abbrev pub event_request : Command
+event_request = with_dwords 12 0 (four 0 0 0 0) 0
+
+-- ---- I/O commands
+
+-- the first block, and the number of blocks, 0's based
+abbrev pub dwords_of : Blocks → List ℕ
+dwords_of b = four (b.lba % 2 ^ 32) (b.lba / 2 ^ 32) (b.count - 1) 0
+
+abbrev pub read : Blocks → ℕ → Command
+read b block_len = with_dwords 2 b.nsid (dwords_of b) (b.count * block_len)
+
+abbrev pub write : Blocks → List ℕ → Command
+write b bytes = record { opcode = 1; nsid = b.nsid; cdw = dwords_of b; out = bytes; into = 0 }

@@ -1,0 +1,57 @@
+//! The command `ana`.
+use crate::asked::ask;
+use crate::lines::{push_change, push_group};
+use crate::opened::open_admin;
+use crate::peers::Peers;
+use crate::printed::print;
+use host_link::commands::get_log_page;
+use host_link::{Link, Session, SessionFault};
+use host_pages::AnaLog;
+use std::alloc::Global;
+use std::io::Write;
+
+/// The identifier of the log page (Base 2.0, section 5.16.1.13).
+const ASYMMETRIC_NAMESPACE_ACCESS: u8 = 0x0C;
+
+/// How much of it is read, in bytes.
+const READ_LEN: u32 = 4096;
+
+/// Reads the Asymmetric Namespace Access log page, and prints its groups.
+pub fn ana<L: Link + Drop, W: Write>(
+    alloc: Global,
+    link: L,
+    peers: &Peers,
+    turns: u64,
+    out: &mut W,
+) -> Result<(), SessionFault> {
+    let mut session = open_admin(alloc, link, peers, turns)?;
+    tell_groups(alloc, &mut session, out)
+}
+
+fn tell_groups<L: Link + Drop, W: Write>(
+    alloc: Global,
+    session: &mut Session<L>,
+    out: &mut W,
+) -> Result<(), SessionFault> {
+    let command = get_log_page(alloc, ASYMMETRIC_NAMESPACE_ACCESS, 0, READ_LEN);
+    let page = ask(session, &command)?;
+    print_page(alloc, &page, out)
+}
+
+fn print_page<W: Write>(alloc: Global, page: &[u8], out: &mut W) -> Result<(), SessionFault> {
+    match AnaLog::read(page) {
+        Ok(log) => print_log(alloc, &log, out),
+        Err(_) => Err(SessionFault::BadPage),
+    }
+}
+
+fn print_log<W: Write>(alloc: Global, log: &AnaLog<'_>, out: &mut W) -> Result<(), SessionFault> {
+    let mut line = Vec::new(alloc);
+    push_change(&mut line, log.change(), log.group_count())?;
+    print(out, &mut line)?;
+    for group in log.groups() {
+        push_group(&mut line, &group)?;
+        print(out, &mut line)?;
+    }
+    Ok(())
+}

@@ -1,0 +1,25 @@
+//! What a command asks a controller for. Each answer is taken apart here, so that what asks owns its bytes alone.
+use host_driver::HostCommand;
+use host_link::{Link, Session, SessionFault};
+
+/// The data of the answer to a command.
+pub(crate) fn ask<L: Link + Drop>(
+    session: &mut Session<L>,
+    command: &HostCommand,
+) -> Result<Vec<u8>, SessionFault> {
+    match session.execute(command) {
+        Ok(answer) => Ok(answer.payload),
+        Err(fault) => Err(fault),
+    }
+}
+
+/// The result of a command, whose answer has no data.
+pub(crate) fn ask_result<L: Link + Drop>(
+    session: &mut Session<L>,
+    command: &HostCommand,
+) -> Result<u64, SessionFault> {
+    match session.execute(command) {
+        Ok(answer) => Ok(answer.result),
+        Err(fault) => Err(fault),
+    }
+}

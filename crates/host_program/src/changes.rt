@@ -1,0 +1,65 @@
+//! The command `changed`.
+use crate::asked::{ask, ask_result};
+use crate::lines::push_changed;
+use crate::opened::open_admin;
+use crate::peers::Peers;
+use crate::printed::print;
+use host_link::commands::{event_request, get_log_page, set_features};
+use host_link::{Link, Session, SessionFault};
+use host_pages::NsList;
+use std::alloc::Global;
+use std::io::Write;
+
+/// The feature Asynchronous Event Configuration (Base 2.0, section 5.27.1.8).
+const EVENT_CONFIGURATION: u8 = 0x0B;
+
+/// Its bit for namespace attribute notices.
+const NAMESPACE_NOTICES: u32 = 1 << 8;
+
+/// The event: a notice, namespace attribute changed, log page 04h.
+const NAMESPACE_CHANGED: u64 = 0x0004_0002;
+
+/// The identifier of the Changed Namespace List (Base 2.0, section 5.16.1.5).
+const CHANGED_NAMESPACES: u8 = 0x04;
+
+/// Its length, in bytes.
+const LIST_LEN: u32 = 4096;
+
+/// Waits for the event of a changed namespace, and prints which changed.
+pub fn changed<L: Link + Drop, W: Write>(
+    alloc: Global,
+    link: L,
+    peers: &Peers,
+    turns: u64,
+    out: &mut W,
+) -> Result<(), SessionFault> {
+    let mut session = open_admin(alloc, link, peers, turns)?;
+    tell_change(alloc, &mut session, out)
+}
+
+fn tell_change<L: Link + Drop, W: Write>(
+    alloc: Global,
+    session: &mut Session<L>,
+    out: &mut W,
+) -> Result<(), SessionFault> {
+    let enable = set_features(alloc, EVENT_CONFIGURATION, NAMESPACE_NOTICES);
+    ask_result(session, &enable)?;
+    let event = ask_result(session, &event_request(alloc))?;
+    if event % (1 << 32) != NAMESPACE_CHANGED {
+        return Err(SessionFault::BadPage);
+    }
+    let list = ask(
+        session,
+        &get_log_page(alloc, CHANGED_NAMESPACES, 0, LIST_LEN),
+    )?;
+    print_changed(alloc, &list, out)
+}
+
+fn print_changed<W: Write>(alloc: Global, list: &[u8], out: &mut W) -> Result<(), SessionFault> {
+    let Ok(list) = NsList::read(list) else {
+        return Err(SessionFault::BadPage);
+    };
+    let mut line = Vec::new(alloc);
+    push_changed(&mut line, list.nsids())?;
+    print(out, &mut line)
+}

@@ -1,0 +1,33 @@
+//! The queues that commands use.
+ghost use Rattle.std.specs.Prelude.{◌≤◌};
+
+use crate::peers::Peers;
+use host_link::{Link, Session, SessionFault};
+use std::alloc::Global;
+
+/// The admin queue of a new controller, which is enabled.
+pub(crate) fn open_admin<L: Link + Drop>(
+    alloc: Global,
+    link: L,
+    peers: &Peers,
+    turns: u64,
+) -> Result<Session<L>, SessionFault> {
+    let params = peers.admin_queue()?;
+    let mut session = Session::connect(alloc, link, params, turns)?;
+    session.enable()?;
+    Ok(session)
+}
+
+/// An I/O queue of a controller, within the turns that its admin queue left.
+pub(crate) fn open_io<A: Link + Drop, L: Link + Drop>(
+    alloc: Global,
+    link: L,
+    peers: &Peers,
+    admin: &Session<A>,
+    in_capsule: u32,
+) -> Result<Session<L>, SessionFault>
+    requires { in_capsule ≤ 8192 }
+{
+    let params = peers.io_queue(admin.cntlid(), in_capsule)?;
+    Session::connect(alloc, link, params, admin.turns())
+}

@@ -1,0 +1,73 @@
+//! The command `read`.
+ghost use Rattle.std.specs.Prelude.{◌≤◌};
+
+use crate::asked::ask;
+use crate::identified::ask_block_len;
+use crate::lines::push_hex;
+use crate::links::Links;
+use crate::opened::{open_admin, open_io};
+use crate::peers::{IN_CAPSULE, Peers};
+use crate::printed::print;
+use host_link::{Blocks, Link, Session, SessionFault, commands};
+use std::alloc::Global;
+use std::io::Write;
+
+/// Reads blocks, over two links to one controller, and prints each in hex, one a line.
+pub fn read<A: Link + Drop, L: Link + Drop, W: Write>(
+    alloc: Global,
+    links: Links<A, L>,
+    peers: &Peers,
+    blocks: Blocks,
+    turns: u64,
+    out: &mut W,
+) -> Result<(), SessionFault> {
+    let mut admin = open_admin(alloc, links.admin, peers, turns)?;
+    read_beside(alloc, &mut admin, links.io, peers, blocks, out)
+}
+
+fn read_beside<A: Link + Drop, L: Link + Drop, W: Write>(
+    alloc: Global,
+    admin: &mut Session<A>,
+    link: L,
+    peers: &Peers,
+    blocks: Blocks,
+    out: &mut W,
+) -> Result<(), SessionFault> {
+    let block_len = ask_block_len(alloc, admin, blocks.nsid)?;
+    let mut io = open_io(alloc, link, peers, admin, IN_CAPSULE)?;
+    tell_blocks(alloc, &mut io, blocks, block_len, out)
+}
+
+fn tell_blocks<L: Link + Drop, W: Write>(
+    alloc: Global,
+    io: &mut Session<L>,
+    blocks: Blocks,
+    block_len: u32,
+    out: &mut W,
+) -> Result<(), SessionFault>
+    requires { block_len ≤ 4096 }
+{
+    let bytes = ask(io, &commands::read(alloc, blocks, block_len))?;
+    print_blocks(alloc, &bytes, block_len as usize, out)
+}
+
+fn print_blocks<W: Write>(
+    alloc: Global,
+    bytes: &[u8],
+    block_len: usize,
+    out: &mut W,
+) -> Result<(), SessionFault> {
+    if block_len == 0 {
+        return Ok(());
+    }
+    for block in bytes.chunks(block_len) {
+        print_block(alloc, block, out)?;
+    }
+    Ok(())
+}
+
+fn print_block<W: Write>(alloc: Global, block: &[u8], out: &mut W) -> Result<(), SessionFault> {
+    let mut line = Vec::new(alloc);
+    push_hex(alloc, &mut line, block)?;
+    print(out, &mut line)
+}

@@ -1,0 +1,170 @@
+//! The command `write`.
+ghost use Rattle.std.specs.Prelude.{◌≡◌, ◌≤◌, ◌*◌, IfOk, replicate};
+ghost use Rattle.host_link.specs.Commands.{write};
+
+use crate::asked::ask_result;
+use crate::identified::ask_block_len;
+use crate::links::Links;
+use crate::opened::{open_admin, open_io};
+use crate::peers::{IN_CAPSULE, Peers};
+use crate::printed::written;
+use host_driver::HostCommand;
+use host_link::{Blocks, Link, Session, SessionFault, commands};
+use std::alloc::{AllocError, Global};
+use std::io::{ErrorKind, Read, Write};
+
+/// The most bytes of the line that is waited for.
+const LINE_MAX: usize = 1024;
+
+/// Blocks, each byte of which is to be this one.
+#[derive(Clone, Copy, Debug, PartialEq, Eq)]
+pub struct Fill {
+    pub blocks: Blocks,
+    pub byte: u8,
+}
+
+/// Writes blocks, over two links to one controller, and prints `ok`.
+pub fn write<A: Link + Drop, L: Link + Drop, W: Write>(
+    alloc: Global,
+    links: Links<A, L>,
+    peers: &Peers,
+    fill: Fill,
+    turns: u64,
+    out: &mut W,
+) -> Result<(), SessionFault> {
+    let mut admin = open_admin(alloc, links.admin, peers, turns)?;
+    write_beside(alloc, &mut admin, links.io, peers, fill, out)
+}
+
+fn write_beside<A: Link + Drop, L: Link + Drop, W: Write>(
+    alloc: Global,
+    admin: &mut Session<A>,
+    link: L,
+    peers: &Peers,
+    fill: Fill,
+    out: &mut W,
+) -> Result<(), SessionFault> {
+    let block_len = ask_block_len(alloc, admin, fill.blocks.nsid)?;
+    let mut io = open_io(alloc, link, peers, admin, IN_CAPSULE)?;
+    write_over(alloc, &mut io, fill, block_len, out)
+}
+
+fn write_over<L: Link + Drop, W: Write>(
+    alloc: Global,
+    io: &mut Session<L>,
+    fill: Fill,
+    block_len: u32,
+    out: &mut W,
+) -> Result<(), SessionFault>
+    requires { block_len ≤ 4096 }
+{
+    let command = filled(alloc, fill, block_len)?;
+    ask_result(io, &command)?;
+    written(out.write_all(b"ok\n"))
+}
+
+/// Writes blocks as `write` does, none of their data in the capsule. Once the controller has asked for data, prints
+/// `held`, and waits for a line before it sends any: up to its end, to the end of what is read, or to 1,024 bytes.
+pub fn write_held<A: Link + Drop, L: Link + Drop, R: Read, W: Write>(
+    alloc: Global,
+    links: Links<A, L>,
+    peers: &Peers,
+    fill: Fill,
+    turns: u64,
+    lines: &mut R,
+    out: &mut W,
+) -> Result<(), SessionFault> {
+    let mut admin = open_admin(alloc, links.admin, peers, turns)?;
+    hold_beside(alloc, &mut admin, links.io, peers, fill, lines, out)
+}
+
+fn hold_beside<A: Link + Drop, L: Link + Drop, R: Read, W: Write>(
+    alloc: Global,
+    admin: &mut Session<A>,
+    link: L,
+    peers: &Peers,
+    fill: Fill,
+    lines: &mut R,
+    out: &mut W,
+) -> Result<(), SessionFault> {
+    let block_len = ask_block_len(alloc, admin, fill.blocks.nsid)?;
+    let mut io = open_io(alloc, link, peers, admin, 0)?;
+    submit(alloc, &mut io, fill, block_len)?;
+    hold(&mut io, lines, out)
+}
+
+fn submit<L: Link + Drop>(
+    alloc: Global,
+    io: &mut Session<L>,
+    fill: Fill,
+    block_len: u32,
+) -> Result<(), SessionFault>
+    requires { block_len ≤ 4096 }
+{
+    let command = filled(alloc, fill, block_len)?;
+    io.submit(&command)?;
+    Ok(())
+}
+
+// Waits until data are asked for, then for a line, and then for the answer; where the answer comes first, for that.
+fn hold<L: Link + Drop, R: Read, W: Write>(
+    io: &mut Session<L>,
+    lines: &mut R,
+    out: &mut W,
+) -> Result<(), SessionFault> {
+    if is_requested(io)? {
+        written(out.write_all(b"held\n"))?;
+        written(out.flush())?;
+        pass_line(lines)?;
+        await_answer(io)?;
+    }
+    written(out.write_all(b"ok\n"))
+}
+
+// Whether data are asked for, and not the answer there.
+fn is_requested<L: Link + Drop>(io: &mut Session<L>) -> Result<bool, SessionFault> {
+    match io.request() {
+        Ok(answer) => Ok(answer.is_none()),
+        Err(fault) => Err(fault),
+    }
+}
+
+fn await_answer<L: Link + Drop>(io: &mut Session<L>) -> Result<(), SessionFault> {
+    match io.answer() {
+        Ok(_) => Ok(()),
+        Err(fault) => Err(fault),
+    }
+}
+
+// The Write that fills blocks.
+fn filled(alloc: Global, fill: Fill, block_len: u32) -> Result<HostCommand, AllocError>
+    requires { block_len ≤ 4096 }
+    ensures { IfOk result (λ command.
+        command ≡ write fill.blocks (replicate (fill.blocks.count * block_len) fill.byte)) }
+{
+    let bytes = vec![in alloc; fill.byte; len_of(fill.blocks, block_len)]?;
+    Ok(commands::write(fill.blocks, bytes))
+}
+
+// How many bytes the blocks have.
+fn len_of(blocks: Blocks, block_len: u32) -> usize
+    requires { block_len ≤ 4096 }
+    ensures { result ≡ blocks.count * block_len }
+{
+    usize::from(blocks.count) * block_len as usize
+}
+
+// Reads up to the end of a line.
+fn pass_line<R: Read>(lines: &mut R) -> Result<(), SessionFault> {
+    let mut byte = [0];
+    for _ in 0..LINE_MAX {
+        match lines.read(&mut byte) {
+            Ok(0) => return Ok(()),
+            Ok(_) if byte[0] == b'\n' => return Ok(()),
+            Ok(_) => {}
+            Err(error) if error.kind() == ErrorKind::Interrupted => {}
+            Err(_) => return Err(SessionFault::Io),
+        }
+    }
+    Ok(())
+}

@@ -1,0 +1,197 @@
+//! The arguments of the program.
+
+use crate::command_line;
+use clap::error::ErrorKind;
+use clap::{ArgMatches, Error};
+use host_program::{Blocks, Fill, Peers, SessionFault};
+use nvt_fields::{Nqn, NqnFault};
+use std::alloc::{AllocError, Global};
+use std::net::{IpAddr, SocketAddr};
+use std::rt::Env;
+use std::{env, io};
+
+/// What the arguments ask for.
+#[derive(Drop)]
+pub enum Usage {
+    Run(HostArguments),
+    /// There is none.
+    Nothing,
+    /// The help, which was printed.
+    Help,
+    Bad,
+}
+
+/// What a command is to do, and with whom.
+#[derive(Drop)]
+pub struct HostArguments {
+    pub address: SocketAddr,
+    /// At most so many turns.
+    pub turns: u64,
+    pub verb: Verb,
+}
+
+/// What a command is to do.
+#[derive(Drop)]
+pub enum Verb {
+    Discover(Nqn),
+    List(Peers),
+    Ana(Peers),
+    Changed(Peers),
+    Read(Peers, Blocks),
+    Write(Peers, Fill),
+    WriteHeld(Peers, Fill),
+}
+
+/// Reads the arguments of the process, and prints the help where they ask for it.
+pub fn read<R: Env + Print + AllocGlobal>(rt: &R) -> Result<Usage, SessionFault> {
+    let mut words = Vec::new(rt.alloc());
+    match take_words(rt, &mut words) {
+        Ok(true) if words.len() < 2 => Ok(Usage::Nothing),
+        Ok(true) => read_words(rt, &words),
+        Ok(false) => Ok(Usage::Bad),
+        Err(AllocError) => Err(SessionFault::Memory),
+    }
+}
+
+// Appends the arguments of the process, and answers whether each of them is text.
+fn take_words<R: Env + AllocGlobal>(rt: &R, words: &mut Vec<String>) -> Result<bool, AllocError> {
+    let given = match env::args(rt) {
+        Ok(given) => given,
+        Err(error) if error.kind() == io::ErrorKind::OutOfMemory => return Err(AllocError),
+        Err(_) => return Ok(false),
+    };
+    // `collect` would ask for room by a hint, and pass over its refusal.
+    for word in given {
+        words.push(word)?;
+    }
+    Ok(true)
+}
+
+fn read_words<R: Print + AllocGlobal>(rt: &R, words: &[String]) -> Result<Usage, SessionFault> {
+    match matches_of(rt.alloc(), words) {
+        Ok(matches) => usage_of(rt.alloc(), &matches),
+        Err(error) => refused(rt, &error),
+    }
+}
+
+fn matches_of<'a>(alloc: Global, words: &'a [String]) -> Result<ArgMatches<'a>, Error> {
+    match command_line::program(alloc) {
+        Ok(command) => command.try_get_matches_from(words),
+        Err(AllocError) => Err(Error::from(AllocError)),
+    }
+}
+
+fn refused<R: Print>(rt: &R, error: &Error) -> Result<Usage, SessionFault> {
+    match error.kind() {
+        ErrorKind::DisplayHelp => match rt.print(error) {
+            Ok(()) => Ok(Usage::Help),
+            Err(_) => Err(SessionFault::Io),
+        },
+        ErrorKind::OutOfMemory => Err(SessionFault::Memory),
+        _ => Ok(Usage::Bad),
+    }
+}
+
+fn usage_of(alloc: Global, matches: &ArgMatches<'_>) -> Result<Usage, SessionFault> {
+    match arguments_of(alloc, matches) {
+        Ok(Some(arguments)) => Ok(Usage::Run(arguments)),
+        Ok(None) => Ok(Usage::Bad),
+        Err(AllocError) => Err(SessionFault::Memory),
+    }
+}
+
+// What the command that was given asks for; None where a word of it is not what it has to be.
+fn arguments_of(
+    alloc: Global,
+    matches: &ArgMatches<'_>,
+) -> Result<Option<HostArguments>, AllocError> {
+    for name in command_line::COMMANDS {
+        if let Some(matches) = matches.subcommand_matches(name) {
+            return command_arguments(alloc, name, matches);
+        }
+    }
+    Ok(None)
+}
+
+fn command_arguments(
+    alloc: Global,
+    name: &str,
+    matches: &ArgMatches<'_>,
+) -> Result<Option<HostArguments>, AllocError> {
+    let Some(address) = address_of(matches) else {
+        return Ok(None);
+    };
+    let Some(turns) = matches.get_one::<u64>("turns") else {
+        return Ok(None);
+    };
+    match verb_of(alloc, name, matches)? {
+        Some(verb) => Ok(Some(HostArguments {
+            address,
+            turns,
+            verb,
+        })),
+        None => Ok(None),
+    }
+}
+
+fn address_of(matches: &ArgMatches<'_>) -> Option<SocketAddr> {
+    let ip = IpAddr::parse_ascii(matches.get_str("ADDR")?.as_bytes()).ok()?;
+    Some(SocketAddr::new(ip, matches.get_one::<u16>("PORT")?))
+}
+
+fn verb_of(
+    alloc: Global,
+    name: &str,
+    matches: &ArgMatches<'_>,
+) -> Result<Option<Verb>, AllocError> {
+    let Some(host) = name_of(alloc, matches, "HOSTNQN")? else {
+        return Ok(None);
+    };
+    if name == "discover" {
+        return Ok(Some(Verb::Discover(host)));
+    }
+    match name_of(alloc, matches, "SUBNQN")? {
+        Some(subsystem) => Ok(verb_to(name, Peers { subsystem, host }, matches)),
+        None => Ok(None),
+    }
+}
+
+// The name that is given under this word; None where it is none.
+fn name_of(alloc: Global, matches: &ArgMatches<'_>, word: &str) -> Result<Option<Nqn>, AllocError> {
+    let Some(text) = matches.get_str(word) else {
+        return Ok(None);
+    };
+    match Nqn::read(alloc, text.as_bytes()) {
+        Ok(name) => Ok(Some(name)),
+        Err(NqnFault::Memory) => Err(AllocError),
+        Err(NqnFault::TooLong | NqnFault::BadNqn) => Ok(None),
+    }
+}
+
+fn verb_to(name: &str, peers: Peers, matches: &ArgMatches<'_>) -> Option<Verb> {
+    match name {
+        "list" => Some(Verb::List(peers)),
+        "ana" => Some(Verb::Ana(peers)),
+        "changed" => Some(Verb::Changed(peers)),
+        "read" => Some(Verb::Read(peers, blocks_of(matches)?)),
+        _ => {
+            let fill = Fill {
+                blocks: blocks_of(matches)?,
+                byte: matches.get_one::<u8>("BYTE")?,
+            };
+            if matches.get_flag("hold") {
+                Some(Verb::WriteHeld(peers, fill))
+            } else {
+                Some(Verb::Write(peers, fill))
+            }
+        }
+    }
+}
+
+fn blocks_of(matches: &ArgMatches<'_>) -> Option<Blocks> {
+    Blocks::new(
+        matches.get_one::<u32>("NSID")?,
+        matches.get_one::<u64>("LBA")?,
+        matches.get_one::<u16>("COUNT")?,
+    )
+}
