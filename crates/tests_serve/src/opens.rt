@@ -1,0 +1,65 @@
+//! Hosts that connect, and those that are refused.
+use crate::pdus::ic_resp;
+use crate::rig::{Rig, Step, add, served};
+use testkit_edits::ic_req;
+use testkit_tables::{Outcome, check, check_bytes, pass};
+
+fn check_refused_slot(rig: &mut Rig) -> Outcome {
+    pass!(check(rig.serve(5) == served(5, 1, 0, 1), "one is refused"));
+    check_bytes(rig.got(7), &ic_resp())
+}
+
+#[test]
+fn a_slot_that_is_refused_is_free_again(rt: HostRuntime) -> Outcome {
+    let request = ic_req(rt.alloc())?;
+    let steps = [
+        Step::Open { slot: 7, port: 9 },
+        Step::Bytes {
+            slot: 7,
+            bytes: &request,
+        },
+        Step::Open { slot: 7, port: 1 },
+        Step::Bytes {
+            slot: 7,
+            bytes: &request,
+        },
+    ];
+    let mut rig = Rig::new(rt.alloc(), &steps)?;
+    check_refused_slot(&mut rig)
+}
+
+fn check_places(rig: &mut Rig) -> Outcome {
+    pass!(check(rig.target.open(1) == Ok(0), "one is opened before"));
+    check(rig.serve(64) == served(64, 63, 0, 1), "the last is refused")
+}
+
+#[test]
+fn connections_that_were_opened_before_take_places(rt: HostRuntime) -> Outcome {
+    let mut steps = Vec::with_capacity(rt.alloc(), 64)?;
+    for slot in 0..64 {
+        add(&mut steps, Step::Open { slot, port: 1 })?;
+    }
+    let mut rig = Rig::new(rt.alloc(), &steps)?;
+    check_places(&mut rig)
+}
+
+fn check_ended_before(rig: &mut Rig) -> Outcome {
+    pass!(check(rig.target.open(1) == Ok(0), "one is opened before"));
+    pass!(check(
+        rig.target.receive(0, &[0xFF; 8]) == Ok(8),
+        "a header of no type"
+    ));
+    rig.serve(1);
+    pass!(check(rig.target.ended(0), "it has ended"));
+    let len = rig.target.output(0).len();
+    pass!(check(len > 0, "it has something to send, and no slot"));
+    rig.target.taken(0, len);
+    rig.serve(1);
+    check(rig.target.open(1) == Ok(0), "its number is free")
+}
+
+#[test]
+fn a_connection_that_ended_before_is_given_up(rt: HostRuntime) -> Outcome {
+    let mut rig = Rig::new(rt.alloc(), &[Step::Open { slot: 0, port: 1 }])?;
+    check_ended_before(&mut rig)
+}

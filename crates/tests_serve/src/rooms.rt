@@ -1,0 +1,34 @@
+//! Bytes for which there is no room at once.
+use crate::pdus::{ic_resp, property_get, refused_command};
+use crate::rig::{Rig, Step, served};
+use testkit_edits::ic_req;
+use testkit_tables::{Outcome, check, check_bytes, pass};
+
+/// With their ICReq they are 36,128 bytes, more than a connection holds.
+const COMMANDS: u16 = 500;
+
+// A turn for the host, one for each PDU, and one to give the last answer.
+fn check_all_answered(rig: &mut Rig, wanted: &[u8]) -> Outcome {
+    let turns = u64::from(COMMANDS) + 3;
+    pass!(check(rig.serve(turns) == served(turns, 1, 0, 0), "one host"));
+    check_bytes(rig.got(3), wanted)
+}
+
+#[test]
+fn bytes_beyond_the_room_come_later(rt: HostRuntime) -> Outcome {
+    let mut stream = ic_req(rt.alloc())?;
+    let mut wanted = Vec::from_slice(rt.alloc(), &ic_resp())?;
+    for cid in 0..COMMANDS {
+        stream.extend_from_slice(&property_get(rt.alloc(), cid)?)?;
+        wanted.extend_from_slice(&refused_command(cid))?;
+    }
+    let steps = [
+        Step::Open { slot: 3, port: 1 },
+        Step::Bytes {
+            slot: 3,
+            bytes: &stream,
+        },
+    ];
+    let mut rig = Rig::new(rt.alloc(), &steps)?;
+    check_all_answered(&mut rig, &wanted)
+}

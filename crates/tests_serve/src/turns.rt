@@ -1,0 +1,54 @@
+//! What is done in which turn.
+use crate::pdus::ic_resp;
+use crate::rig::{Rig, Step, served};
+use testkit_edits::ic_req;
+use testkit_tables::{Outcome, check, check_bytes, pass};
+
+fn check_two_turns(rig: &mut Rig) -> Outcome {
+    pass!(check(rig.serve(2) == served(2, 1, 0, 0), "two turns"));
+    check_bytes(rig.got(0), b"")
+}
+
+fn check_three_turns(rig: &mut Rig) -> Outcome {
+    pass!(check(rig.serve(3) == served(3, 1, 0, 0), "three turns"));
+    check_bytes(rig.got(0), &ic_resp())
+}
+
+#[test]
+fn an_answer_is_not_given_before_the_turn_after_its_bytes(rt: HostRuntime) -> Outcome {
+    let request = ic_req(rt.alloc())?;
+    let steps = [
+        Step::Open { slot: 0, port: 1 },
+        Step::Bytes {
+            slot: 0,
+            bytes: &request,
+        },
+    ];
+    let mut rig = Rig::new(rt.alloc(), &steps)?;
+    check_two_turns(&mut rig)
+}
+
+#[test]
+fn an_answer_is_given_in_the_turn_after_its_bytes(rt: HostRuntime) -> Outcome {
+    let request = ic_req(rt.alloc())?;
+    let steps = [
+        Step::Open { slot: 0, port: 1 },
+        Step::Bytes {
+            slot: 0,
+            bytes: &request,
+        },
+    ];
+    let mut rig = Rig::new(rt.alloc(), &steps)?;
+    check_three_turns(&mut rig)
+}
+
+fn check_no_turn(rig: &mut Rig) -> Outcome {
+    pass!(check(rig.serve(0) == served(0, 0, 0, 0), "no turn"));
+    check(rig.serve(1) == served(1, 1, 0, 0), "one turn")
+}
+
+#[test]
+fn no_turn_does_nothing(rt: HostRuntime) -> Outcome {
+    let mut rig = Rig::new(rt.alloc(), &[Step::Open { slot: 0, port: 1 }])?;
+    check_no_turn(&mut rig)
+}
