@@ -1,11 +1,11 @@
 //! Hosts that are gone, and connections that the target ends.
 use crate::pdus::connect_discovery;
-use crate::rig::{Rig, Step, served};
+use testkit_serve::{Rig, Step, served};
 use testkit_tables::{Outcome, check, check_bytes, pass};
 
 fn check_slot_left(rig: &mut Rig) -> Outcome {
     pass!(check(rig.serve(3) == served(3, 2, 0, 0), "it comes again"));
-    check(rig.target.open(1) == Ok(1), "its number was free")
+    check(rig.opens(1), "its number was free")
 }
 
 #[test]
@@ -53,9 +53,9 @@ fn a_connection_that_ends_is_closed_once_its_output_is_taken(rt: HostRuntime) ->
 fn check_ticks(rig: &mut Rig) -> Outcome {
     pass!(check(rig.serve(5) == served(5, 1, 0, 1), "up to its timeout"));
     pass!(check(rig.got(0).len() == 152, "an ICResp and a response"));
-    pass!(check(rig.target.room(0) > 0, "it lives"));
+    pass!(check(rig.room(0) > 0, "it lives"));
     rig.serve(2);
-    check(rig.target.open(1) == Ok(0), "it is ended, and given up")
+    check(rig.opens(0), "it is ended, and given up")
 }
 
 // The host connects while the clock shows 0: the end of its bytes and a line each give its Connect a turn before the

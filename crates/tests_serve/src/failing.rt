@@ -1,8 +1,8 @@
 //! Slots that fail when something is given to them.
 use crate::pdus::{ic_resp, property_get, refused_command};
-use crate::rig::{Rig, Step, add};
 use std::alloc::{AllocError, Global};
 use testkit_edits::ic_req;
+use testkit_serve::{Rig, Step, add, served};
 use testkit_tables::{Outcome, Placed, check, check_bytes, pass};
 
 /// How many hosts there are, and how many answers each of them is to get.
@@ -32,47 +32,57 @@ fn answers(alloc: Global, count: u64) -> Result<Vec<u8>, AllocError> {
     Ok(wanted)
 }
 
-fn check_hosts(alloc: Global, n: u64, rig: &mut Rig) -> Outcome {
-    rig.ports.fail_give(n);
-    rig.serve(24);
-    let failed = (n.saturating_sub(1) % 3) as usize;
+// Each host is opened in a turn of its own. Bytes take two turns, the second to find their end, and one where their slot
+// is closed.
+fn turns(answered: u64) -> u64 {
+    3 + 2 * 9 - 2u64.saturating_sub(answered)
+}
+
+// The host of the slot that fails gets the answers before it alone, and is gone; the others get all of theirs.
+fn check_hosts(alloc: Global, failed: usize, answered: u64, rig: &Rig) -> Outcome {
     for slot in 0..HOSTS {
-        let count = if slot == failed {
-            n.saturating_sub(1) / 3
-        } else {
-            3
-        };
+        let count = if slot == failed { answered } else { 3 };
         pass!(check_bytes(rig.got(slot), &answers(alloc, count)?).in_row(slot));
-        pass!(check(
-            (rig.target.room(slot) == 0) == (slot == failed),
-            "it is gone"
-        )
-        .in_row(slot));
+        pass!(check((rig.room(slot) == 0) == (slot == failed), "it is gone").in_row(slot));
     }
     Ok(())
 }
 
-// The nth call of `give` fails: it is that of an answer of one host, which gets those before it alone, and is gone;
-// the others get all of theirs.
-fn check_failing(alloc: Global, n: u64) -> Outcome {
-    let pieces = streams(alloc)?;
-    let mut steps = Vec::with_capacity(alloc, 12)?;
+// The nth call of `give` fails. Behind all that was handed out each slot is opened again: one of them is free.
+fn check_failing(alloc: Global, n: u64, rig: &mut Rig) -> Outcome {
+    let answered = n.saturating_sub(1) / 3;
+    let failed = (n.saturating_sub(1) % 3) as usize;
+    rig.fail_give(n);
+    rig.serve(turns(answered));
+    pass!(check_hosts(alloc, failed, answered, rig));
+    check(rig.serve(3) == served(3, 1, 0, 0), "its slot alone is free")
+}
+
+fn open_each(steps: &mut Vec<Step<'_>>) -> Result<(), AllocError> {
     for slot in 0..HOSTS {
-        add(&mut steps, Step::Open { slot, port: 1 })?;
+        add(steps, Step::Open { slot, port: 1 })?;
     }
+    Ok(())
+}
+
+fn fail(alloc: Global, n: u64) -> Outcome {
+    let pieces = streams(alloc)?;
+    let mut steps = Vec::with_capacity(alloc, 15)?;
+    open_each(&mut steps)?;
     for piece in &pieces {
         for slot in 0..HOSTS {
             add(&mut steps, Step::Bytes { slot, bytes: piece })?;
         }
     }
+    open_each(&mut steps)?;
     let mut rig = Rig::new(alloc, &steps)?;
-    check_hosts(alloc, n, &mut rig)
+    check_failing(alloc, n, &mut rig)
 }
 
 #[test]
 fn the_slot_that_fails_is_closed_and_no_other(rt: HostRuntime) -> Outcome {
     for n in 1..10 {
-        pass!(check_failing(rt.alloc(), n).in_row(n as usize));
+        pass!(fail(rt.alloc(), n).in_row(n as usize));
     }
     Ok(())
 }

@@ -13,8 +13,6 @@ mod opens;
 #[cfg(test)]
 mod pdus;
 #[cfg(test)]
-mod rig;
-#[cfg(test)]
 mod rooms;
 #[cfg(test)]
 mod turns;

@@ -1,11 +1,11 @@
 //! Lines of edits.
-use crate::rig::{Rig, Step, served};
+use testkit_serve::{Rig, Step, served};
 use testkit_tables::{Outcome, check, check_bytes, pass};
 
 fn check_replies(rig: &mut Rig) -> Outcome {
     pass!(check(rig.serve(6) == served(6, 0, 2, 4), "two edits are made"));
     check_bytes(
-        rig.ports.replies(),
+        rig.replies(),
         b"ok\nrefused Exists Host\nline 9 BadNumber\nline 0 Empty\nline 0 TooLong\nok\n",
     )
 }

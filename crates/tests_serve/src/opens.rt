@@ -1,7 +1,7 @@
 //! Hosts that connect, and those that are refused.
 use crate::pdus::ic_resp;
-use crate::rig::{Rig, Step, add, served};
 use testkit_edits::ic_req;
+use testkit_serve::{Rig, Step, add, served};
 use testkit_tables::{Outcome, check, check_bytes, pass};
 
 fn check_refused_slot(rig: &mut Rig) -> Outcome {
@@ -29,7 +29,7 @@ fn a_slot_that_is_refused_is_free_again(rt: HostRuntime) -> Outcome {
 }
 
 fn check_places(rig: &mut Rig) -> Outcome {
-    pass!(check(rig.target.open(1) == Ok(0), "one is opened before"));
+    pass!(check(rig.opens(0), "one is opened before"));
     check(rig.serve(64) == served(64, 63, 0, 1), "the last is refused")
 }
 
@@ -44,18 +44,13 @@ fn connections_that_were_opened_before_take_places(rt: HostRuntime) -> Outcome {
 }
 
 fn check_ended_before(rig: &mut Rig) -> Outcome {
-    pass!(check(rig.target.open(1) == Ok(0), "one is opened before"));
-    pass!(check(
-        rig.target.receive(0, &[0xFF; 8]) == Ok(8),
-        "a header of no type"
-    ));
+    pass!(check(rig.opens(0), "one is opened before"));
+    pass!(check(rig.receives(0, &[0xFF; 8]), "a header of no type"));
     rig.serve(1);
-    pass!(check(rig.target.ended(0), "it has ended"));
-    let len = rig.target.output(0).len();
-    pass!(check(len > 0, "it has something to send, and no slot"));
-    rig.target.taken(0, len);
+    pass!(check(rig.is_ended(0), "it has ended"));
+    pass!(check(rig.empties(0), "it has something to send, and no slot"));
     rig.serve(1);
-    check(rig.target.open(1) == Ok(0), "its number is free")
+    check(rig.opens(0), "its number is free")
 }
 
 #[test]

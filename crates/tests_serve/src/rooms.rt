@@ -1,7 +1,7 @@
 //! Bytes for which there is no room at once.
 use crate::pdus::{ic_resp, property_get, refused_command};
-use crate::rig::{Rig, Step, served};
 use testkit_edits::ic_req;
+use testkit_serve::{Rig, Step, served};
 use testkit_tables::{Outcome, check, check_bytes, pass};
 
 /// With their ICReq they are 36,128 bytes, more than a connection holds.

@@ -1,7 +1,7 @@
 //! What is done in which turn.
 use crate::pdus::ic_resp;
-use crate::rig::{Rig, Step, served};
 use testkit_edits::ic_req;
+use testkit_serve::{Rig, Step, served};
 use testkit_tables::{Outcome, check, check_bytes, pass};
 
 fn check_two_turns(rig: &mut Rig) -> Outcome {

@@ -1,0 +1,10 @@
+//! A target that is served through ports in memory: the script of its hosts, lines and ticks, and what comes of it.
+//! It owns both, so that a test borrows them, and their contracts are read in one crate. `tests_serve` stands on it
+//! alone.
+#![tactic(auto)]
+
+mod rig;
+mod script;
+
+pub use rig::{Rig, served};
+pub use script::{Step, add};
