@@ -6,5 +6,5 @@
 mod rig;
 mod script;
 
-pub use rig::{Rig, served};
+pub use rig::{Rig, counted};
 pub use script::{Step, add};

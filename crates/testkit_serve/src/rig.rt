@@ -77,7 +77,7 @@ impl Rig {
 }
 
 /// What some turns are to count.
-pub fn served(turns: u64, opened: u64, edits: u64, refused: u64) -> Served {
+pub fn counted(turns: u64, opened: u64, edits: u64, refused: u64) -> Served {
     Served {
         turns,
         opened,

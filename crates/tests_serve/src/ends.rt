@@ -1,10 +1,10 @@
 //! Hosts that are gone, and connections that the target ends.
 use crate::pdus::connect_discovery;
-use testkit_serve::{Rig, Step, served};
+use testkit_serve::{Rig, Step, counted};
 use testkit_tables::{Outcome, check, check_bytes, pass};
 
 fn check_slot_left(rig: &mut Rig) -> Outcome {
-    pass!(check(rig.serve(3) == served(3, 2, 0, 0), "it comes again"));
+    pass!(check(rig.serve(3) == counted(3, 2, 0, 0), "it comes again"));
     check(rig.opens(1), "its number was free")
 }
 
@@ -21,7 +21,7 @@ fn a_host_that_is_gone_leaves_its_slot(rt: HostRuntime) -> Outcome {
 
 fn check_closed(rig: &mut Rig) -> Outcome {
     pass!(check(
-        rig.serve(5) == served(5, 3, 0, 0),
+        rig.serve(5) == counted(5, 3, 0, 0),
         "its slot is free, and then in use"
     ));
     check_bytes(
@@ -51,7 +51,7 @@ fn a_connection_that_ends_is_closed_once_its_output_is_taken(rt: HostRuntime) ->
 }
 
 fn check_ticks(rig: &mut Rig) -> Outcome {
-    pass!(check(rig.serve(5) == served(5, 1, 0, 1), "up to its timeout"));
+    pass!(check(rig.serve(5) == counted(5, 1, 0, 1), "up to its timeout"));
     pass!(check(rig.got(0).len() == 152, "an ICResp and a response"));
     pass!(check(rig.room(0) > 0, "it lives"));
     rig.serve(2);

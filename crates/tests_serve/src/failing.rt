@@ -2,7 +2,7 @@
 use crate::pdus::{ic_resp, property_get, refused_command};
 use std::alloc::{AllocError, Global};
 use testkit_edits::ic_req;
-use testkit_serve::{Rig, Step, add, served};
+use testkit_serve::{Rig, Step, add, counted};
 use testkit_tables::{Outcome, Placed, check, check_bytes, pass};
 
 /// How many hosts there are, and how many answers each of them is to get.
@@ -10,7 +10,7 @@ const HOSTS: usize = 3;
 
 const ANSWERS: u16 = 3;
 
-// Each host sends an ICReq and two commands, in turn.
+// What each host sends: an ICReq and two commands.
 fn streams(alloc: Global) -> Result<Vec<Vec<u8>>, AllocError> {
     let mut pieces = Vec::with_capacity(alloc, 3)?;
     pieces.push(ic_req(alloc)?)?;
@@ -42,8 +42,8 @@ fn turns(answered: u64) -> u64 {
 fn check_hosts(alloc: Global, failed: usize, answered: u64, rig: &Rig) -> Outcome {
     for slot in 0..HOSTS {
         let count = if slot == failed { answered } else { 3 };
-        pass!(check_bytes(rig.got(slot), &answers(alloc, count)?).in_row(slot));
-        pass!(check((rig.room(slot) == 0) == (slot == failed), "it is gone").in_row(slot));
+        pass!(check_bytes(rig.got(slot), &answers(alloc, count)?).at_step(slot));
+        pass!(check((rig.room(slot) == 0) == (slot == failed), "it is gone").at_step(slot));
     }
     Ok(())
 }
@@ -55,7 +55,10 @@ fn check_failing(alloc: Global, n: u64, rig: &mut Rig) -> Outcome {
     rig.fail_give(n);
     rig.serve(turns(answered));
     pass!(check_hosts(alloc, failed, answered, rig));
-    check(rig.serve(3) == served(3, 1, 0, 0), "its slot alone is free")
+    check(
+        rig.serve(3) == counted(3, 1, 0, 0),
+        "its slot alone is free",
+    )
 }
 
 fn open_each(steps: &mut Vec<Step<'_>>) -> Result<(), AllocError> {
@@ -65,16 +68,21 @@ fn open_each(steps: &mut Vec<Step<'_>>) -> Result<(), AllocError> {
     Ok(())
 }
 
+// Each host sends each piece, in turn.
+fn add_all<'a>(steps: &mut Vec<Step<'a>>, pieces: &'a [Vec<u8>]) -> Result<(), AllocError> {
+    open_each(steps)?;
+    for bytes in pieces {
+        for slot in 0..HOSTS {
+            add(steps, Step::Bytes { slot, bytes })?;
+        }
+    }
+    open_each(steps)
+}
+
 fn fail(alloc: Global, n: u64) -> Outcome {
     let pieces = streams(alloc)?;
     let mut steps = Vec::with_capacity(alloc, 15)?;
-    open_each(&mut steps)?;
-    for piece in &pieces {
-        for slot in 0..HOSTS {
-            add(&mut steps, Step::Bytes { slot, bytes: piece })?;
-        }
-    }
-    open_each(&mut steps)?;
+    add_all(&mut steps, &pieces)?;
     let mut rig = Rig::new(alloc, &steps)?;
     check_failing(alloc, n, &mut rig)
 }

@@ -1,9 +1,9 @@
 //! Lines of edits.
-use testkit_serve::{Rig, Step, served};
+use testkit_serve::{Rig, Step, counted};
 use testkit_tables::{Outcome, check, check_bytes, pass};
 
 fn check_replies(rig: &mut Rig) -> Outcome {
-    pass!(check(rig.serve(6) == served(6, 0, 2, 4), "two edits are made"));
+    pass!(check(rig.serve(6) == counted(6, 0, 2, 4), "two edits are made"));
     check_bytes(
         rig.replies(),
         b"ok\nrefused Exists Host\nline 9 BadNumber\nline 0 Empty\nline 0 TooLong\nok\n",
@@ -34,7 +34,10 @@ fn each_line_is_answered(rt: HostRuntime) -> Outcome {
 }
 
 fn check_slot_free(rig: &mut Rig) -> Outcome {
-    check(rig.serve(5) == served(5, 2, 2, 1), "the slot is free again")
+    check(
+        rig.serve(5) == counted(5, 2, 2, 1),
+        "the slot is free again",
+    )
 }
 
 #[test]

@@ -1,11 +1,11 @@
 //! Hosts that connect, and those that are refused.
 use crate::pdus::ic_resp;
 use testkit_edits::ic_req;
-use testkit_serve::{Rig, Step, add, served};
+use testkit_serve::{Rig, Step, add, counted};
 use testkit_tables::{Outcome, check, check_bytes, pass};
 
 fn check_refused_slot(rig: &mut Rig) -> Outcome {
-    pass!(check(rig.serve(5) == served(5, 1, 0, 1), "one is refused"));
+    pass!(check(rig.serve(5) == counted(5, 1, 0, 1), "one is refused"));
     check_bytes(rig.got(7), &ic_resp())
 }
 
@@ -30,7 +30,10 @@ fn a_slot_that_is_refused_is_free_again(rt: HostRuntime) -> Outcome {
 
 fn check_places(rig: &mut Rig) -> Outcome {
     pass!(check(rig.opens(0), "one is opened before"));
-    check(rig.serve(64) == served(64, 63, 0, 1), "the last is refused")
+    check(
+        rig.serve(64) == counted(64, 63, 0, 1),
+        "the last is refused",
+    )
 }
 
 #[test]

@@ -1,7 +1,7 @@
 //! Bytes for which there is no room at once.
 use crate::pdus::{ic_resp, property_get, refused_command};
 use testkit_edits::ic_req;
-use testkit_serve::{Rig, Step, served};
+use testkit_serve::{Rig, Step, counted};
 use testkit_tables::{Outcome, check, check_bytes, pass};
 
 /// With their ICReq they are 36,128 bytes, more than a connection holds.
@@ -10,7 +10,7 @@ const COMMANDS: u16 = 500;
 // A turn for the host, one for each PDU, and one to give the last answer.
 fn check_all_answered(rig: &mut Rig, wanted: &[u8]) -> Outcome {
     let turns = u64::from(COMMANDS) + 3;
-    pass!(check(rig.serve(turns) == served(turns, 1, 0, 0), "one host"));
+    pass!(check(rig.serve(turns) == counted(turns, 1, 0, 0), "one host"));
     check_bytes(rig.got(3), wanted)
 }
 

@@ -1,16 +1,16 @@
 //! What is done in which turn.
 use crate::pdus::ic_resp;
 use testkit_edits::ic_req;
-use testkit_serve::{Rig, Step, served};
+use testkit_serve::{Rig, Step, counted};
 use testkit_tables::{Outcome, check, check_bytes, pass};
 
 fn check_two_turns(rig: &mut Rig) -> Outcome {
-    pass!(check(rig.serve(2) == served(2, 1, 0, 0), "two turns"));
+    pass!(check(rig.serve(2) == counted(2, 1, 0, 0), "two turns"));
     check_bytes(rig.got(0), b"")
 }
 
 fn check_three_turns(rig: &mut Rig) -> Outcome {
-    pass!(check(rig.serve(3) == served(3, 1, 0, 0), "three turns"));
+    pass!(check(rig.serve(3) == counted(3, 1, 0, 0), "three turns"));
     check_bytes(rig.got(0), &ic_resp())
 }
 
@@ -43,8 +43,8 @@ fn an_answer_is_given_in_the_turn_after_its_bytes(rt: HostRuntime) -> Outcome {
 }
 
 fn check_no_turn(rig: &mut Rig) -> Outcome {
-    pass!(check(rig.serve(0) == served(0, 0, 0, 0), "no turn"));
-    check(rig.serve(1) == served(1, 1, 0, 0), "one turn")
+    pass!(check(rig.serve(0) == counted(0, 0, 0, 0), "no turn"));
+    check(rig.serve(1) == counted(1, 1, 0, 0), "one turn")
 }
 
 #[test]
