@@ -4,7 +4,9 @@
 #![tactic(auto)]
 
 mod rig;
+mod scenario;
 mod script;
 
 pub use rig::{Rig, counted};
+pub use scenario::{Scenario, holds_over};
 pub use script::{Step, add};

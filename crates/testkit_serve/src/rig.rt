@@ -10,8 +10,7 @@ use target_core::Target;
 // What the target is configured by: port 1.
 const PORT_1: &[u8] = b"port add 1 ipv4 127.0.0.1 4420\n";
 
-/// A target with port 1, and ports that go through a script. Tests hold one, and lend it to a check: each way out of a
-/// function is proved with all that is owned there.
+/// A target with port 1, and ports that go through a script.
 #[derive(Drop)]
 pub struct Rig {
     ports: MemoryPorts,
@@ -20,7 +19,7 @@ pub struct Rig {
 
 impl Rig {
     /// Ports that go through these steps, and a target that was not served yet.
-    pub fn new(alloc: Global, steps: &[Step<'_>]) -> Result<Rig, AllocError> {
+    pub(crate) fn new(alloc: Global, steps: &[Step<'_>]) -> Result<Rig, AllocError> {
         let ports = MemoryPorts::new(alloc, port_steps(alloc, steps)?)?;
         match configure(alloc, PORT_1, &[8]) {
             Ok(target) => Ok(Rig { ports, target }),

@@ -1,11 +1,15 @@
 //! Hosts that are gone, and connections that the target ends.
 use crate::pdus::connect_discovery;
-use testkit_serve::{Rig, Step, counted};
+use testkit_serve::{Rig, Scenario, Step, counted, holds_over};
 use testkit_tables::{Outcome, check, check_bytes, pass};
 
-fn check_slot_left(rig: &mut Rig) -> Outcome {
-    pass!(check(rig.serve(3) == counted(3, 2, 0, 0), "it comes again"));
-    check(rig.opens(1), "its number was free")
+struct SlotLeft;
+
+impl Scenario for SlotLeft {
+    fn holds(&self, rig: &mut Rig) -> Outcome {
+        pass!(check(rig.serve(3) == counted(3, 2, 0, 0), "it comes again"));
+        check(rig.opens(1), "its number was free")
+    }
 }
 
 #[test]
@@ -15,22 +19,25 @@ fn a_host_that_is_gone_leaves_its_slot(rt: HostRuntime) -> Outcome {
         Step::End { slot: 5 },
         Step::Open { slot: 5, port: 1 },
     ];
-    let mut rig = Rig::new(rt.alloc(), &steps)?;
-    check_slot_left(&mut rig)
+    holds_over(rt.alloc(), &steps, &SlotLeft)
 }
 
-fn check_closed(rig: &mut Rig) -> Outcome {
-    pass!(check(
-        rig.serve(5) == counted(5, 3, 0, 0),
-        "its slot is free, and then in use"
-    ));
-    check_bytes(
-        rig.got(0),
-        &[
-            0x03, 0, 24, 0, 32, 0, 0, 0, 1, 0, 0, 0, 0, 0, 0, 0, 0, 0, 0, 0, 0, 0, 0, 0, 0xFF, 0,
-            24, 0, 24, 0, 0, 0,
-        ],
-    )
+struct Closed;
+
+impl Scenario for Closed {
+    fn holds(&self, rig: &mut Rig) -> Outcome {
+        pass!(check(
+            rig.serve(5) == counted(5, 3, 0, 0),
+            "its slot is free, and then in use"
+        ));
+        check_bytes(
+            rig.got(0),
+            &[
+                0x03, 0, 24, 0, 32, 0, 0, 0, 1, 0, 0, 0, 0, 0, 0, 0, 0, 0, 0, 0, 0, 0, 0, 0, 0xFF,
+                0, 24, 0, 24, 0, 0, 0,
+            ],
+        )
+    }
 }
 
 // A header of no type is answered by a C2HTermReq: 24 bytes and the header.
@@ -46,16 +53,19 @@ fn a_connection_that_ends_is_closed_once_its_output_is_taken(rt: HostRuntime) ->
         Step::Open { slot: 1, port: 1 },
         Step::Open { slot: 0, port: 1 },
     ];
-    let mut rig = Rig::new(rt.alloc(), &steps)?;
-    check_closed(&mut rig)
+    holds_over(rt.alloc(), &steps, &Closed)
 }
 
-fn check_ticks(rig: &mut Rig) -> Outcome {
-    pass!(check(rig.serve(5) == counted(5, 1, 0, 1), "up to its timeout"));
-    pass!(check(rig.got(0).len() == 152, "an ICResp and a response"));
-    pass!(check(rig.room(0) > 0, "it lives"));
-    rig.serve(2);
-    check(rig.opens(0), "it is ended, and given up")
+struct Ticks;
+
+impl Scenario for Ticks {
+    fn holds(&self, rig: &mut Rig) -> Outcome {
+        pass!(check(rig.serve(5) == counted(5, 1, 0, 1), "up to its timeout"));
+        pass!(check(rig.got(0).len() == 152, "an ICResp and a response"));
+        pass!(check(rig.room(0) > 0, "it lives"));
+        rig.serve(2);
+        check(rig.opens(0), "it is ended, and given up")
+    }
 }
 
 // The host connects while the clock shows 0: the end of its bytes and a line each give its Connect a turn before the
@@ -73,6 +83,5 @@ fn a_tick_ends_a_controller_whose_host_is_silent(rt: HostRuntime) -> Outcome {
         Step::Tick { ms: 5_000 },
         Step::Tick { ms: 5_001 },
     ];
-    let mut rig = Rig::new(rt.alloc(), &steps)?;
-    check_ticks(&mut rig)
+    holds_over(rt.alloc(), &steps, &Ticks)
 }

@@ -2,7 +2,7 @@
 use crate::pdus::{ic_resp, property_get, refused_command};
 use std::alloc::{AllocError, Global};
 use testkit_edits::ic_req;
-use testkit_serve::{Rig, Step, add, counted};
+use testkit_serve::{Rig, Scenario, Step, add, counted, holds_over};
 use testkit_tables::{Outcome, Placed, check, check_bytes, pass};
 
 /// How many hosts there are, and how many answers each of them is to get.
@@ -83,8 +83,7 @@ fn fail(alloc: Global, n: u64) -> Outcome {
     let pieces = streams(alloc)?;
     let mut steps = Vec::with_capacity(alloc, 15)?;
     add_all(&mut steps, &pieces)?;
-    let mut rig = Rig::new(alloc, &steps)?;
-    check_failing(alloc, n, &mut rig)
+    holds_over(alloc, &steps, &Failing { alloc, n })
 }
 
 #[test]

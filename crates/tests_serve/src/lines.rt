@@ -1,13 +1,17 @@
 //! Lines of edits.
-use testkit_serve::{Rig, Step, counted};
+use testkit_serve::{Rig, Scenario, Step, counted, holds_over};
 use testkit_tables::{Outcome, check, check_bytes, pass};
 
-fn check_replies(rig: &mut Rig) -> Outcome {
-    pass!(check(rig.serve(6) == counted(6, 0, 2, 4), "two edits are made"));
-    check_bytes(
-        rig.replies(),
-        b"ok\nrefused Exists Host\nline 9 BadNumber\nline 0 Empty\nline 0 TooLong\nok\n",
-    )
+struct Replies;
+
+impl Scenario for Replies {
+    fn holds(&self, rig: &mut Rig) -> Outcome {
+        pass!(check(rig.serve(6) == counted(6, 0, 2, 4), "two edits are made"));
+        check_bytes(
+            rig.replies(),
+            b"ok\nrefused Exists Host\nline 9 BadNumber\nline 0 Empty\nline 0 TooLong\nok\n",
+        )
+    }
 }
 
 #[test]
@@ -29,15 +33,18 @@ fn each_line_is_answered(rt: HostRuntime) -> Outcome {
             text: b"host del nqn.a",
         },
     ];
-    let mut rig = Rig::new(rt.alloc(), &steps)?;
-    check_replies(&mut rig)
+    holds_over(rt.alloc(), &steps, &Replies)
 }
 
-fn check_slot_free(rig: &mut Rig) -> Outcome {
-    check(
-        rig.serve(5) == counted(5, 2, 2, 1),
-        "the slot is free again",
-    )
+struct SlotFree;
+
+impl Scenario for SlotFree {
+    fn holds(&self, rig: &mut Rig) -> Outcome {
+        check(
+            rig.serve(5) == counted(5, 2, 2, 1),
+            "the slot is free again",
+        )
+    }
 }
 
 #[test]
@@ -53,6 +60,5 @@ fn an_edit_ends_the_connections_of_its_port(rt: HostRuntime) -> Outcome {
         },
         Step::Open { slot: 0, port: 1 },
     ];
-    let mut rig = Rig::new(rt.alloc(), &steps)?;
-    check_slot_free(&mut rig)
+    holds_over(rt.alloc(), &steps, &SlotFree)
 }

@@ -1,12 +1,16 @@
 //! Hosts that connect, and those that are refused.
 use crate::pdus::ic_resp;
 use testkit_edits::ic_req;
-use testkit_serve::{Rig, Step, add, counted};
+use testkit_serve::{Rig, Scenario, Step, add, counted, holds_over};
 use testkit_tables::{Outcome, check, check_bytes, pass};
 
-fn check_refused_slot(rig: &mut Rig) -> Outcome {
-    pass!(check(rig.serve(5) == counted(5, 1, 0, 1), "one is refused"));
-    check_bytes(rig.got(7), &ic_resp())
+struct RefusedSlot;
+
+impl Scenario for RefusedSlot {
+    fn holds(&self, rig: &mut Rig) -> Outcome {
+        pass!(check(rig.serve(5) == counted(5, 1, 0, 1), "one is refused"));
+        check_bytes(rig.got(7), &ic_resp())
+    }
 }
 
 #[test]
@@ -24,16 +28,19 @@ fn a_slot_that_is_refused_is_free_again(rt: HostRuntime) -> Outcome {
             bytes: &request,
         },
     ];
-    let mut rig = Rig::new(rt.alloc(), &steps)?;
-    check_refused_slot(&mut rig)
+    holds_over(rt.alloc(), &steps, &RefusedSlot)
 }
 
-fn check_places(rig: &mut Rig) -> Outcome {
-    pass!(check(rig.opens(0), "one is opened before"));
-    check(
-        rig.serve(64) == counted(64, 63, 0, 1),
-        "the last is refused",
-    )
+struct Places;
+
+impl Scenario for Places {
+    fn holds(&self, rig: &mut Rig) -> Outcome {
+        pass!(check(rig.opens(0), "one is opened before"));
+        check(
+            rig.serve(64) == counted(64, 63, 0, 1),
+            "the last is refused",
+        )
+    }
 }
 
 #[test]
@@ -42,22 +49,24 @@ fn connections_that_were_opened_before_take_places(rt: HostRuntime) -> Outcome {
     for slot in 0..64 {
         add(&mut steps, Step::Open { slot, port: 1 })?;
     }
-    let mut rig = Rig::new(rt.alloc(), &steps)?;
-    check_places(&mut rig)
+    holds_over(rt.alloc(), &steps, &Places)
 }
 
-fn check_ended_before(rig: &mut Rig) -> Outcome {
-    pass!(check(rig.opens(0), "one is opened before"));
-    pass!(check(rig.receives(0, &[0xFF; 8]), "a header of no type"));
-    rig.serve(1);
-    pass!(check(rig.is_ended(0), "it has ended"));
-    pass!(check(rig.empties(0), "it has something to send, and no slot"));
-    rig.serve(1);
-    check(rig.opens(0), "its number is free")
+struct EndedBefore;
+
+impl Scenario for EndedBefore {
+    fn holds(&self, rig: &mut Rig) -> Outcome {
+        pass!(check(rig.opens(0), "one is opened before"));
+        pass!(check(rig.receives(0, &[0xFF; 8]), "a header of no type"));
+        rig.serve(1);
+        pass!(check(rig.is_ended(0), "it has ended"));
+        pass!(check(rig.empties(0), "it has something to send, and no slot"));
+        rig.serve(1);
+        check(rig.opens(0), "its number is free")
+    }
 }
 
 #[test]
 fn a_connection_that_ended_before_is_given_up(rt: HostRuntime) -> Outcome {
-    let mut rig = Rig::new(rt.alloc(), &[Step::Open { slot: 0, port: 1 }])?;
-    check_ended_before(&mut rig)
+    holds_over(rt.alloc(), &[Step::Open { slot: 0, port: 1 }], &EndedBefore)
 }

@@ -1,17 +1,23 @@
 //! Bytes for which there is no room at once.
 use crate::pdus::{ic_resp, property_get, refused_command};
 use testkit_edits::ic_req;
-use testkit_serve::{Rig, Step, counted};
+use testkit_serve::{Rig, Scenario, Step, counted, holds_over};
 use testkit_tables::{Outcome, check, check_bytes, pass};
 
 /// With their ICReq they are 36,128 bytes, more than a connection holds.
 const COMMANDS: u16 = 500;
 
 // A turn for the host, one for each PDU, and one to give the last answer.
-fn check_all_answered(rig: &mut Rig, wanted: &[u8]) -> Outcome {
-    let turns = u64::from(COMMANDS) + 3;
-    pass!(check(rig.serve(turns) == counted(turns, 1, 0, 0), "one host"));
-    check_bytes(rig.got(3), wanted)
+struct AllAnswered<'a> {
+    wanted: &'a [u8],
+}
+
+impl Scenario for AllAnswered<'_> {
+    fn holds(&self, rig: &mut Rig) -> Outcome {
+        let turns = u64::from(COMMANDS) + 3;
+        pass!(check(rig.serve(turns) == counted(turns, 1, 0, 0), "one host"));
+        check_bytes(rig.got(3), self.wanted)
+    }
 }
 
 #[test]
@@ -29,6 +35,5 @@ fn bytes_beyond_the_room_come_later(rt: HostRuntime) -> Outcome {
             bytes: &stream,
         },
     ];
-    let mut rig = Rig::new(rt.alloc(), &steps)?;
-    check_all_answered(&mut rig, &wanted)
+    holds_over(rt.alloc(), &steps, &AllAnswered { wanted: &wanted })
 }

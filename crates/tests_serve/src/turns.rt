@@ -1,17 +1,25 @@
 //! What is done in which turn.
 use crate::pdus::ic_resp;
 use testkit_edits::ic_req;
-use testkit_serve::{Rig, Step, counted};
+use testkit_serve::{Rig, Scenario, Step, counted, holds_over};
 use testkit_tables::{Outcome, check, check_bytes, pass};
 
-fn check_two_turns(rig: &mut Rig) -> Outcome {
-    pass!(check(rig.serve(2) == counted(2, 1, 0, 0), "two turns"));
-    check_bytes(rig.got(0), b"")
+struct TwoTurns;
+
+impl Scenario for TwoTurns {
+    fn holds(&self, rig: &mut Rig) -> Outcome {
+        pass!(check(rig.serve(2) == counted(2, 1, 0, 0), "two turns"));
+        check_bytes(rig.got(0), b"")
+    }
 }
 
-fn check_three_turns(rig: &mut Rig) -> Outcome {
-    pass!(check(rig.serve(3) == counted(3, 1, 0, 0), "three turns"));
-    check_bytes(rig.got(0), &ic_resp())
+struct ThreeTurns;
+
+impl Scenario for ThreeTurns {
+    fn holds(&self, rig: &mut Rig) -> Outcome {
+        pass!(check(rig.serve(3) == counted(3, 1, 0, 0), "three turns"));
+        check_bytes(rig.got(0), &ic_resp())
+    }
 }
 
 #[test]
@@ -24,8 +32,7 @@ fn an_answer_is_not_given_before_the_turn_after_its_bytes(rt: HostRuntime) -> Ou
             bytes: &request,
         },
     ];
-    let mut rig = Rig::new(rt.alloc(), &steps)?;
-    check_two_turns(&mut rig)
+    holds_over(rt.alloc(), &steps, &TwoTurns)
 }
 
 #[test]
@@ -38,17 +45,19 @@ fn an_answer_is_given_in_the_turn_after_its_bytes(rt: HostRuntime) -> Outcome {
             bytes: &request,
         },
     ];
-    let mut rig = Rig::new(rt.alloc(), &steps)?;
-    check_three_turns(&mut rig)
+    holds_over(rt.alloc(), &steps, &ThreeTurns)
 }
 
-fn check_no_turn(rig: &mut Rig) -> Outcome {
-    pass!(check(rig.serve(0) == counted(0, 0, 0, 0), "no turn"));
-    check(rig.serve(1) == counted(1, 1, 0, 0), "one turn")
+struct NoTurn;
+
+impl Scenario for NoTurn {
+    fn holds(&self, rig: &mut Rig) -> Outcome {
+        pass!(check(rig.serve(0) == counted(0, 0, 0, 0), "no turn"));
+        check(rig.serve(1) == counted(1, 1, 0, 0), "one turn")
+    }
 }
 
 #[test]
 fn no_turn_does_nothing(rt: HostRuntime) -> Outcome {
-    let mut rig = Rig::new(rt.alloc(), &[Step::Open { slot: 0, port: 1 }])?;
-    check_no_turn(&mut rig)
+    holds_over(rt.alloc(), &[Step::Open { slot: 0, port: 1 }], &NoTurn)
 }
