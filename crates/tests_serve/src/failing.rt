@@ -49,16 +49,23 @@ fn check_hosts(alloc: Global, failed: usize, answered: u64, rig: &Rig) -> Outcom
 }
 
 // The nth call of `give` fails. Behind all that was handed out each slot is opened again: one of them is free.
-fn check_failing(alloc: Global, n: u64, rig: &mut Rig) -> Outcome {
-    let answered = n.saturating_sub(1) / 3;
-    let failed = (n.saturating_sub(1) % 3) as usize;
-    rig.fail_give(n);
-    rig.serve(turns(answered));
-    pass!(check_hosts(alloc, failed, answered, rig));
-    check(
-        rig.serve(3) == counted(3, 1, 0, 0),
-        "its slot alone is free",
-    )
+struct Failing {
+    alloc: Global,
+    n: u64,
+}
+
+impl Scenario for Failing {
+    fn holds(&self, rig: &mut Rig) -> Outcome {
+        let answered = self.n.saturating_sub(1) / 3;
+        let failed = (self.n.saturating_sub(1) % 3) as usize;
+        rig.fail_give(self.n);
+        rig.serve(turns(answered));
+        pass!(check_hosts(self.alloc, failed, answered, rig));
+        check(
+            rig.serve(3) == counted(3, 1, 0, 0),
+            "its slot alone is free",
+        )
+    }
 }
 
 fn open_each(steps: &mut Vec<Step<'_>>) -> Result<(), AllocError> {
