@@ -49,6 +49,7 @@ fn check_hosts(alloc: Global, failed: usize, answered: u64, rig: &Rig) -> Outcom
 }
 
 // The nth call of `give` fails. Behind all that was handed out each slot is opened again: one of them is free.
+#[derive(Drop)]
 struct Failing {
     alloc: Global,
     n: u64,

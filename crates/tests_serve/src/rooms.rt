@@ -8,6 +8,7 @@ use testkit_tables::{Outcome, check, check_bytes, pass};
 const COMMANDS: u16 = 500;
 
 // A turn for the host, one for each PDU, and one to give the last answer.
+#[derive(Drop)]
 struct AllAnswered<'a> {
     wanted: &'a [u8],
 }
