@@ -1,6 +1,6 @@
 //! A target that is served through ports in memory: the script of its hosts, lines and ticks, and what comes of it.
-//! It owns both, so that a test borrows them, and their contracts are read in one crate. `tests_serve` stands on it
-//! alone.
+//! It owns both, so that a test borrows them, and their contracts are read in one crate. The tests of serving share it;
+//! no other stands on it.
 #![tactic(auto)]
 
 mod rig;

@@ -7,6 +7,8 @@ mod ends;
 #[cfg(test)]
 mod failing;
 #[cfg(test)]
+mod gives;
+#[cfg(test)]
 mod lines;
 #[cfg(test)]
 mod opens;

@@ -1,17 +1,9 @@
 //! Hosts that connect, and those that are refused.
+use crate::gives::Gives;
 use crate::pdus::ic_resp;
 use testkit_edits::ic_req;
 use testkit_serve::{Rig, Scenario, Step, add, counted, holds_over};
-use testkit_tables::{Outcome, check, check_bytes, pass};
-
-struct RefusedSlot;
-
-impl Scenario for RefusedSlot {
-    fn holds(&self, rig: &mut Rig) -> Outcome {
-        pass!(check(rig.serve(5) == counted(5, 1, 0, 1), "one is refused"));
-        check_bytes(rig.got(7), &ic_resp())
-    }
-}
+use testkit_tables::{Outcome, check, pass};
 
 #[test]
 fn a_slot_that_is_refused_is_free_again(rt: HostRuntime) -> Outcome {
@@ -28,7 +20,12 @@ fn a_slot_that_is_refused_is_free_again(rt: HostRuntime) -> Outcome {
             bytes: &request,
         },
     ];
-    holds_over(rt.alloc(), &steps, &RefusedSlot)
+    let wanted = Gives {
+        counts: counted(5, 1, 0, 1),
+        slot: 7,
+        bytes: &ic_resp(),
+    };
+    holds_over(rt.alloc(), &steps, &wanted)
 }
 
 struct Places;

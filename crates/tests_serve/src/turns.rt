@@ -1,26 +1,9 @@
 //! What is done in which turn.
+use crate::gives::Gives;
 use crate::pdus::ic_resp;
 use testkit_edits::ic_req;
 use testkit_serve::{Rig, Scenario, Step, counted, holds_over};
-use testkit_tables::{Outcome, check, check_bytes, pass};
-
-struct TwoTurns;
-
-impl Scenario for TwoTurns {
-    fn holds(&self, rig: &mut Rig) -> Outcome {
-        pass!(check(rig.serve(2) == counted(2, 1, 0, 0), "two turns"));
-        check_bytes(rig.got(0), b"")
-    }
-}
-
-struct ThreeTurns;
-
-impl Scenario for ThreeTurns {
-    fn holds(&self, rig: &mut Rig) -> Outcome {
-        pass!(check(rig.serve(3) == counted(3, 1, 0, 0), "three turns"));
-        check_bytes(rig.got(0), &ic_resp())
-    }
-}
+use testkit_tables::{Outcome, check, pass};
 
 #[test]
 fn an_answer_is_not_given_before_the_turn_after_its_bytes(rt: HostRuntime) -> Outcome {
@@ -32,7 +15,12 @@ fn an_answer_is_not_given_before_the_turn_after_its_bytes(rt: HostRuntime) -> Ou
             bytes: &request,
         },
     ];
-    holds_over(rt.alloc(), &steps, &TwoTurns)
+    let wanted = Gives {
+        counts: counted(2, 1, 0, 0),
+        slot: 0,
+        bytes: b"",
+    };
+    holds_over(rt.alloc(), &steps, &wanted)
 }
 
 #[test]
@@ -45,7 +33,12 @@ fn an_answer_is_given_in_the_turn_after_its_bytes(rt: HostRuntime) -> Outcome {
             bytes: &request,
         },
     ];
-    holds_over(rt.alloc(), &steps, &ThreeTurns)
+    let wanted = Gives {
+        counts: counted(3, 1, 0, 0),
+        slot: 0,
+        bytes: &ic_resp(),
+    };
+    holds_over(rt.alloc(), &steps, &wanted)
 }
 
 struct NoTurn;
