@@ -1,0 +1,20 @@
+//! What is done with a rig.
+use crate::rig::Rig;
+use crate::script::Step;
+use std::alloc::Global;
+use testkit_tables::{Outcome, check};
+
+/// What a test does with a rig.
+pub trait Scenario {
+    /// All is as it has to be.
+    fn holds(&self, rig: &mut Rig) -> Outcome;
+}
+
+/// Makes a rig whose ports go through these steps, and lends it to a scenario: all is as it has to be.
+// A rig is owned here alone: each way out of a function is proved with all that is owned there.
+pub fn holds_over<S: Scenario>(alloc: Global, steps: &[Step<'_>], scenario: &S) -> Outcome {
+    match Rig::new(alloc, steps) {
+        Ok(mut rig) => scenario.holds(&mut rig),
+        Err(_) => check(false, "memory for a rig"),
+    }
+}
