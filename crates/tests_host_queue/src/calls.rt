@@ -1,6 +1,6 @@
 //! Each refusal of a call, and the texts of faults.
-use crate::pdus::Sent;
-use crate::queues::{
+use testkit_host_queues::pdus::Sent;
+use testkit_host_queues::queues::{
     IC_RESP, Said, check_answer, check_failed, check_idle, connected, params, send, step,
     submit_reading, submit_writing, take_output,
 };

@@ -1,6 +1,6 @@
 //! A conversation: the PDUs that a queue sends, whole, and what it tells.
-use crate::pdus::{Sent, append};
-use crate::queues::{
+use testkit_host_queues::pdus::{Sent, append};
+use testkit_host_queues::queues::{
     Said, check_answer, check_idle, connected_by, params, send, step, submit_reading,
     submit_writing, take_output,
 };

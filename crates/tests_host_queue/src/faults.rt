@@ -1,8 +1,8 @@
 //! Each fault of a controller, with the status, the information and the header that go back.
 ghost use Rattle.std.specs.Prelude.{◌≤◌};
 
-use crate::pdus::{Sent, bytes_of};
-use crate::queues::{
+use testkit_host_queues::pdus::{Sent, bytes_of};
+use testkit_host_queues::queues::{
     CONNECTED, IC_RESP, Said, check_failed, params, send, step, submit_reading, submit_writing,
     take_output,
 };

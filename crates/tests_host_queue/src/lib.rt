@@ -8,7 +8,3 @@ mod calls;
 mod conversation;
 #[cfg(test)]
 mod faults;
-#[cfg(test)]
-mod pdus;
-#[cfg(test)]
-mod queues;
