@@ -14,11 +14,23 @@ use std::{env, io};
 #[derive(Drop)]
 pub enum Usage {
     Run(HostArguments),
+    Lab(LabArguments),
     /// There is none.
     Nothing,
     /// The help, which was printed.
     Help,
     Bad,
+}
+
+/// What the lab starts, and where.
+#[derive(Drop)]
+pub struct LabArguments {
+    /// The program of the target, and this one.
+    pub target: String,
+    pub own: String,
+    pub port: u16,
+    pub control: u16,
+    pub turns: u64,
 }
 
 /// What a command is to do, and with whom.
@@ -69,7 +81,7 @@ fn take_words<R: Env + AllocGlobal>(rt: &R, words: &mut Vec<String>) -> Result<b
 
 fn read_words<R: Print + AllocGlobal>(rt: &R, words: &[String]) -> Result<Usage, SessionFault> {
     match matches_of(rt.alloc(), words) {
-        Ok(matches) => usage_of(rt.alloc(), &matches),
+        Ok(matches) => usage_of(rt.alloc(), words, &matches),
         Err(error) => refused(rt, &error),
     }
 }
@@ -92,11 +104,46 @@ fn refused<R: Print>(rt: &R, error: &Error) -> Result<Usage, SessionFault> {
     }
 }
 
-fn usage_of(alloc: Global, matches: &ArgMatches<'_>) -> Result<Usage, SessionFault> {
+fn usage_of(
+    alloc: Global,
+    words: &[String],
+    matches: &ArgMatches<'_>,
+) -> Result<Usage, SessionFault> {
+    if let Some(matches) = matches.subcommand_matches("lab") {
+        return match lab_arguments(alloc, words, matches) {
+            Ok(Some(arguments)) => Ok(Usage::Lab(arguments)),
+            Ok(None) => Ok(Usage::Bad),
+            Err(AllocError) => Err(SessionFault::Memory),
+        };
+    }
     match arguments_of(alloc, matches) {
         Ok(Some(arguments)) => Ok(Usage::Run(arguments)),
         Ok(None) => Ok(Usage::Bad),
         Err(AllocError) => Err(SessionFault::Memory),
+    }
+}
+
+fn lab_arguments(
+    alloc: Global,
+    words: &[String],
+    matches: &ArgMatches<'_>,
+) -> Result<Option<LabArguments>, AllocError> {
+    let (Some(own), Some(target)) = (words.first(), matches.get_str("TARGET")) else {
+        return Ok(None);
+    };
+    match (
+        matches.get_one::<u16>("port"),
+        matches.get_one::<u16>("control"),
+        matches.get_one::<u64>("turns"),
+    ) {
+        (Some(port), Some(control), Some(turns)) => Ok(Some(LabArguments {
+            target: target.to_string(alloc)?,
+            own: own.clone()?,
+            port,
+            control,
+            turns,
+        })),
+        _ => Ok(None),
     }
 }
 

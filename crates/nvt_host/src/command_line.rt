@@ -22,7 +22,30 @@ pub fn program<'a>(alloc: Global) -> Result<Command<'a>, AllocError> {
     let program = with_command(program, ana(alloc));
     let program = with_command(program, changed(alloc));
     let program = with_command(program, read(alloc));
-    with_command(program, write(alloc))
+    let program = with_command(program, write(alloc));
+    with_command(program, lab(alloc))
+}
+
+fn lab<'a>(alloc: Global) -> Result<Command<'a>, AllocError> {
+    let command = Command::new(alloc, "lab")
+        .about("Starts a target and two hosts, of which one writes while the other reads")
+        .after_help(help::LAB)
+        .arg(word(alloc, "TARGET", "The program nvt_target"));
+    let command = with(
+        command,
+        local_port(alloc, "port", "The target's port for hosts"),
+    );
+    let command = with(command, local_port(alloc, "control", "Its port for edits"));
+    with(command, turns(alloc))
+}
+
+// An option that has to be given: a port of 127.0.0.1.
+fn local_port<'a>(alloc: Global, name: &'a str, help: &'a str) -> Arg<'a> {
+    Arg::new(alloc, name)
+        .long(name)
+        .required(true)
+        .help(help)
+        .value_parser(value_parser!(u16).range(1..=PORT_MAX))
 }
 
 fn discover<'a>(alloc: Global) -> Result<Command<'a>, AllocError> {
