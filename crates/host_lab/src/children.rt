@@ -52,11 +52,11 @@ pub fn line_of<R: Eprint + AllocGlobal, P: OpenProcess + Drop>(
         return Err(LabFault);
     };
     match next_line(rt.alloc(), stdout) {
-        Ok(line) => {
+        Ok(Some(line)) => {
             echo(rt, name, &line);
             Ok(line)
         }
-        Err(_) => Err(LabFault),
+        Ok(None) | Err(_) => Err(LabFault),
     }
 }
 

@@ -82,7 +82,7 @@ fn make_edit<R: Eprint + AllocGlobal, S: Read + Write>(
         return Err(LabFault);
     }
     match next_line(rt.alloc(), stream) {
-        Ok(answer) => {
+        Ok(Some(answer)) => {
             echo(rt, "control", &answer);
             if answer.as_slice() == b"ok".as_slice() {
                 Ok(())
@@ -90,7 +90,7 @@ fn make_edit<R: Eprint + AllocGlobal, S: Read + Write>(
                 Err(LabFault)
             }
         }
-        Err(_) => Err(LabFault),
+        Ok(None) | Err(_) => Err(LabFault),
     }
 }
 
