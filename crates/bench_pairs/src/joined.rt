@@ -78,10 +78,12 @@ impl JoinedQueue {
     /// Sends what there is room for, lets the target take it, and receives what it sends; whether the connection
     /// stands.
     pub(crate) fn exchange(&mut self, target: &mut Target<MemoryDisk>) -> bool {
-        let Ok(sent) = target.receive(self.k, self.queue.output()) else {
+        let output = self.queue.output();
+        let len = output.len();
+        let Ok(sent) = target.receive(self.k, output) else {
             return false;
         };
-        self.queue.taken(sent);
+        self.queue.taken(sent.min(len));
         if !take_steps(target, self.k) {
             return false;
         }

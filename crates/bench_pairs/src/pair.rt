@@ -1,4 +1,7 @@
 //! A target over a disk in memory, and a host with an admin queue and an I/O queue.
+ghost use Rattle.std.specs.Prelude.{IfOk};
+ghost use Rattle.host_driver.specs.Session.{AreParams};
+
 use crate::commands::{BLOCK_LEN, NSID, enable};
 use crate::joined::JoinedQueue;
 use block_store::MemoryDisk;
@@ -104,7 +107,9 @@ fn queue(
     }
 }
 
-fn params(alloc: Global, qid: u16, cntlid: u16) -> Result<HostParams, NqnFault> {
+fn params(alloc: Global, qid: u16, cntlid: u16) -> Result<HostParams, NqnFault>
+    ensures { IfOk result (λ params. AreParams params) }
+{
     Ok(HostParams {
         qid,
         sqsize: DEPTH,
