@@ -13,11 +13,13 @@ use Rattle.pdu_codec.specs.DataHead.{data_head_of}
 use Rattle.pdu_codec.specs.Initialize.{ic_resp_of}
 use Rattle.pdu_codec.specs.R2t.{r2t_of}
 use Rattle.host_decision.specs.declared.decision.Completion.{Completion}
+use Rattle.host_decision.specs.declared.decision.Decision.{Decision}
 use Rattle.host_decision.specs.declared.decision.Decision.TheVariants as decision
 use Rattle.host_decision.specs.declared.phase.Phase.TheVariants.{Opened, Initialized, Connected}
 use Rattle.host_decision.specs.declared.phase.TransportLimits.{TransportLimits}
 use Rattle.host_decision.specs.Decision.{accepted, cid_by, cid_named, connected, decide, first_by, initialize, is_early, is_success, next_by, received, requested, response_in}
 use Rattle.host_history.specs.Behaved.{AsksNext, BringsNext, Completes, IsAgreeable, Understands, connect_told, data_told, reply_told}
+use Rattle.host_history.specs.Keeping.{AsksNow, BringsNow, ConnectsNow, InitializesNow, RepliesNow}
 use Rattle.host_history.specs.Pending.{Pending, outstanding_at, outstanding_of}
 use Rattle.host_history.specs.State.{HostState, owed_pdu}
 use Rattle.host_history.specs.Told.{told_by}
@@ -48,22 +50,22 @@ in_time false a b h = refl
 
 -- ---- what is decided
 
-agreed : (r : IcResp) → IsAgreeable r → initialize r ≡ decision.Initialize (record { cpda = r.cpda; maxh2cdata = r.maxh2cdata })
+pub agreed : (r : IcResp) → IsAgreeable r → initialize r ≡ decision.Initialize (record { cpda = r.cpda; maxh2cdata = r.maxh2cdata })
 agreed r h =
     rw (equal_where r.pfv 0 h.version, no_more r.cpda 31 h.alignment, equal_where r.dgst 0 h.digests, bounded_where r.maxh2cdata h.longest h.multiple) refl
 
-asked : (p : Pending) (request : R2t) → AsksNext p request → requested (Some (outstanding_of p)) request ≡ decision.Send request
+pub asked : (p : Pending) (request : R2t) → AsksNext p request → requested (Some (outstanding_of p)) request ≡ decision.Send request
 asked p request h =
     let end : p.asked + request.r2tl ≤ length p.out = h.within in
     rw (no_zero (length p.out) h.some, placed_where request.r2to p.asked (length p.out) (p.asked + request.r2tl) h.next end) refl
 
-brought : (p : Pending) (head : DataHead) (bytes : List ℕ) → BringsNext p head bytes
+pub brought : (p : Pending) (head : DataHead) (bytes : List ℕ) → BringsNext p head bytes
     → received (Some (outstanding_of p)) head (length bytes) ≡ accepted (outstanding_of p) head (length p.came + head.datal)
 brought p head bytes h =
     let end : length p.came + head.datal ≤ p.into = omega (arith, h.len, h.within) in
     rw (no_zero p.into h.wanted, equal_where head.datal (length bytes) h.len, placed_where head.datao (length p.came) p.into (length p.came + head.datal) h.next end) refl
 
-completed_now : (p : Pending) (response : Completion) → Completes p response → is_early (outstanding_of p) response.status ≡ false
+pub completed_now : (p : Pending) (response : Completion) → Completes p response → is_early (outstanding_of p) response.status ≡ false
 completed_now p response h = in_time (is_success response.status) (length p.came) p.into h
 
 -- ---- what is told
@@ -86,21 +88,58 @@ reply_by s p bytes response placed = rw placed refl
 
 -- ---- by the phase and the type of the PDU
 
-owed_first : (s : HostState) (pdu : Pdu) (kind : PduType) → s.phase ≡ Opened → pdu.kind ≡ kind → owed_pdu s pdu ≡ first_by kind pdu
+pub owed_first : (s : HostState) (pdu : Pdu) (kind : PduType) → s.phase ≡ Opened → pdu.kind ≡ kind → owed_pdu s pdu ≡ first_by kind pdu
 owed_first s pdu kind phase is =
     ap (λ f. decide f (outstanding_at s.commands (cid_named pdu)) pdu) phase ∙ ap (λ k. first_by k pdu) is
 
-owed_initialized : (s : HostState) (pdu : Pdu) (kind : PduType) (limits : TransportLimits) → s.phase ≡ Initialized limits → pdu.kind ≡ kind
+pub owed_initialized : (s : HostState) (pdu : Pdu) (kind : PduType) (limits : TransportLimits) → s.phase ≡ Initialized limits → pdu.kind ≡ kind
     → owed_pdu s pdu ≡ next_by kind (Initialized limits) (outstanding_at s.commands (cid_by kind pdu)) pdu
 owed_initialized s pdu kind limits phase is =
     ap (λ f. decide f (outstanding_at s.commands (cid_named pdu)) pdu) phase
     ∙ ap (λ k. next_by k (Initialized limits) (outstanding_at s.commands (cid_by k pdu)) pdu) is
 
-owed_connected : (s : HostState) (pdu : Pdu) (kind : PduType) (limits : TransportLimits) → s.phase ≡ Connected limits → pdu.kind ≡ kind
+pub owed_connected : (s : HostState) (pdu : Pdu) (kind : PduType) (limits : TransportLimits) → s.phase ≡ Connected limits → pdu.kind ≡ kind
     → owed_pdu s pdu ≡ next_by kind (Connected limits) (outstanding_at s.commands (cid_by kind pdu)) pdu
 owed_connected s pdu kind limits phase is =
     ap (λ f. decide f (outstanding_at s.commands (cid_named pdu)) pdu) phase
     ∙ ap (λ k. next_by k (Connected limits) (outstanding_at s.commands (cid_by k pdu)) pdu) is
+
+-- ---- what is decided about each PDU of such a controller
+
+pub initialize_owed : (s : HostState) (pdu : Pdu) → InitializesNow s pdu
+    → owed_pdu s pdu ≡ decision.Initialize (record { cpda = (ic_resp_of (header_part pdu)).cpda; maxh2cdata = (ic_resp_of (header_part pdu)).maxh2cdata })
+initialize_owed s pdu h = owed_first s pdu types.IcResp h.phase h.kind ∙ agreed (ic_resp_of (header_part pdu)) h.agreeable
+
+pub connect_owed : (s : HostState) (pdu : Pdu) → ConnectsNow s pdu → owed_pdu s pdu ≡ connected (response_in pdu)
+connect_owed s pdu h =
+    owed_initialized s pdu types.CapsuleResp h.limits h.phase h.kind ∙ rw (h.placed, completed_now h.pending (response_in pdu) h.in_time) refl
+
+pub reply_owed : (s : HostState) (pdu : Pdu) → RepliesNow s pdu → owed_pdu s pdu ≡ decision.Complete (response_in pdu)
+reply_owed s pdu h =
+    owed_connected s pdu types.CapsuleResp h.limits h.phase h.kind ∙ rw (h.placed, completed_now h.pending (response_in pdu) h.in_time) refl
+
+-- the data are the last where they stand for the completion
+abbrev pub with_success : Bool → ℕ → Decision
+with_success true cid = decision.ReceiveLast cid
+with_success false cid = decision.Receive cid
+
+accepted_by : (p : Pending) (head : DataHead) (bytes : List ℕ) (success : Bool) → head.success ≡ success → BringsNext p head bytes
+    → accepted (outstanding_of p) head (length p.came + head.datal) ≡ with_success success head.cccid
+accepted_by p head bytes false is h = rw is refl
+accepted_by p head bytes true is h =
+    let all : p.into ≤ length p.came + head.datal = omega (arith, h.len, h.all is) in
+    rw (is, h.marked is, no_less (length p.came + head.datal) p.into all) refl
+
+pub bytes_owed : (s : HostState) (pdu : Pdu) → BringsNow s pdu
+    → owed_pdu s pdu ≡ with_success (data_head_of (header_part pdu)).success (data_head_of (header_part pdu)).cccid
+bytes_owed s pdu h =
+    owed_connected s pdu types.C2hData h.limits h.phase h.kind
+    ∙ rw (h.placed, brought h.pending (data_head_of (header_part pdu)) (data_part pdu) h.next)
+    (accepted_by h.pending (data_head_of (header_part pdu)) (data_part pdu) _ refl h.next)
+
+pub request_owed : (s : HostState) (pdu : Pdu) → AsksNow s pdu → owed_pdu s pdu ≡ decision.Send (r2t_of (header_part pdu))
+request_owed s pdu h =
+    owed_connected s pdu types.R2t h.limits h.phase h.kind ∙ rw (h.placed, asked h.pending (r2t_of (header_part pdu)) h.next) refl
 
 pub understands : Understands
 understands = record {

@@ -1,5 +1,5 @@
 -- Laws of histories, in the words of the subject.
-use Rattle.std.specs.Prelude.{◌≡◌, ◌≤◌, Some, true, length}
+use Rattle.std.specs.Prelude.{◌≡◌, Some, true, length}
 use Rattle.number_table.specs.Table.{place}
 use Rattle.host_decision.specs.Decision.{is_success}
 use Rattle.host_wire.specs.declared.params.HostParams.{HostParams}
@@ -8,8 +8,8 @@ use Rattle.host_history.specs.Pending.{Pending}
 use Rattle.host_history.specs.State.{state_after}
 use Rattle.host_history.specs.Told.{Answered, answers, tells}
 
--- where a command is answered with success, the answer has no fewer bytes than the command wanted
+-- where a command is answered with success, the answer has exactly as many bytes as the command wanted
 abbrev pub AnswersAreWhole : Type 0
 AnswersAreWhole = (params : HostParams) (h : History) (e : Event) (a : Answered) (p : Pending)
     → tells (state_after params h) e ≡ answers a → is_success a.status ≡ true
-    → place (state_after params h).commands a.cid ≡ Some p → p.into ≤ length a.payload
+    → place (state_after params h).commands a.cid ≡ Some p → length a.payload ≡ p.into

@@ -5,3 +5,5 @@ pub mod Told
 pub mod History
 pub mod Laws
 pub mod Behaved
+pub mod Keeping
+pub mod Latest
