@@ -15,8 +15,9 @@ use testkit_edits::{A, Blocks, H1, Line, edit, memory_disks};
 /// How many commands are outstanding at a time.
 const DEPTH: u16 = 31;
 
-/// The most exchanges that a command needs: of 128 KiB, of which the target takes 32 at a time.
-const EXCHANGES_PER_COMMAND: u32 = 8;
+/// More exchanges than a command needs: 128 KiB go in 8 H2CData, of which the target has room for one, and a part of
+/// the next.
+const EXCHANGES_PER_COMMAND: u32 = 16;
 
 const UNITS: u64 = 512;
 
