@@ -5,6 +5,8 @@ import time
 
 # What a host may send behind the script's end is read up to here.
 REST_MAX = 1 << 16
+# How often a host is looked at that opens no connection.
+LOOK_SECONDS = 0.2
 
 
 class Failed(Exception):
@@ -32,14 +34,16 @@ class Controller:
         """The seconds that are left."""
         return max(self.until - time.monotonic(), 0.001)
 
-    def peer(self, k):
+    def peer(self, k, host):
         """The connection of this number, once the host has opened it."""
         while len(self.peers) <= k:
-            self.listener.settimeout(self.left())
+            has_ended = host.has_ended()
+            self.listener.settimeout(LOOK_SECONDS)
             try:
                 self.accept()
             except TimeoutError as why:
-                raise Failed(f"the host does not open connection {k}") from why
+                if has_ended or time.monotonic() > self.until:
+                    raise Failed(f"the host does not open connection {k}") from why
         self.peers[k].settimeout(self.left())
         return self.peers[k]
 
@@ -58,30 +62,30 @@ class Controller:
 
     def take(self, step, host, size):
         if step.word == b"tx":
-            self.expect(step)
+            self.expect(step, host)
         elif step.word == b"rx":
-            self.send(step, size or len(step.data))
+            self.send(step, host, size or len(step.data))
         elif step.word == b"burst":
-            self.send(step, len(step.data))
+            self.send(step, host, len(step.data))
         elif step.word == b"end":
-            self.peer(step.k).shutdown(socket.SHUT_WR)
+            self.peer(step.k, host).shutdown(socket.SHUT_WR)
         elif step.word == b"in":
             host.give(step.data + b"\n")
         else:
             self.told += step.data + b"\n"
             self.await_told(host)
 
-    def send(self, step, size):
-        peer = self.peer(step.k)
+    def send(self, step, host, size):
+        peer = self.peer(step.k, host)
         try:
             for at in range(0, len(step.data), max(size, 1)):
                 peer.sendall(step.data[at : at + size])
         except OSError as why:
             raise Failed(f"the host takes no more: {why}") from why
 
-    def expect(self, step):
+    def expect(self, step, host):
         """Wants exactly these bytes next."""
-        got = self.received(self.peer(step.k), len(step.data))
+        got = self.received(self.peer(step.k, host), len(step.data))
         if got != step.data:
             at = next((at for at, pair in enumerate(zip(got, step.data)) if pair[0] != pair[1]), len(got))
             wanted = step.data[at : at + 16].hex()
