@@ -1,15 +1,16 @@
 //! Measures the edit language: how many lines of edits a second are read, written back and checked
 //! against a configuration. `nvt_bench SETUP LINES SERVED CHANGES` takes four files of edits: SETUP makes
 //! the configuration, over 256 disks, and the edits of LINES are measured. Then it measures I/O commands
-//! on a target over a disk in memory, against bare copies of as many bytes. Then SERVED makes the
-//! configuration of a target with hosts, and the edits of CHANGES are measured, each told to the hosts,
-//! and what the hosts read.
+//! on a target over a disk in memory, against bare copies of as many bytes, and on a host that is joined
+//! to such a target. Then SERVED makes the configuration of a target with hosts, and the edits of CHANGES
+//! are measured, each told to the hosts, and what the hosts read.
 #![tactic(auto)]
 
 mod clock;
 mod commands;
 mod edits;
 mod fault;
+mod pairs;
 mod told;
 
 use fault::BenchFault;
@@ -74,6 +75,7 @@ fn read_paths<R: Env + AllocGlobal>(rt: &R) -> Option<Paths> {
 fn run<R: Files + Clock + Print + AllocGlobal>(rt: &R, paths: &Paths) -> Result<(), BenchFault> {
     measure_edits(rt, paths)?;
     commands::measure(rt)?;
+    pairs::measure(rt)?;
     measure_told(rt, paths)
 }
 

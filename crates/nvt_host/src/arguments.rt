@@ -1,24 +1,35 @@
 //! The arguments of the program.
 
 use crate::command_line;
-use clap::error::ErrorKind;
-use clap::{ArgMatches, Error};
+use clap::ArgMatches;
 use host_program::{Blocks, Fill, Peers, SessionFault};
 use nvt_fields::{Nqn, NqnFault};
+use program_words::{Refusal, parsed, refusal_of, take_words};
 use std::alloc::{AllocError, Global};
 use std::net::{IpAddr, SocketAddr};
 use std::rt::Env;
-use std::{env, io};
 
 /// What the arguments ask for.
 #[derive(Drop)]
 pub enum Usage {
     Run(HostArguments),
+    Lab(LabArguments),
     /// There is none.
     Nothing,
     /// The help, which was printed.
     Help,
     Bad,
+}
+
+/// What the lab starts, and where.
+#[derive(Drop)]
+pub struct LabArguments {
+    /// The program of the target, and this one.
+    pub target: String,
+    pub own: String,
+    pub port: u16,
+    pub control: u16,
+    pub turns: u64,
 }
 
 /// What a command is to do, and with whom.
@@ -53,50 +64,62 @@ pub fn read<R: Env + Print + AllocGlobal>(rt: &R) -> Result<Usage, SessionFault>
     }
 }
 
-// Appends the arguments of the process, and answers whether each of them is text.
-fn take_words<R: Env + AllocGlobal>(rt: &R, words: &mut Vec<String>) -> Result<bool, AllocError> {
-    let given = match env::args(rt) {
-        Ok(given) => given,
-        Err(error) if error.kind() == io::ErrorKind::OutOfMemory => return Err(AllocError),
-        Err(_) => return Ok(false),
-    };
-    // `collect` would ask for room by a hint, and pass over its refusal.
-    for word in given {
-        words.push(word)?;
-    }
-    Ok(true)
-}
-
 fn read_words<R: Print + AllocGlobal>(rt: &R, words: &[String]) -> Result<Usage, SessionFault> {
-    match matches_of(rt.alloc(), words) {
-        Ok(matches) => usage_of(rt.alloc(), &matches),
-        Err(error) => refused(rt, &error),
+    match parsed(command_line::program(rt.alloc()), words) {
+        Ok(matches) => usage_of(rt.alloc(), words, &matches),
+        Err(error) => refused(refusal_of(rt, &error)),
     }
 }
 
-fn matches_of<'a>(alloc: Global, words: &'a [String]) -> Result<ArgMatches<'a>, Error> {
-    match command_line::program(alloc) {
-        Ok(command) => command.try_get_matches_from(words),
-        Err(AllocError) => Err(Error::from(AllocError)),
+fn refused(refusal: Refusal) -> Result<Usage, SessionFault> {
+    match refusal {
+        Refusal::Help => Ok(Usage::Help),
+        Refusal::Bad => Ok(Usage::Bad),
+        Refusal::Io => Err(SessionFault::Io),
+        Refusal::Memory => Err(SessionFault::Memory),
     }
 }
 
-fn refused<R: Print>(rt: &R, error: &Error) -> Result<Usage, SessionFault> {
-    match error.kind() {
-        ErrorKind::DisplayHelp => match rt.print(error) {
-            Ok(()) => Ok(Usage::Help),
-            Err(_) => Err(SessionFault::Io),
-        },
-        ErrorKind::OutOfMemory => Err(SessionFault::Memory),
-        _ => Ok(Usage::Bad),
+fn usage_of(
+    alloc: Global,
+    words: &[String],
+    matches: &ArgMatches<'_>,
+) -> Result<Usage, SessionFault> {
+    if let Some(matches) = matches.subcommand_matches("lab") {
+        return match lab_arguments(alloc, words, matches) {
+            Ok(Some(arguments)) => Ok(Usage::Lab(arguments)),
+            Ok(None) => Ok(Usage::Bad),
+            Err(AllocError) => Err(SessionFault::Memory),
+        };
     }
-}
-
-fn usage_of(alloc: Global, matches: &ArgMatches<'_>) -> Result<Usage, SessionFault> {
     match arguments_of(alloc, matches) {
         Ok(Some(arguments)) => Ok(Usage::Run(arguments)),
         Ok(None) => Ok(Usage::Bad),
         Err(AllocError) => Err(SessionFault::Memory),
+    }
+}
+
+fn lab_arguments(
+    alloc: Global,
+    words: &[String],
+    matches: &ArgMatches<'_>,
+) -> Result<Option<LabArguments>, AllocError> {
+    let (Some(own), Some(target)) = (words.first(), matches.get_str("TARGET")) else {
+        return Ok(None);
+    };
+    match (
+        matches.get_one::<u16>("port"),
+        matches.get_one::<u16>("control"),
+        matches.get_one::<u64>("turns"),
+    ) {
+        (Some(port), Some(control), Some(turns)) => Ok(Some(LabArguments {
+            target: target.to_string(alloc)?,
+            own: own.clone()?,
+            port,
+            control,
+            turns,
+        })),
+        _ => Ok(None),
     }
 }
 

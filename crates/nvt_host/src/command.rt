@@ -8,9 +8,9 @@ use std::rt::Clock;
 
 const OUTPUT_BUFFER: usize = 1 << 16;
 
-/// Prints the program's name.
-pub fn name<R: Print>(rt: &R) -> Result<(), SessionFault> {
-    written(println!(rt; "nvt_host"))
+/// Prints a line.
+pub fn tell<R: Print>(rt: &R, line: &str) -> Result<(), SessionFault> {
+    written(println!(rt; "{line}"))
 }
 
 /// Runs the command that the arguments ask for. What was printed before a fault stays.

@@ -2,6 +2,7 @@
 
 use crate::help;
 use clap::{Arg, ArgAction, Command, value_parser};
+use program_words::{port_option, turns, with, with_command};
 use std::alloc::{AllocError, Global};
 
 /// The commands, by their names.
@@ -22,7 +23,24 @@ pub fn program<'a>(alloc: Global) -> Result<Command<'a>, AllocError> {
     let program = with_command(program, ana(alloc));
     let program = with_command(program, changed(alloc));
     let program = with_command(program, read(alloc));
-    with_command(program, write(alloc))
+    let program = with_command(program, write(alloc));
+    with_command(program, lab(alloc))
+}
+
+fn lab<'a>(alloc: Global) -> Result<Command<'a>, AllocError> {
+    let command = Command::new(alloc, "lab")
+        .about("Starts a target and two hosts, of which one writes while the other reads")
+        .after_help(help::LAB)
+        .arg(word(alloc, "TARGET", "The program nvt_target"));
+    let port = port_option(alloc, "port", "The target's port for hosts, at 127.0.0.1");
+    let command = with(command, port);
+    let control = port_option(
+        alloc,
+        "control",
+        "Its port for lines of edits, at 127.0.0.1",
+    );
+    let command = with(command, control);
+    with(command, turns(alloc, TURNS_HELP))
 }
 
 fn discover<'a>(alloc: Global) -> Result<Command<'a>, AllocError> {
@@ -32,25 +50,25 @@ fn discover<'a>(alloc: Global) -> Result<Command<'a>, AllocError> {
         .arg(word(alloc, "ADDR", ADDR_HELP));
     let command = with(command, port(alloc));
     let command = with(command, word(alloc, "HOSTNQN", HOST_HELP));
-    with(command, turns(alloc))
+    with(command, turns(alloc, TURNS_HELP))
 }
 
 fn list<'a>(alloc: Global) -> Result<Command<'a>, AllocError> {
     let about = "Prints the active namespaces, one a line";
     let command = to_subsystem(alloc, "list", about, help::LIST);
-    with(command, turns(alloc))
+    with(command, turns(alloc, TURNS_HELP))
 }
 
 fn ana<'a>(alloc: Global) -> Result<Command<'a>, AllocError> {
     let about = "Prints the groups of the Asymmetric Namespace Access log page";
     let command = to_subsystem(alloc, "ana", about, help::ANA);
-    with(command, turns(alloc))
+    with(command, turns(alloc, TURNS_HELP))
 }
 
 fn changed<'a>(alloc: Global) -> Result<Command<'a>, AllocError> {
     let about = "Waits until a namespace changes, and prints which did";
     let command = to_subsystem(alloc, "changed", about, help::CHANGED);
-    with(command, turns(alloc))
+    with(command, turns(alloc, TURNS_HELP))
 }
 
 fn read<'a>(alloc: Global) -> Result<Command<'a>, AllocError> {
@@ -61,7 +79,7 @@ fn read<'a>(alloc: Global) -> Result<Command<'a>, AllocError> {
         help::READ,
     );
     let command = to_blocks(alloc, command);
-    with(command, turns(alloc))
+    with(command, turns(alloc, TURNS_HELP))
 }
 
 fn write<'a>(alloc: Global) -> Result<Command<'a>, AllocError> {
@@ -74,7 +92,7 @@ fn write<'a>(alloc: Global) -> Result<Command<'a>, AllocError> {
     let command = to_blocks(alloc, command);
     let command = with(command, byte(alloc));
     let command = with(command, hold(alloc));
-    with(command, turns(alloc))
+    with(command, turns(alloc, TURNS_HELP))
 }
 
 // A command to a controller of a subsystem.
@@ -103,29 +121,9 @@ fn to_blocks<'a>(
     with(command, count(alloc))
 }
 
-// The program with one command more, unless memory was wanted before.
-fn with_command<'a>(
-    program: Result<Command<'a>, AllocError>,
-    command: Result<Command<'a>, AllocError>,
-) -> Result<Command<'a>, AllocError> {
-    match (program, command) {
-        (Ok(program), Ok(command)) => program.subcommand(command),
-        _ => Err(AllocError),
-    }
-}
-
-// The command with one argument more, unless memory was wanted before.
-fn with<'a>(
-    command: Result<Command<'a>, AllocError>,
-    arg: Arg<'a>,
-) -> Result<Command<'a>, AllocError> {
-    match command {
-        Ok(command) => command.arg(arg),
-        Err(AllocError) => Err(AllocError),
-    }
-}
-
 const ADDR_HELP: &str = "The controller's IPv4 or IPv6 address";
+
+const TURNS_HELP: &str = "At most so many turns; one in which nothing moves takes up to 1 ms";
 
 const HOST_HELP: &str = "The name of the host";
 
@@ -163,12 +161,4 @@ fn hold<'a>(alloc: Global) -> Arg<'a> {
         .help(
             "Once the controller asks for the data, prints `held` and reads a line before it sends any",
         )
-}
-
-fn turns<'a>(alloc: Global) -> Arg<'a> {
-    Arg::new(alloc, "turns")
-        .long("turns")
-        .default_value("18446744073709551615")
-        .value_parser(value_parser!(u64))
-        .help("At most so many turns; one in which nothing moves takes up to 1 ms")
 }

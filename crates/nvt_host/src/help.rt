@@ -64,3 +64,11 @@ pub const WRITE: &str =
 Example:
   nvt_host write 127.0.0.1 4420 nqn.2026-01.test:a nqn.2026-01.test:h1 1 0 16 5
 writes the byte 5 to all of blocks 0 to 15 of namespace 1, and prints `ok`.";
+
+pub const LAB: &str =
+    "The target serves a disk of zeros at 127.0.0.1. Host 1 writes to it, and is held before it sends its
+data; host 2 reads the same block, which is still of zeros; then host 1 sends them, and is done. What the
+processes print is echoed on standard error. Prints `lab ok`, or ends by `error: lab`.
+
+Example:
+  nvt_host lab nvt_target --port 4420 --control 4419 --turns 2000000";

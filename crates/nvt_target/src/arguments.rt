@@ -1,14 +1,13 @@
 //! The arguments of the program.
 
 use crate::command_line;
-use clap::error::ErrorKind;
-use clap::{ArgMatches, Error};
+use clap::ArgMatches;
 use command_parts::{DiskArguments, ReplayFault};
+use program_words::{Refusal, parsed, refusal_of, take_words};
 use replay_program::ReplayArguments;
 use serve_program::ServeArguments;
 use std::alloc::{AllocError, Global};
 use std::rt::Env;
-use std::{env, io};
 
 /// What the arguments ask for.
 #[derive(Drop)]
@@ -30,42 +29,19 @@ pub fn read<R: Env + Print + AllocGlobal>(rt: &R) -> Result<Usage, ReplayFault> 
     }
 }
 
-// Appends the arguments of the process, and answers whether each of them is text.
-fn take_words<R: Env + AllocGlobal>(rt: &R, words: &mut Vec<String>) -> Result<bool, AllocError> {
-    let given = match env::args(rt) {
-        Ok(given) => given,
-        Err(error) if error.kind() == io::ErrorKind::OutOfMemory => return Err(AllocError),
-        Err(_) => return Ok(false),
-    };
-    // `collect` would ask for room by a hint, and pass over its refusal.
-    for word in given {
-        words.push(word)?;
-    }
-    Ok(true)
-}
-
 fn read_words<R: Print + AllocGlobal>(rt: &R, words: &[String]) -> Result<Usage, ReplayFault> {
-    match matches_of(rt.alloc(), words) {
+    match parsed(command_line::program(rt.alloc()), words) {
         Ok(matches) => usage_of(rt.alloc(), &matches),
-        Err(error) => refused(rt, &error),
+        Err(error) => refused(refusal_of(rt, &error)),
     }
 }
 
-fn matches_of<'a>(alloc: Global, words: &'a [String]) -> Result<ArgMatches<'a>, Error> {
-    match command_line::program(alloc) {
-        Ok(command) => command.try_get_matches_from(words),
-        Err(AllocError) => Err(Error::from(AllocError)),
-    }
-}
-
-fn refused<R: Print>(rt: &R, error: &Error) -> Result<Usage, ReplayFault> {
-    match error.kind() {
-        ErrorKind::DisplayHelp => match rt.print(error) {
-            Ok(()) => Ok(Usage::Help),
-            Err(_) => Err(ReplayFault::Io),
-        },
-        ErrorKind::OutOfMemory => Err(ReplayFault::Memory),
-        _ => Ok(Usage::Bad),
+fn refused(refusal: Refusal) -> Result<Usage, ReplayFault> {
+    match refusal {
+        Refusal::Help => Ok(Usage::Help),
+        Refusal::Bad => Ok(Usage::Bad),
+        Refusal::Io => Err(ReplayFault::Io),
+        Refusal::Memory => Err(ReplayFault::Memory),
     }
 }
 

@@ -2,13 +2,16 @@
 
 use crate::help::{HELP, RUN_HELP};
 use clap::{Arg, ArgAction, Command, value_parser};
+use program_words::{port_option, turns, with, with_command};
 use std::alloc::{AllocError, Global};
 
 const DISKS_MAX: i64 = 256;
 
 const UNITS_MAX: i64 = 1_048_576;
 
-const SERVICE_MAX: i64 = 65_535;
+const CONTROL_HELP: &str = "The TCP port for lines of edits, at 127.0.0.1";
+
+const TURNS_HELP: &str = "How many turns the target is served; an idle one takes up to 1 ms";
 
 /// The program, with its commands `replay` and `run`.
 pub fn program<'a>(alloc: Global) -> Result<Command<'a>, AllocError> {
@@ -37,32 +40,11 @@ fn run<'a>(alloc: Global) -> Result<Command<'a>, AllocError> {
         .about("Applies the lines of EDITS, and serves hosts over TCP")
         .after_help(RUN_HELP)
         .arg(file(alloc, "EDITS", "A file of one edit a line"));
-    let command = with(command, control(alloc));
-    let command = with(command, turns(alloc));
+    let control = port_option(alloc, "control", CONTROL_HELP);
+    let command = with(command, control);
+    let command = with(command, turns(alloc, TURNS_HELP));
     let command = with(command, disks(alloc));
     with(command, units(alloc))
-}
-
-// The program with one command more, unless memory was wanted before.
-fn with_command<'a>(
-    program: Result<Command<'a>, AllocError>,
-    command: Result<Command<'a>, AllocError>,
-) -> Result<Command<'a>, AllocError> {
-    match (program, command) {
-        (Ok(program), Ok(command)) => program.subcommand(command),
-        _ => Err(AllocError),
-    }
-}
-
-// The command with one argument more, unless memory was wanted before.
-fn with<'a>(
-    command: Result<Command<'a>, AllocError>,
-    arg: Arg<'a>,
-) -> Result<Command<'a>, AllocError> {
-    match command {
-        Ok(command) => command.arg(arg),
-        Err(AllocError) => Err(AllocError),
-    }
 }
 
 fn file<'a>(alloc: Global, name: &'a str, help: &'a str) -> Arg<'a> {
@@ -84,19 +66,6 @@ fn disks<'a>(alloc: Global) -> Arg<'a> {
 fn units<'a>(alloc: Global) -> Arg<'a> {
     let help = "The size of each disk in units of 512 bytes, 1 to 1048576";
     option(alloc, "units", "2048", help).value_parser(value_parser!(u64).range(1..=UNITS_MAX))
-}
-
-fn control<'a>(alloc: Global) -> Arg<'a> {
-    Arg::new(alloc, "control")
-        .long("control")
-        .required(true)
-        .value_parser(value_parser!(u16).range(1..=SERVICE_MAX))
-        .help("The TCP port for lines of edits, at 127.0.0.1")
-}
-
-fn turns<'a>(alloc: Global) -> Arg<'a> {
-    let help = "How many turns the target is served; an idle one takes up to 1 ms";
-    option(alloc, "turns", "18446744073709551615", help).value_parser(value_parser!(u64))
 }
 
 fn explain<'a>(alloc: Global) -> Arg<'a> {

@@ -1,0 +1,81 @@
+"""`nvt_host lab`: a target and two hosts, each a process of its own, which are ended whatever comes."""
+
+import os
+import signal
+import socket
+import subprocess
+import tempfile
+from pathlib import Path
+
+from .served import SECONDS, check, check_equal, free_ports
+
+ENDED = (1, b"", [b"error: lab"])
+TURNS = 2_000_000
+
+
+def lab(host, target, ports, turns=TURNS):
+    """Runs the lab in a process group of its own: its exit status, what it prints, and the lines of standard error. No
+    process of the group is left behind it; where one is, it is ended and the test fails."""
+    words = [host, "lab", target, "--port", str(ports[0]), "--control", str(ports[1]), "--turns", str(turns)]
+    pipes = {"stdin": subprocess.DEVNULL, "stdout": subprocess.PIPE, "stderr": subprocess.PIPE}
+    with subprocess.Popen(words, **pipes, start_new_session=True) as process:
+        try:
+            out, err = process.communicate(timeout=6 * SECONDS)
+        finally:
+            is_left = ends_group(process.pid)
+    check(not is_left, "a process is left")
+    return process.returncode, out, err.splitlines()
+
+
+def ends_group(group):
+    """Whether there was a process of the group, which is ended."""
+    try:
+        os.killpg(group, signal.SIGKILL)
+    except ProcessLookupError:
+        return False
+    return True
+
+
+def check_ended(ran):
+    status, out, lines = ran
+    check_equal("how it ends", (status, out, lines[-1:]), ENDED)
+
+
+def a_held_write_changes_nothing_that_is_read(program, host):
+    status, out, lines = lab(host, program, free_ports(2))
+    check_equal("how it ends", (status, out), (0, b"lab ok\n"))
+    hosts = [line for line in lines if line.startswith(b"host")]
+    check_equal("what the hosts print", hosts, [b"host 1: held", b"host 2: " + b"0" * 1024, b"host 1: ok"])
+
+
+def a_target_that_ends_ends_the_lab(_, host):
+    check_ended(lab(host, "/bin/false", free_ports(2)))
+
+
+def a_target_that_is_no_program_ends_the_lab(_, host):
+    check_ended(lab(host, "/nonexistent/nvt_target", free_ports(2)))
+
+
+def a_target_that_does_not_listen_ends_the_lab(_, host):
+    with tempfile.TemporaryDirectory(prefix="sockets-") as folder:
+        silent = Path(folder, "silent")
+        silent.write_text("#!/bin/sh\nexec sleep 60\n")
+        silent.chmod(0o755)
+        check_ended(lab(host, silent, free_ports(2), turns=200))
+
+
+def a_port_that_is_taken_ends_the_lab(program, host):
+    with socket.create_server(("127.0.0.1", 0)) as taken:
+        [control] = free_ports(1)
+        ran = lab(host, program, (taken.getsockname()[1], control), turns=12_000)
+        check(b"host 1: error: turns" in ran[2], "host 1 waits for its turns")
+        check_ended(ran)
+
+
+TESTS = [
+    a_held_write_changes_nothing_that_is_read,
+    a_target_that_ends_ends_the_lab,
+    a_target_that_is_no_program_ends_the_lab,
+    a_target_that_does_not_listen_ends_the_lab,
+    a_port_that_is_taken_ends_the_lab,
+]

@@ -1,0 +1,65 @@
+//! The lab.
+use crate::children::{end, started};
+use crate::control::configure;
+use crate::hosts::run_hosts;
+use std::io::{self, Eprint};
+use std::net::Net;
+use std::process::{Child, Command, Processes, Stdio};
+use std::rt::Clock;
+use thiserror::Error;
+
+/// Something went otherwise than it has to. What the processes printed says what.
+#[derive(Clone, Copy, Debug, PartialEq, Eq, Error)]
+#[error("lab")]
+pub struct LabFault;
+
+/// What is run, and where it meets.
+#[derive(Clone, Copy)]
+pub struct Plan<'a> {
+    /// The program of the target, and that of the hosts.
+    pub target: &'a str,
+    pub host: &'a str,
+    /// The ports of 127.0.0.1 for hosts and for edits.
+    pub port: u16,
+    pub control: u16,
+    /// Each process takes at most so many turns, and the first connection as many tries.
+    pub turns: u64,
+}
+
+/// Starts the target, and has two hosts write and read beside each other.
+pub fn lab<R: Processes + Net + Clock + Eprint + AllocGlobal>(
+    rt: &R,
+    plan: &Plan<'_>,
+) -> Result<(), LabFault> {
+    let mut target = started(start_target(rt, plan))?;
+    let ran = with_target(rt, plan, &mut target);
+    end(rt, "target", &mut target)?;
+    ran
+}
+
+fn start_target<R: Processes + AllocGlobal>(
+    rt: &R,
+    plan: &Plan<'_>,
+) -> io::Result<Child<R::Started>> {
+    let (control, turns) = (plan.control, plan.turns);
+    let mut command = Command::new(rt.alloc(), plan.target)?;
+    command.arg("run")?;
+    command.arg("/dev/null")?;
+    command.arg("--control")?;
+    command.arg(format!(in rt.alloc(); "{control}")?.as_str())?;
+    command.arg("--turns")?;
+    command.arg(format!(in rt.alloc(); "{turns}")?.as_str())?;
+    command.stdin(Stdio::null());
+    command.stdout(Stdio::piped());
+    command.stderr(Stdio::piped());
+    command.spawn(rt)
+}
+
+fn with_target<R: Processes + Net + Clock + Eprint + AllocGlobal>(
+    rt: &R,
+    plan: &Plan<'_>,
+    target: &mut Child<R::Started>,
+) -> Result<(), LabFault> {
+    configure(rt, plan, target)?;
+    run_hosts(rt, plan)
+}

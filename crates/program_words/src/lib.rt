@@ -1,0 +1,9 @@
+//! What the command lines of programs have in common: the words of the process, a command that is declared part by part,
+//! and how a program ends whose words are none of its commands.
+#![tactic(auto)]
+
+mod declared;
+mod given;
+
+pub use declared::{port_option, turns, with, with_command};
+pub use given::{Refusal, parsed, refusal_of, take_words};
