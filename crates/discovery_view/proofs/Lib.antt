@@ -1,8 +1,13 @@
 pub mod Bytes
+pub mod Catalogs
 pub mod Comparisons
 pub mod Counts
 pub mod Listings
 pub mod Orders
 pub mod Pages
+pub mod Plans
+pub mod Reaches
+pub mod Rows
+pub mod Strangers
 pub mod Told
 pub mod Walks

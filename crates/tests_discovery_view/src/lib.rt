@@ -9,6 +9,8 @@ mod counts;
 #[cfg(test)]
 mod followed;
 #[cfg(test)]
+mod formed;
+#[cfg(test)]
 mod pages;
 #[cfg(test)]
 mod plain;
