@@ -1,5 +1,5 @@
 //! The ANA groups of one subsystem on one port, ready.
-ghost use Rattle.std.specs.Prelude.{◌≡◌, [], IfOk};
+ghost use Rattle.std.specs.Prelude.{◌≡◌, IfOk};
 ghost use Rattle.ana_view.specs.Tables.{listing_of, nsids_of};
 ghost use Rattle.ana_view.specs.View.{AreFew};
 
@@ -83,15 +83,6 @@ impl GroupList {
             }
         }
         Ok(GroupList { groups: list })
-    }
-
-    /// No group.
-    pub(crate) fn none(alloc: Global) -> GroupList
-        ensures { result ≡ [] }
-    {
-        GroupList {
-            groups: Vec::new(alloc),
-        }
     }
 
     /// All of them.

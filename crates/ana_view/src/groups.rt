@@ -34,13 +34,13 @@ impl<'a> Groups<'a> {
     }
 
     /// Those of a configuration on a port for which no state was set.
-    pub(crate) fn plain(config: &'a Config, subsystem: &[u8]) -> Groups<'a>
+    pub(crate) fn plain(config: &'a Config, nqn: &[u8]) -> Groups<'a>
         ensures { (group : ℕ) → group < 33 → descriptor_of result group
-            ≡ descriptor_with group Optimized (members config.now subsystem.now group) }
+            ≡ descriptor_with group Optimized (members config.now nqn.now group) }
     {
         Groups {
-            namespaces: NamespaceTable::of(config.namespaces(), subsystem),
-            states: StateTable::of(&[], subsystem, 0),
+            namespaces: NamespaceTable::of(config.namespaces(), nqn),
+            states: StateTable::of(&[], nqn, 0),
         }
     }
 
