@@ -12,6 +12,17 @@ invariant_of-self-2 g c = record {
   shows = rw (made_same _ _ _ c.in_ok-plans.ensures.new (c.in_ok-change.ensures.makes ∙ ap Ok (sym c.commit.ensures))) at c.commit-2.ensures.of;
 }
 
+-- where the configuration wants memory, the views are those that they were
+pub invariant_of-self-in_err-change : goal.invariant_of-self-in_err-change
+invariant_of-self-in_err-change g c = record {
+  tables = c.self.invariant.tables;
+  units = c.self.invariant.units;
+  shows = c.prepare.ensures.stays c.self.inside.config c.self.invariant.shows;
+}
+
+pub returns-in_err-change-clause-err : goal.returns-in_err-change-clause-err
+returns-in_err-change-clause-err g c = rw (← c.self.view_is, c.prepare.ensures.kept) refl
+
 pub returns-clause-ok : goal.returns-clause-ok
 returns-clause-ok g c = rw (← c.self.view_is) (c.in_ok-change.ensures.makes ∙ ap Ok (sym c.commit.ensures))
 
