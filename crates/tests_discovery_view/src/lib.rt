@@ -16,3 +16,5 @@ mod pages;
 mod plain;
 #[cfg(test)]
 mod random;
+#[cfg(test)]
+mod reach;
