@@ -11,3 +11,10 @@ pub mod Rows
 pub mod Strangers
 pub mod Told
 pub mod Walks
+pub mod Changing
+pub mod Ordering
+pub mod Least
+pub mod Splitting
+pub mod Records
+pub mod Named
+pub mod Reaching

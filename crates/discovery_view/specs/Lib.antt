@@ -1,4 +1,5 @@
 pub mod Catalog
+pub mod Forming
 pub mod Listing
 pub mod Order
 pub mod Page

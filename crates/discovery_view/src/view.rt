@@ -7,6 +7,7 @@ ghost use Rattle.discovery_view.specs.Plan.{IsPlannedFor, LeadsTo, rows_after, s
 ghost use Rattle.discovery_view.specs.Plan.{slots_after};
 ghost use Rattle.discovery_view.specs.Ready.{AreOf};
 ghost use Rattle.discovery_view.specs.Catalog.{catalog_of, no_parts};
+ghost use Rattle.discovery_view.specs.Forming.{reach};
 ghost use Rattle.discovery_view.specs.Record.{record_of};
 ghost use Rattle.discovery_view.specs.View.{ShowsFirst, ShowsNext, count_in, page_in};
 ghost use Rattle.discovery_view.specs.View.{records_in, row_in};
@@ -88,8 +89,8 @@ impl<F: Former + Drop> DiscoveryView<F> {
     }
 
     /// Takes all the memory to go over to the configuration that an edit makes of this one, which is
-    /// the one that the view shows, and forms the records that are new. Every answer but `formed` is as
-    /// before, also after want of memory.
+    /// the one that the view shows, and forms the records that are new: no more than the edit reaches.
+    /// Every answer but `formed` is as before, also after want of memory.
     pub fn prepare(&mut self, config: &Config, edit: &Edit) -> Result<Plan<F>, AllocError>
         requires accepted { IsOk (accept config.now edit.now) }
         requires of { AreOf config.now self.old.slots self.old.rows }
@@ -98,11 +99,14 @@ impl<F: Former + Drop> DiscoveryView<F> {
         ensures planned { IfOk result (λ plan.
             IsPlannedFor self.new.slots self.new.rows self.new.room plan) }
         ensures formed { IfOk result (λ plan. self.new.formed ≤ self.old.formed + length plan.fresh) }
+        ensures reach { self.new.formed ≤ self.old.formed + reach config.now edit.now }
         ensures unformed { OnErr result (self.new.formed ≡ self.old.formed) }
         ensures kept { self.new.shown ≡ self.old.shown }
         ensures slots { self.new.slots ≡ self.old.slots }
         ensures rows { self.new.rows ≡ self.old.rows }
     {
+        // prover: a configuration is valid, and so an edit forms no more than it reaches.
+        config.units();
         let lists = self.lists.prepare(self.alloc, config, edit)?;
         self.formed.reserve(lists.fresh().len())?;
         let fresh = form_all(self.alloc, &mut self.former, lists.fresh())?;
