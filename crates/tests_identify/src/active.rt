@@ -37,7 +37,7 @@ fn is_lent(nsids: &[u32], above: u32, list: &[u8]) -> bool {
     for nsid in nsids {
         if *nsid > above {
             let (front, rest) = left.split_at(left.len().min(4));
-            if *front != nsid.to_le_bytes() {
+            if front != nsid.to_le_bytes().as_slice() {
                 return false;
             }
             left = rest;
