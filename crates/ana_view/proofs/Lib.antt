@@ -3,4 +3,4 @@ pub mod Listings
 pub mod Members
 pub mod Numbers
 pub mod Pages
-pub mod Views
+pub mod Ready

@@ -1,17 +1,21 @@
 -- The namespaces in a group, by a table.
-use Rattle.std.proofs.Common.{◌&&◌, ◌-◌, ◌+◌, ◌≡◌, ◌≢◌, ℕ, zero, suc, ◌<◌, ◌≤◌, ◌==◌, Bool, true, false, not, List, [], ◌∷◌, filter, find, get_or, length, None, refl, ap, sym, ◌∙◌, arith, inl, inr, length-append}
+use Rattle.std.proofs.Common.{◌&&◌, ◌-◌, ◌+◌, ◌≡◌, ◌≢◌, ℕ, zero, suc, ◌<◌, ◌≤◌, ◌==◌, Bool, true, false, not, List, [], ◌∷◌, All, filter, find, get_or, length, None, refl, ap, sym, ◌∙◌, arith, inl, inr, length-append}
 use Rattle.std.proofs.Math.Bool.{beq}
 use Rattle.std.proofs.lemmas.Bool.{cases_Bool}
 use Rattle.std.proofs.lemmas.Bool.Decides.{nat_tests}
+use Rattle.std.proofs.lemmas.List.Elements.{All-cons, All-nil}
+use Rattle.std.specs.List.{cons_option, filter_map}
 use Rattle.std.specs.Prelude.{if◌then◌else◌}
 use Rattle.config_lists.specs.declared.group_state.AnaState.{AnaState}
+use Rattle.config_lists.specs.declared.group_state.AnaState.TheVariants.{Optimized}
 use Rattle.config_lists.specs.GroupState.{state_for}
 use Rattle.config_lists.specs.Namespace.{is_named}
 use Rattle.config_rules.specs.Configuration.{Configuration}
 use Rattle.config_words.specs.Numbered.{numbers_from}
-use Rattle.ana_view.specs.Group.{are_same, are_same_numbers, descriptor, descriptor_with, is_in_group, members, state_code}
+use Rattle.ana_view.specs.Group.{Descriptor, are_same, are_same_numbers, descriptor, descriptor_with, is_in_group, listed_by, members, state_code}
 use Rattle.ana_view.specs.declared.groups.Groups.{Groups}
-use Rattle.ana_view.specs.Tables.{descriptor_of, is_member, nsids_of, state_of}
+use Rattle.ana_view.specs.Tables.{descriptor_of, is_member, listing_of, nsids_of, state_of}
+use Rattle.ana_view.specs.View.{AreFew}
 use Rattle.ana_view.proofs.Numbers.{dropped_next, few_kept, kept_alike, kept_next}
 
 pub same_is_same : (ns : List ℕ) → are_same_numbers ns ns ≡ true
@@ -105,6 +109,15 @@ table_descriptor c subsystem port t group found state =
     ap (λ s. descriptor_with group s (nsids_of t group)) state
     ∙ ap (descriptor_with group (state_for port subsystem group c.states)) (table_members c subsystem t group found)
 
+-- .. where no state is set
+pub plain_descriptor : (c : Configuration) (subsystem : List ℕ) (t : Groups) (group : ℕ)
+    → ((nsid : ℕ) → nsid < 1025 → get_or t.namespaces nsid None ≡ find (is_named subsystem nsid) c.namespaces)
+    → state_of t group ≡ Optimized
+    → descriptor_of t group ≡ descriptor_with group Optimized (members c subsystem group)
+plain_descriptor c subsystem t group found state =
+    ap (λ s. descriptor_with group s (nsids_of t group)) state
+    ∙ ap (descriptor_with group Optimized) (table_members c subsystem t group found)
+
 -- ---- how many there are
 
 -- lists of different lengths are not the same
@@ -136,3 +149,21 @@ sizes_next p k o n above more so_far = by_test (p k) refl more where
   by_test : (b : Bool) → p k ≡ b → n ≡ (if b then o + 1 else o) → n ≡ length (filter p (numbers_from 1 (k + 1 - 1)))
   by_test true there is = rw (kept_next p k above there) (omega (arith, length-append (filter p (numbers_from 1 (k - 1))) (k ∷ []), so_far, is))
   by_test false absent is = rw (dropped_next p k above absent) (is ∙ so_far)
+
+-- ---- a listing is short
+
+few_listed : (t : Groups) (first n : ℕ) → (length (filter_map (descriptor_of t) (numbers_from first n)) ≤ n) × All (λ g. length g.nsids ≤ 1024) (filter_map (descriptor_of t) (numbers_from first n))
+few_listed t first zero = (omega arith, All-nil (λ (g : Descriptor). length g.nsids ≤ 1024))
+few_listed t first (suc n) = by_nsids (nsids_of t first) (few_members t first) (few_listed t (suc first) n) where
+  rest : List Descriptor
+  rest = filter_map (descriptor_of t) (numbers_from (suc first) n)
+
+  by_nsids : (nsids : List ℕ) → length nsids ≤ 1024 → (length rest ≤ n) × All (λ g. length g.nsids ≤ 1024) rest
+      → (length (cons_option (descriptor_with first (state_of t first) nsids) rest) ≤ suc n) × All (λ g. length g.nsids ≤ 1024) (cons_option (descriptor_with first (state_of t first) nsids) rest)
+  by_nsids [] short (few, nsids) = (omega arith, nsids)
+  by_nsids (m ∷ ms) short (few, nsids) =
+      (omega arith, All-cons (λ (g : Descriptor). length g.nsids ≤ 1024) (record { id = first; state = state_of t first; nsids = m ∷ ms }) rest short nsids)
+
+pub listing_is_few : (t : Groups) → AreFew (listing_of t)
+unfolding listed_by
+listing_is_few t = let both = few_listed t 1 32 in record { groups = both.0; nsids = both.1 }

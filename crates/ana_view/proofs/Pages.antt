@@ -1,5 +1,6 @@
 -- The page as it goes on.
-use Rattle.std.proofs.Common.{◌≡◌, ℕ, ◌+◌, ◌-◌, ◌*◌, ◌<◌, ◌≤◌, Bool, true, false, Some, None, List, [], ◌∷◌, ◌++◌, filter, length, replicate, refl, ap, sym, ◌∙◌, arith, append_assoc, length-append}
+use Rattle.std.proofs.Common.{◌≡◌, ℕ, ◌+◌, ◌-◌, ◌*◌, ◌<◌, ◌≤◌, Bool, true, false, Some, None, List, [], ◌∷◌, ◌++◌, filter, length, suc, take, get_or, replicate, refl, ap, sym, ◌∙◌, arith, append_assoc, length-append}
+use Rattle.std.proofs.Math.Seq.{take-suc}
 use Rattle.std.proofs.lemmas.List.{append-nil}
 use Rattle.std.proofs.lemmas.List.Concat.{flat_map-append}
 use Rattle.std.proofs.lemmas.List.Elements.{filter_map-append}
@@ -21,10 +22,15 @@ pub length-nsid_bytes : (nsids : List ℕ) → length (nsid_bytes nsids) ≡ 4 *
 length-nsid_bytes [] = refl
 length-nsid_bytes (n ∷ nsids) = omega (arith, length-append (to_le_bytes w32 n) (nsid_bytes nsids), length-nsid_bytes nsids)
 
--- one identifier more
-pub nsid_next : (p : ℕ → Bool) (k : ℕ) → 1 ≤ k → p k ≡ true
-    → nsid_bytes (filter p (numbers_from 1 (k + 1 - 1))) ≡ nsid_bytes (filter p (numbers_from 1 (k - 1))) ++ to_le_bytes w32 k
-nsid_next p k above there = ap nsid_bytes (kept_next p k above there) ∙ rw (flat_map-append, append-nil) refl
+-- one item more
+pub take_next : {X : Type 0} (xs : List X) (i : ℕ) (x : X) → i < length xs → x ≡ get_or xs i x → take (i + 1) xs ≡ take i xs ++ x ∷ []
+take_next {X = X} xs i x below is =
+    let one : i + 1 ≡ suc i = omega arith in
+    ap (λ k. take k xs) one ∙ take-suc xs i x below ∙ ap (λ (y : X). take i xs ++ y ∷ []) (sym is)
+
+pub nsid_next : (nsids : List ℕ) (i n : ℕ) → i < length nsids → n ≡ get_or nsids i n
+    → nsid_bytes (take (i + 1) nsids) ≡ nsid_bytes (take i nsids) ++ to_le_bytes w32 n
+nsid_next nsids i n below is = ap nsid_bytes (take_next nsids i n below is) ∙ rw (flat_map-append, append-nil) refl
 
 pub all_nsids : (t : Groups) (group n : ℕ) → n ≡ 1024 → filter (λ k. is_member t.namespaces k group) (numbers_from 1 n) ≡ nsids_of t group
 unfolding nsids_of

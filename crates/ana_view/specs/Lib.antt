@@ -1,3 +1,4 @@
+pub mod Bodies
 pub mod Changes
 pub mod Counts
 pub mod Group

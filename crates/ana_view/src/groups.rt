@@ -1,7 +1,9 @@
 //! The ANA groups that the controllers of one subsystem on one port show.
 ghost use Rattle.std.specs.Prelude.{◌≡◌, ◌≤◌, ◌<◌, ◌+◌, ℕ, if◌then◌else◌, length, slice_index};
 ghost use Rattle.std.specs.Option.{option_copied};
-ghost use Rattle.ana_view.specs.Group.{are_same, are_same_numbers, descriptor, is_in_group};
+ghost use Rattle.config_lists.specs.declared.group_state.AnaState.TheVariants.{Optimized};
+ghost use Rattle.ana_view.specs.Group.{are_same, are_same_numbers, descriptor, descriptor_with};
+ghost use Rattle.ana_view.specs.Group.{is_in_group, members};
 
 use crate::state::state_code;
 use config_tables::{GROUP_END, NSID_END, NamespaceTable, StateTable};
@@ -28,6 +30,17 @@ impl<'a> Groups<'a> {
         Groups {
             namespaces: NamespaceTable::of(config.namespaces(), subsystem),
             states: StateTable::of(config.states(), subsystem, port),
+        }
+    }
+
+    /// Those of a configuration on a port for which no state was set.
+    pub(crate) fn plain(config: &'a Config, nqn: &[u8]) -> Groups<'a>
+        ensures { (group : ℕ) → group < 33 → descriptor_of result group
+            ≡ descriptor_with group Optimized (members config.now nqn.now group) }
+    {
+        Groups {
+            namespaces: NamespaceTable::of(config.namespaces(), nqn),
+            states: StateTable::of(&[], nqn, 0),
         }
     }
 

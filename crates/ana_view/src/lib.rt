@@ -4,7 +4,9 @@
 //! and no command.
 #![tactic(auto)]
 
+mod bodies;
 pub mod counts;
+pub mod group_list;
 mod groups;
 pub mod laws;
 mod page;
@@ -12,4 +14,5 @@ mod state;
 pub mod view;
 
 pub use counts::AnaCounts;
+pub use group_list::AnaGroup;
 pub use view::{AnaView, Plan};

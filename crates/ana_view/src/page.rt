@@ -4,12 +4,11 @@ ghost use Rattle.nvt_fields.specs.Window.{window};
 ghost use Rattle.ana_view.specs.Counts.{Counts, count_in};
 ghost use Rattle.ana_view.specs.Group.{state_code};
 ghost use Rattle.ana_view.specs.Page.{ana_page, descriptor_bytes, descriptor_head, nsid_bytes};
-ghost use Rattle.ana_view.specs.Tables.{listing_of, nsids_of, shown_of, state_of};
+ghost use Rattle.ana_view.specs.View.{AreFew};
 
 use crate::counts::AnaCounts;
-use crate::groups::Groups;
+use crate::group_list::AnaGroup;
 use crate::state::state_code;
-use config_tables::{GROUP_END, NSID_END};
 use nvt_fields::write_part;
 
 const HEADER_LEN: u64 = 16;
@@ -22,92 +21,69 @@ const NSID_LEN: u64 = 4;
 pub(crate) fn write_page(
     out: &mut [u8],
     offset: u64,
-    groups: &Groups<'_>,
+    groups: &[AnaGroup],
     counts: &AnaCounts,
     groups_only: bool,
 )
-    ensures { out.new ≡ window (ana_page groups_only counts.now (listing_of groups.now)) offset
+    requires { AreFew groups.now }
+    ensures { out.new ≡ window (ana_page groups_only counts.now groups.now) offset
         (length out.old) }
 {
     out.fill(0);
     write_part(out, offset, 0, &counts.changes().to_le_bytes());
-    write_part(out, offset, 8, &listed(groups).to_le_bytes());
-    let sizes = groups.sizes();
+    write_part(out, offset, 8, &(groups.len() as u16).to_le_bytes());
     let mut at = HEADER_LEN;
-    for group in 1..GROUP_END {
-        let count = sizes[group as usize];
-        if count > 0 {
-            write_group(out, offset, at, groups, counts, group, count, groups_only);
-            at += descriptor_len(count, groups_only);
-        }
+    for group in groups {
+        write_group(out, offset, at, group, counts, groups_only);
+        at += descriptor_len(group, groups_only);
     }
 }
 
 /// The length of the page of these groups, in bytes.
-pub(crate) fn page_len(groups: &Groups<'_>, groups_only: bool) -> u64
-    ensures { (counts : Counts) → result
-        ≡ length (ana_page groups_only counts (listing_of groups.now)) }
+pub(crate) fn page_len(groups: &[AnaGroup], groups_only: bool) -> u64
+    requires { AreFew groups.now }
+    ensures { (counts : Counts) → result ≡ length (ana_page groups_only counts groups.now) }
 {
-    let sizes = groups.sizes();
     let mut len = HEADER_LEN;
-    for group in 1..GROUP_END {
-        let count = sizes[group as usize];
-        if count > 0 {
-            len += descriptor_len(count, groups_only);
-        }
+    for group in groups {
+        len += descriptor_len(group, groups_only);
     }
     len
 }
 
-// How many groups are listed.
-fn listed(groups: &Groups<'_>) -> u16
-    ensures { result ≡ length (listing_of groups.now) }
-{
-    let sizes = groups.sizes();
-    let mut listed = 0;
-    for group in 1..GROUP_END {
-        if sizes[group as usize] > 0 {
-            listed += 1;
-        }
-    }
-    listed
-}
-
-// How many bytes the descriptor of a group of so many namespaces has.
-fn descriptor_len(count: u32, groups_only: bool) -> u64
-    ensures { result ≡ (if groups_only then 32 else 32 + 4 * count) }
+// How many bytes the descriptor of a group has.
+fn descriptor_len(group: &AnaGroup, groups_only: bool) -> u64
+    requires { length group.now.nsids ≤ 1024 }
+    ensures { result ≡ (if groups_only then 32 else 32 + 4 * length group.now.nsids) }
 {
     if groups_only {
         DESCRIPTOR_LEN
     } else {
-        DESCRIPTOR_LEN + NSID_LEN * u64::from(count)
+        DESCRIPTOR_LEN + NSID_LEN * group.nsids().len() as u64
     }
 }
 
-// Goes on with a page of `at` bytes, of which `out` shows a part: with the descriptor of the group,
-// of so many namespaces.
+// Goes on with a page of `at` bytes, of which `out` shows a part: with the descriptor of the group.
 fn write_group(
     out: &mut [u8],
     offset: u64,
     at: u64,
-    groups: &Groups<'_>,
+    group: &AnaGroup,
     counts: &AnaCounts,
-    group: u32,
-    count: u32,
     groups_only: bool,
 )
     requires place { at ≤ 2 ^ 32 }
-    requires count { count ≡ length (nsids_of groups.now group) }
+    requires few { length group.now.nsids ≤ 1024 }
     ensures { (page : List ℕ) → length page ≡ at → out.old ≡ window page offset (length out.old)
-        → out.new ≡ window
-        (page ++ descriptor_bytes groups_only counts.now (shown_of groups.now group)) offset
+        → out.new ≡ window (page ++ descriptor_bytes groups_only counts.now group.now) offset
         (length out.old) }
 {
     if groups_only {
-        write_head(out, offset, at, groups, counts, group, 0);
+        write_head(out, offset, at, group, counts, 0);
     } else {
-        write_head(out, offset, at, groups, counts, group, count);
-        write_members(out, offset, at + DESCRIPTOR_LEN, groups, group);
+        let nsids = group.nsids();
+        write_head(out, offset, at, group, counts, nsids.len() as u32);
+        write_nsids(out, offset, at + DESCRIPTOR_LEN, nsids);
     }
 }
 
@@ -116,37 +92,35 @@ fn write_head(
     out: &mut [u8],
     offset: u64,
     at: u64,
-    groups: &Groups<'_>,
+    group: &AnaGroup,
     counts: &AnaCounts,
-    group: u32,
     count: u32,
 )
     ensures { (page : List ℕ) → length page ≡ at → out.old ≡ window page offset (length out.old)
-        → out.new ≡ window (page ++ descriptor_head group count (count_in counts.now.groups group)
-        (state_code (state_of groups.now group))) offset (length out.old) }
+        → out.new ≡ window (page ++ descriptor_head group.now.id count
+        (count_in counts.now.groups group.now.id) (state_code group.now.state)) offset
+        (length out.old) }
 {
     let head = Head {
-        group,
+        group: group.id(),
         count,
-        changes: counts.of(group),
-        state: state_code(groups.state(group)),
+        changes: counts.of(group.id()),
+        state: state_code(group.state()),
     };
     write_part(out, offset, at, &head.bytes());
 }
 
-// .. with the identifiers of the namespaces in the group.
-fn write_members(out: &mut [u8], offset: u64, at: u64, groups: &Groups<'_>, group: u32)
-    requires { at ≤ 2 ^ 33 }
+// .. with identifiers.
+fn write_nsids(out: &mut [u8], offset: u64, at: u64, nsids: &[u32])
+    requires place { at ≤ 2 ^ 33 }
+    requires few { length nsids.now ≤ 1024 }
     ensures { (page : List ℕ) → length page ≡ at → out.old ≡ window page offset (length out.old)
-        → out.new ≡ window (page ++ nsid_bytes (nsids_of groups.now group)) offset
-        (length out.old) }
+        → out.new ≡ window (page ++ nsid_bytes nsids.now) offset (length out.old) }
 {
     let mut next = at;
-    for nsid in 1..NSID_END {
-        if groups.has(nsid, group) {
-            write_part(out, offset, next, &nsid.to_le_bytes());
-            next += NSID_LEN;
-        }
+    for &nsid in nsids {
+        write_part(out, offset, next, &nsid.to_le_bytes());
+        next += NSID_LEN;
     }
 }
 

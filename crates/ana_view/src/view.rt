@@ -1,22 +1,30 @@
 //! A view of the ANA groups: it follows the edits of a configuration and writes the log page of each
 //! controller.
-ghost use Rattle.std.specs.Prelude.{◌≡◌, ℕ, IfOk, IsOk, Ok, length};
+ghost use Rattle.std.specs.Prelude.{◌≡◌, ℕ, IfOk, IsOk, Ok, length, slice_get};
 ghost use Rattle.config_rules.specs.Accept.{accept};
 ghost use Rattle.nvt_fields.specs.Window.{window};
 ghost use Rattle.ana_view.specs.Counts.{Counts};
-ghost use Rattle.ana_view.specs.View.{ShowsAna, page_in};
+ghost use Rattle.ana_view.specs.Bodies.{IsAfter};
+ghost use Rattle.ana_view.specs.View.{ShowsAna, groups_in, page_in, shown_after};
+ghost use Rattle.std.specs.Option.{option_copied};
 
+use crate::bodies::Bodies;
 use crate::counts::AnaCounts;
-use crate::groups::Groups;
+use crate::group_list::AnaGroup;
 use crate::page::{page_len, write_page};
+use edit_reach::subsystem_reached;
 use nvt_config::{Config, Edit};
 use std::alloc::{AllocError, Global};
 use std::marker::Model;
 
 /// The ANA groups that the controllers of each subsystem on each port show.
+///
+/// They are ready: no call but `new` and `prepare` walks over a configuration, and nothing is kept of
+/// one.
 #[derive(Drop)]
 pub struct AnaView {
-    latest: Config,
+    alloc: Global,
+    bodies: Bodies,
 }
 
 impl Model for AnaView {
@@ -24,15 +32,17 @@ impl Model for AnaView {
 
     ghost Value = { Shown };
 
-    ghost view = { λ v. record { now = v.latest } };
+    ghost view = { λ v. v.bodies };
 }
 
-/// What an edit will make of a view: the configuration before it and the one after it, by which each
-/// controller counts what changes (`AnaCounts::note`).
+/// What an edit will make of a view: the groups after it, where it reaches a subsystem's. With it are
+/// the configuration before the edit and the one after it, by which each controller counts what changes
+/// (`AnaCounts::note`).
 #[derive(Drop)]
 pub struct Plan {
     before: Config,
     next: Config,
+    bodies: Option<Bodies>,
 }
 
 impl Model for Plan {
@@ -40,7 +50,7 @@ impl Model for Plan {
 
     ghost Value = { Planned };
 
-    ghost view = { λ plan. record { old = plan.before; new = plan.next } };
+    ghost view = { λ plan. record { old = plan.before; new = plan.next; shown = plan.bodies } };
 }
 
 impl Plan {
@@ -60,35 +70,57 @@ impl Plan {
 }
 
 impl AnaView {
-    /// The view of a configuration, of which it keeps a copy.
-    pub fn new(_alloc: Global, config: &Config) -> Result<AnaView, AllocError>
+    /// The view of a configuration.
+    pub fn new(alloc: Global, config: &Config) -> Result<AnaView, AllocError>
         ensures { IfOk result (ShowsAna config.now) }
     {
-        Ok(AnaView {
-            latest: config.try_clone()?,
-        })
+        let bodies = Bodies::of(alloc, config)?;
+        Ok(AnaView { alloc, bodies })
     }
 
-    /// Takes all the memory to go over to the configuration that an edit makes of this one. Every
-    /// answer is as before, also after want of memory.
+    /// Takes all the memory to go over to what an edit makes of the configuration that the view shows.
+    /// Every answer is as before, also after want of memory.
     pub fn prepare(&mut self, config: &Config, edit: &Edit) -> Result<Plan, AllocError>
         requires { IsOk (accept config.now edit.now) }
         ensures old { IfOk result (λ plan. plan.old ≡ config.now) }
         ensures new { IfOk result (λ plan. accept config.now edit.now ≡ Ok plan.new) }
+        ensures next { ShowsAna config.now self.old
+            → IfOk result (λ plan. ShowsAna plan.new (shown_after self.old plan)) }
         ensures kept { self.new ≡ self.old }
     {
         let before = config.try_clone()?;
         let next = edited(config, edit)?;
-        Ok(Plan { before, next })
+        let bodies = bodies_after(self.alloc, edit, &next)?;
+        Ok(Plan {
+            before,
+            next,
+            bodies,
+        })
     }
 
     /// Goes over to what was prepared last. Takes no memory.
     pub fn commit(&mut self, plan: Plan)
-        ensures { ShowsAna plan.new self.new }
+        ensures { self.new ≡ shown_after self.old plan }
     {
-        let Plan { before, next } = plan;
+        let Plan {
+            before,
+            next,
+            bodies,
+        } = plan;
         drop(before);
-        self.latest = next;
+        drop(next);
+        if let Some(bodies) = bodies {
+            self.bodies = bodies;
+        }
+    }
+
+    /// The group of this number, from 0, of those that a controller of that subsystem on that port
+    /// shows.
+    pub fn group(&self, subsystem: &[u8], port: u16, index: usize) -> Option<&AnaGroup>
+        ensures { option_copied result
+            ≡ slice_get (groups_in self.now subsystem.now port) index }
+    {
+        self.bodies.get(subsystem, port).get(index)
     }
 
     /// Fills `out` with the Asymmetric Namespace Access log page (Base 2.0, section 5.16.1.13) of a
@@ -106,8 +138,13 @@ impl AnaView {
         ensures { out.new ≡ window (page_in self.now subsystem.now port counts.now groups_only)
             offset (length out.old) }
     {
-        let groups = Groups::of(&self.latest, subsystem, port);
-        write_page(out, offset, &groups, counts, groups_only);
+        write_page(
+            out,
+            offset,
+            self.bodies.get(subsystem, port),
+            counts,
+            groups_only,
+        );
     }
 
     /// The length of that page in bytes.
@@ -115,7 +152,7 @@ impl AnaView {
         ensures { (counts : Counts) → result
             ≡ length (page_in self.now subsystem.now port counts groups_only) }
     {
-        page_len(&Groups::of(&self.latest, subsystem, port), groups_only)
+        page_len(self.bodies.get(subsystem, port), groups_only)
     }
 }
 
@@ -128,4 +165,16 @@ fn edited(config: &Config, edit: &Edit) -> Result<Config, AllocError>
     let change = next.prepare(edit)?;
     next.commit(change);
     Ok(next)
+}
+
+// What is ready after an edit that made this configuration: nothing else than before where the edit
+// reaches no subsystem.
+fn bodies_after(alloc: Global, edit: &Edit, next: &Config) -> Result<Option<Bodies>, AllocError>
+    ensures { IfOk result (λ bodies. IsAfter edit.now next.now bodies) }
+{
+    if subsystem_reached(edit).is_none() {
+        return Ok(None);
+    }
+    let bodies = Bodies::of(alloc, next)?;
+    Ok(Some(bodies))
 }

@@ -1,3 +1,4 @@
 pub mod Changed
 pub mod Lists
 pub mod Pages
+pub mod Ready

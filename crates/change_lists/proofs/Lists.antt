@@ -16,12 +16,7 @@ use Rattle.config_rules.specs.Configuration.{Configuration}
 use Rattle.config_rules.specs.Valid.{IsNamespace, IsValid}
 use Rattle.config_words.specs.Numbered.{active_nsids, is_there, numbers_from}
 use Rattle.change_lists.specs.ActiveList.{IsActive, IsActiveList, NsidsAreListed, nsids_above}
-use Rattle.change_lists.specs.ActiveView.{Shown, ShowsActive, nsids_in}
 use Rattle.change_lists.proofs.Pages.{few_from, length-kept, length-page}
-
-pub shows_active : (c : Configuration) (v : Shown) → v ≡ record { now = c } → ShowsActive c v
-unfolding nsids_in
-shows_active c v is = rw is (record { nsids = λ subsystem. refl })
 
 -- numbers in a row rise, and are those between two
 All-above : (low first n : ℕ) → low < first → All (λ m. low < m) (numbers_from first n)

@@ -1,25 +1,20 @@
 //! The bytes of the Active Namespace ID list (Base 2.0, section 5.17.2.2).
 ghost use Rattle.std.specs.Prelude.{◌≡◌, length};
-ghost use Rattle.config_words.specs.Numbered.{active_nsids};
 ghost use Rattle.nvt_fields.specs.Window.{window};
 ghost use Rattle.change_lists.specs.ActiveList.{NsidsAreListed, list_page, nsids_above};
 
-use nvt_config::Config;
 use nvt_fields::write_part;
 
 // How many bytes an identifier has.
 const NSID_LEN: u64 = 4;
 
-/// Fills `out` with the list of a subsystem's namespaces above an identifier, and with zeros past its
-/// end.
-pub(crate) fn write_list(out: &mut [u8], config: &Config, subsystem: &[u8], above: u32)
-    ensures { out.new ≡ window
-        (list_page (nsids_above above (active_nsids config.now.namespaces subsystem.now))) 0
-        (length out.old) }
+/// Fills `out` with those of a list that are above an identifier, and with zeros past their end.
+pub(crate) fn write_list(out: &mut [u8], nsids: &[u32], above: u32)
+    ensures { out.new ≡ window (list_page (nsids_above above nsids.now)) 0 (length out.old) }
 {
     out.fill(0);
     let mut at = 0;
-    for nsid in config.active_nsids(subsystem) {
+    for &nsid in nsids {
         if nsid > above {
             write_part(out, 0, at, &nsid.to_le_bytes());
             at += NSID_LEN;

@@ -3,6 +3,7 @@
 #![tactic(auto)]
 
 pub mod active_list;
+mod active_lists;
 pub mod active_view;
 pub mod changed_set;
 mod differences;

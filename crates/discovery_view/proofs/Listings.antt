@@ -163,7 +163,7 @@ heads_apart a b x y rest =
       | inr differ ↦ elim differ [ inl less ↦ inl (grind (arith, nat_tests)) | inr more ↦ inr (grind (arith, nat_tests)) ]
     ]
 
-name_chain : (a b c : List ℕ) → name_below a b ≡ true → name_below b c ≡ true → name_below a c ≡ true
+pub name_chain : (a b c : List ℕ) → name_below a b ≡ true → name_below b c ≡ true → name_below a c ≡ true
 name_chain [] [] c one other = absurd (cc)
 name_chain [] (b ∷ bs) [] one other = absurd (cc)
 name_chain [] (b ∷ bs) (c ∷ cs) one other = refl
@@ -172,14 +172,14 @@ name_chain (a ∷ more) (b ∷ bs) [] one other = absurd (cc)
 name_chain (a ∷ more) (b ∷ bs) (c ∷ cs) one other =
     heads_chain a b c (name_below more bs) (name_below bs cs) (name_below more cs) (name_chain more bs cs) one other
 
-name_apart : (a b : List ℕ) → a ≢ b → (name_below a b ≡ true) ⊎ (name_below b a ≡ true)
+pub name_apart : (a b : List ℕ) → a ≢ b → (name_below a b ≡ true) ⊎ (name_below b a ≡ true)
 name_apart [] [] differ = absurd (differ refl)
 name_apart [] (b ∷ bs) differ = inl refl
 name_apart (a ∷ more) [] differ = inr refl
 name_apart (a ∷ more) (b ∷ bs) differ =
     heads_apart a b (name_below more bs) (name_below bs more) (λ same. name_apart more bs (λ rest. differ (cc)))
 
-id_apart : (a b : ℕ) → a ≢ b → (nat_lt a b ≡ true) ⊎ (nat_lt b a ≡ true)
+pub id_apart : (a b : ℕ) → a ≢ b → (nat_lt a b ≡ true) ⊎ (nat_lt b a ≡ true)
 id_apart a b differ =
     elim (cases_order a b) [
       | inl same ↦ absurd (differ same)
@@ -187,13 +187,13 @@ id_apart a b differ =
     ]
 
 -- ports, or referrals, by their numbers
-numbers_rising : (ports : List Port) → ArePorts ports → AllPairs (λ p q. nat_lt p.id q.id ≡ true) (in_order (λ p q. nat_lt p.id q.id) ports)
+pub numbers_rising : (ports : List Port) → ArePorts ports → AllPairs (λ p q. nat_lt p.id q.id ≡ true) (in_order (λ p q. nat_lt p.id q.id) ports)
 numbers_rising ports valid =
     sorted_in_order (λ p q. nat_lt p.id q.id)
     (λ x y z one other. lt-ltb x.id z.id (omega (arith, ltb-true x.id y.id one, ltb-true y.id z.id other))) ports
     (λ i j d less below. id_apart _ _ (valid.distinct i j d less below))
 
-names_rising : (c : Configuration) → IsValid c → AllPairs (λ s t. name_below s.nqn t.nqn ≡ true) (subsystems_in_order c)
+pub names_rising : (c : Configuration) → IsValid c → AllPairs (λ s t. name_below s.nqn t.nqn ≡ true) (subsystems_in_order c)
 names_rising c valid =
     sorted_in_order (λ s t. name_below s.nqn t.nqn)
     (λ x y z one other. name_chain x.nqn y.nqn z.nqn one other) c.subsystems

@@ -179,7 +179,7 @@ six_parts a b c d e f all =
     let five = and_parts e f four.1 in
     (one.0, two.0, three.0, four.0, five.0, five.1)
 
-told_apart : (p q : Parts) → same_parts p q ≡ true → p ≡ q
+pub told_apart : (p q : Parts) → same_parts p q ≡ true → p ≡ q
 told_apart p q same =
     let tests = six_parts (subtype_code p.subtype == subtype_code q.subtype) (family_code p.family == family_code q.family) (p.port == q.port) (p.service == q.service) (bytes_eq p.nqn q.nqn) (bytes_eq p.address q.address) same in
     parts_same p q
@@ -188,7 +188,7 @@ told_apart p q same =
     (eqb-true p.port q.port tests.2) (eqb-true p.service q.service tests.3)
     ((bytes_decides p.nqn q.nqn).0 tests.4) ((bytes_decides p.address q.address).0 tests.5)
 
-own : (p : Parts) → same_parts p p ≡ true
+pub own : (p : Parts) → same_parts p p ≡ true
 own p =
     let subtype = eq-eqb (subtype_code p.subtype) (subtype_code p.subtype) refl in
     let family = eq-eqb (family_code p.family) (family_code p.family) refl in
@@ -198,7 +198,7 @@ own p =
     let address = (bytes_decides p.address p.address).1 refl in
     λ i. subtype i && (family i && (port i && (service i && (nqn i && address i))))
 
-parts_decide : (p q : Parts) → (same_parts p q ≡ true → p ≡ q) × (p ≡ q → same_parts p q ≡ true)
+pub parts_decide : (p q : Parts) → (same_parts p q ≡ true → p ≡ q) × (p ≡ q → same_parts p q ≡ true)
 parts_decide p q = (told_apart p q, λ same. subst (λ (r : Parts). same_parts p r ≡ true) same (own p))
 
 -- ---- lists of records

@@ -84,7 +84,7 @@ pub all_left : (c : Configuration) (host : List ℕ) (ports : List Port) (subsys
 all_left c host [] subsystems = refl
 all_left c host (port ∷ ports) subsystems = refl
 
-filter_bound : {X : Type 0} (test : X → Bool) (xs : List X) → length (filter test xs) ≤ length xs
+pub filter_bound : {X : Type 0} (test : X → Bool) (xs : List X) → length (filter test xs) ≤ length xs
 filter_bound test [] = omega arith
 filter_bound test (x ∷ xs) =
     elim (cases_Bool (test x)) [

@@ -1,6 +1,11 @@
+pub mod Catalog
+pub mod Forming
 pub mod Listing
 pub mod Order
 pub mod Page
+pub mod Plan
+pub mod Reach
+pub mod Ready
 pub mod Record
 pub mod Records
 pub mod Same

@@ -1,20 +1,31 @@
 -- A discovery view, as its callers see it: the records that each host is shown, and how often they changed.
 use Rattle.std.specs.Prelude.{◌≡◌, ℕ, ◌+◌, ◌%◌, ◌^◌, Bool, not, List, [], ◌∷◌, if◌then◌else◌}
+use Rattle.std.specs.Str.{bytes_eq}
 use Rattle.config_rules.specs.Configuration.{Configuration}
 use Rattle.discovery_view.specs.Page.{discovery_page}
 use Rattle.discovery_view.specs.Record.{Parts, same_records}
 use Rattle.discovery_view.specs.Records.{records_of}
 
--- What a view shows. Callers go by `records_in`, `count_in` and `page_in` alone: that it is kept as the
--- configurations since the beginning, those before the one of now the newest first, is the view's own.
-pub record Shown : Type 0 where
-  pub now : Configuration
-  pub past : List Configuration
+-- what a view has ready for a host: its records, and its generation counter
+pub record Row : Type 0 where
+  pub records : List Parts
+  pub count : ℕ
 
--- .. and for how many more edits it has room
-pub record ViewState : Type 0 where
-  pub shown : Shown
-  pub room : ℕ
+-- .. for the host of this name
+pub record Named (R : Type 0) : Type 0 where
+  pub name : List ℕ
+  pub row : R
+
+-- rows of hosts, and that of the strangers
+pub record Rows (R : Type 0) : Type 0 where
+  pub hosts : List (Named R)
+  pub strangers : R
+
+-- What a view shows: to each host whose name was ever added its own row, and to every other, a stranger, the row
+-- of the strangers. Callers go by `records_in`, `count_in` and `page_in` alone: that it is kept as these rows is the
+-- view's own.
+abbrev pub Shown : Type 0
+Shown = Rows Row
 
 -- whether a change from one configuration to another changes the host's records
 abbrev pub changes_discovery : Configuration → Configuration → List ℕ → Bool
@@ -24,18 +35,21 @@ changes_discovery old new host = not (same_records (records_of old host) (record
 abbrev pub changes_records : Configuration → Configuration → List ℕ → ℕ
 changes_records old new host = if same_records (records_of old host) (records_of new host) then 0 else 1
 
--- how many of the changes from each of these configurations to the one after it changed the host's records
-abbrev pub changes_until : Configuration → List Configuration → List ℕ → ℕ
-changes_until c [] host = 0
-changes_until c (before ∷ past) host = changes_records before c host + changes_until before past host
+-- the row of the host of this name, among those of hosts and that of the strangers
+abbrev pub row_among : {R : Type 0} → List (Named R) → R → List ℕ → R
+row_among [] strangers host = strangers
+row_among (h ∷ hosts) strangers host = if bytes_eq host h.name then h.row else row_among hosts strangers host
+
+abbrev pub row_in : {R : Type 0} → Rows R → List ℕ → R
+row_in v host = row_among v.hosts v.strangers host
 
 -- the records that a host is shown
 unfoldable pub records_in : Shown → List ℕ → List Parts
-records_in v host = records_of v.now host
+records_in v host = (row_in v host).records
 
 -- the generation counter of a host, which goes round after 64 bits
 unfoldable pub count_in : Shown → List ℕ → ℕ
-count_in v host = changes_until v.now v.past host % 2 ^ 64
+count_in v host = (row_in v host).count
 
 -- the discovery log page of a host
 abbrev pub page_in : Shown → List ℕ → List ℕ

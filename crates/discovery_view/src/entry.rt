@@ -1,20 +1,23 @@
 //! What a host is shown: a subsystem on a port, or a referral.
-ghost use Rattle.std.specs.Prelude.{◌≡◌, ◌≤◌, IsTrue, length};
+ghost use Rattle.std.specs.Prelude.{◌≡◌, ◌≤◌, IfOk, IsTrue, length};
 ghost use Rattle.config_lists.specs.Port.{is_port};
+ghost use Rattle.discovery_view.specs.Catalog.{is_referral};
 ghost use Rattle.discovery_view.specs.Record.{record_of, same_parts};
 ghost use Rattle.discovery_view.specs.Same.{same_parts_laws};
-ghost use Rattle.discovery_view.specs.Records.{parts_of, referral_of};
+ghost use Rattle.discovery_view.specs.Records.{parts_of, parts_on, referral_of};
 
+use crate::kept::KeptRecord;
 use crate::record::{RECORD_LEN, Subtype, record_head};
 use itoa::Buffer;
 use nvt_config::{Port, Subsystem};
 use nvt_fields::{DISCOVERY_NQN, write_spaced, write_zeroed};
+use std::alloc::{AllocError, Global};
 use std::marker::Model;
 
-/// A subsystem on a port, or a referral, as a host is shown it. A contract sees what its record
-/// tells.
+/// What a record tells: what it leads to, which is a subsystem or another discovery controller, the
+/// port, by its number, its address and the address's family and its TCP port number, and the name.
 #[derive(Drop)]
-pub(crate) struct Entry<'a> {
+pub struct Entry<'a> {
     subtype: Subtype,
     port: &'a Port,
     // The name of the subsystem.
@@ -38,7 +41,8 @@ impl<'a> Entry<'a> {
     /// That of a subsystem on a port.
     pub(crate) fn new(port: &'a Port, subsystem: &'a Subsystem) -> Entry<'a>
         requires { IsTrue (is_port port.now) }
-        ensures { result ≡ parts_of port.now subsystem.now }
+        ensures parts { result ≡ parts_of port.now subsystem.now }
+        ensures len { length (record_of (parts_of port.now subsystem.now)) ≡ 1024 }
     {
         // A name has at most 223 bytes.
         let _ = subsystem.nqn.len();
@@ -52,7 +56,8 @@ impl<'a> Entry<'a> {
     /// That of a referral, which has the discovery subsystem's name.
     pub(crate) fn referral(port: &'a Port) -> Entry<'a>
         requires { IsTrue (is_port port.now) }
-        ensures { result ≡ referral_of port.now }
+        ensures parts { result ≡ referral_of port.now }
+        ensures len { length (record_of (referral_of port.now)) ≡ 1024 }
     {
         Entry {
             subtype: Subtype::Referral,
@@ -61,17 +66,41 @@ impl<'a> Entry<'a> {
         }
     }
 
-    /// The record's length in bytes.
-    pub(crate) fn record_len(&self) -> u64
-        ensures value { result ≡ length (record_of self.now) }
-        ensures fixed { result ≡ 1024 }
+    /// That of the subsystem or the referral of this name, of at most 223 bytes, on a port.
+    pub(crate) fn on(subtype: Subtype, port: &'a Port, nqn: &'a [u8]) -> Entry<'a>
+        requires port { IsTrue (is_port port.now) }
+        requires name { length nqn.now ≤ 223 }
+        ensures { result ≡ parts_on subtype port.now nqn.now }
     {
-        let (_port, _name_len) = (self.port, self.nqn.len());
-        RECORD_LEN as u64
+        Entry { subtype, port, nqn }
+    }
+
+    /// Whether it is a referral, which each host is shown.
+    pub(crate) fn is_referral(&self) -> bool
+        ensures { result ≡ is_referral self.now.subtype }
+    {
+        match self.subtype {
+            Subtype::Referral => true,
+            Subtype::NvmSubsystem => false,
+        }
+    }
+
+    /// The name.
+    pub(crate) fn nqn(&self) -> &'a [u8]
+        ensures { result.now ≡ self.now.nqn }
+    {
+        self.nqn
+    }
+
+    /// What is shown, as a view keeps it.
+    pub(crate) fn kept(&self, alloc: Global) -> Result<KeptRecord, AllocError>
+        ensures { IfOk result (λ kept. kept ≡ self.now) }
+    {
+        KeptRecord::new(alloc, self.subtype, self.port, self.nqn)
     }
 
     /// Writes the record, of 1,024 bytes.
-    pub(crate) fn write(&self, bytes: &mut [u8])
+    pub fn write(&self, bytes: &mut [u8])
         requires { length bytes.old ≡ 1024 }
         ensures { bytes.new ≡ record_of self.now }
     {

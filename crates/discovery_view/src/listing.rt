@@ -1,5 +1,5 @@
 //! What a configuration shows to a host.
-ghost use Rattle.std.specs.Prelude.{◌≡◌, ◌≤◌, if◌then◌else◌, length};
+ghost use Rattle.std.specs.Prelude.{◌≡◌, ◌≤◌, length};
 ghost use Rattle.discovery_view.specs.Record.{same_records};
 ghost use Rattle.discovery_view.specs.Records.{records_of};
 
@@ -65,13 +65,6 @@ impl<'a> Listing<'a> {
             self.subsystems.as_slice(),
         );
         Walk::new(served, self.referrals.as_slice())
-    }
-
-    /// How many changes lead from these records to the next: 1, or 0 where both tell the same.
-    pub(crate) fn changes_to(&self, next: &Listing<'_>) -> u64
-        ensures { result ≡ if same_records self.now next.now then 0 else 1 }
-    {
-        u64::from(!self.is_same(next))
     }
 
     /// Whether the records of both tell the same.

@@ -1,92 +1,149 @@
 //! A discovery view: it follows the edits of a configuration and lends each host its page.
-ghost use Rattle.std.specs.Prelude.{◌≡◌, ◌≤◌, ◌<◌, IsOk, IfOk, OnOk, Ok, length, nat_lt};
+ghost use Rattle.std.specs.Prelude.{◌≡◌, ◌≤◌, ◌+◌, IsOk, IfOk, MatchOption, OnErr, length, nat_lt};
+ghost use Rattle.std.specs.Prelude.{slice_index_or};
 ghost use Rattle.config_rules.specs.Accept.{accept};
 ghost use Rattle.nvt_fields.specs.Window.{window};
+ghost use Rattle.discovery_view.specs.Plan.{IsPlannedFor, LeadsTo, rows_after, shown_after};
+ghost use Rattle.discovery_view.specs.Plan.{slots_after};
+ghost use Rattle.discovery_view.specs.Ready.{AreOf};
+ghost use Rattle.discovery_view.specs.Catalog.{catalog_of, no_parts};
+ghost use Rattle.discovery_view.specs.Forming.{reach};
+ghost use Rattle.discovery_view.specs.Record.{record_of};
 ghost use Rattle.discovery_view.specs.View.{ShowsFirst, ShowsNext, count_in, page_in};
+ghost use Rattle.discovery_view.specs.View.{records_in, row_in};
 
-use crate::listing::Listing;
+use crate::formed::FormedRecords;
+use crate::former::{Former, RecordFormer, form_all};
+use crate::lists::{Lists, ListsPlan};
 use crate::page::{page_len, write_page};
-use crate::record::RECORD_LEN;
+use crate::splice::splice;
 use nvt_config::{Config, Edit};
 use std::alloc::{AllocError, Global};
 use std::marker::Model;
-use std::mem;
 
-/// The records of each host, and how often edits changed them.
+/// The records of each host, and how often edits changed them. They are ready: no call but `new` and
+/// `prepare` walks over a configuration, and nothing is kept of one.
 #[derive(Drop)]
-pub struct DiscoveryView {
-    // The configuration of now.
-    latest: Config,
-    // Those before it, the oldest first.
-    past: Vec<Config>,
+pub struct DiscoveryView<F: Former = RecordFormer> {
+    alloc: Global,
+    former: F,
+    // A formed record for each of the table.
+    formed: Vec<F::Record>,
+    lists: Lists,
 }
 
-impl Model for DiscoveryView {
-    ghost use Rattle.std.specs.Prelude.{◌-◌, reverse, vec_capacity, vec_len};
-    ghost use Rattle.discovery_view.specs.View.{ViewState};
+impl<F: Former> Model for DiscoveryView<F> {
+    ghost use Rattle.std.specs.Prelude.{◌≡◌, ◌-◌, map, min, vec_capacity, vec_len};
+    ghost use Rattle.discovery_view.specs.Ready.{ViewState};
+    ghost use Rattle.discovery_view.specs.Record.{record_of};
 
     ghost Value = { ViewState };
 
     ghost view = { λ v. record {
-      shown = record { now = v.latest; past = reverse v.past.items };
-      room = vec_capacity v.past - vec_len v.past;
+      shown = v.lists.shown;
+      slots = v.lists.slots;
+      rows = v.lists.rows;
+      room = min v.lists.room (vec_capacity v.formed - vec_len v.formed);
+      formed = F.count v.former;
     } };
+
+    ghost invariant = { λ v. map F.bytes_of v.formed.items ≡ map record_of v.lists.slots };
 }
 
-/// What an edit will make of a view: the configuration after it.
+/// What an edit will make of a view. A contract sees what becomes of its table and its rows.
 #[derive(Drop)]
-pub struct Plan {
-    next: Config,
+pub struct Plan<F: Former = RecordFormer> {
+    fresh: Vec<F::Record>,
+    lists: ListsPlan,
 }
 
-impl Model for Plan {
-    ghost use Rattle.config_rules.specs.Configuration.{Configuration};
+impl<F: Former> Model for Plan<F> {
+    ghost use Rattle.std.specs.Prelude.{◌≡◌, map};
+    ghost use Rattle.discovery_view.specs.Plan.{Planned};
+    ghost use Rattle.discovery_view.specs.Record.{record_of};
 
-    ghost Value = { Configuration };
+    ghost Value = { Planned };
 
-    ghost view = { λ plan. plan.next };
+    ghost view = { λ plan. plan.lists };
+
+    ghost invariant = { λ plan. map F.bytes_of plan.fresh.items ≡ map record_of plan.lists.fresh };
 }
 
-impl DiscoveryView {
-    /// The view of a configuration that no edit has changed yet.
-    pub fn new(alloc: Global, config: &Config) -> Result<DiscoveryView, AllocError>
-        ensures { IfOk result (λ view. ShowsFirst config.now view.shown) }
+impl<F: Former + Drop> DiscoveryView<F> {
+    /// The view of a configuration that no edit has changed yet, whose records this forms.
+    pub fn new(alloc: Global, config: &Config, former: F) -> Result<DiscoveryView<F>, AllocError>
+        ensures shown { IfOk result (λ view. ShowsFirst config.now view.shown) }
+        ensures of { IfOk result (λ view. AreOf config.now view.slots view.rows) }
+        ensures formed { IfOk result (λ view.
+            view.formed ≤ F.count former + length (catalog_of config.now)) }
     {
+        let mut former = former;
+        let lists = Lists::new(alloc, config)?;
+        let formed = form_all(alloc, &mut former, lists.slots())?;
         Ok(DiscoveryView {
-            latest: config.try_clone()?,
-            past: Vec::new(alloc),
+            alloc,
+            former,
+            formed,
+            lists,
         })
     }
 
-    /// Takes all the memory to go over to the configuration that an edit makes of this one. Every
-    /// answer is as before, also after want of memory.
-    pub fn prepare(&mut self, config: &Config, edit: &Edit) -> Result<Plan, AllocError>
-        requires { IsOk (accept config.now edit.now) }
-        ensures plan { IfOk result (λ plan. accept config.now edit.now ≡ Ok plan) }
-        ensures room { OnOk result (1 ≤ self.new.room) }
+    /// Takes all the memory to go over to the configuration that an edit makes of this one, which is
+    /// the one that the view shows, and forms the records that are new: no more than the edit reaches.
+    /// Every answer but `formed` is as before, also after want of memory.
+    pub fn prepare(&mut self, config: &Config, edit: &Edit) -> Result<Plan<F>, AllocError>
+        requires accepted { IsOk (accept config.now edit.now) }
+        requires of { AreOf config.now self.old.slots self.old.rows }
+        ensures next { IfOk result (λ plan. IfOk (accept config.now edit.now)
+            (λ next. LeadsTo next self.old.shown self.old.slots self.old.rows plan)) }
+        ensures planned { IfOk result (λ plan.
+            IsPlannedFor self.new.slots self.new.rows self.new.room plan) }
+        ensures formed { IfOk result (λ plan. self.new.formed ≤ self.old.formed + length plan.fresh) }
+        ensures reach { self.new.formed ≤ self.old.formed + reach config.now edit.now }
+        ensures unformed { OnErr result (self.new.formed ≡ self.old.formed) }
         ensures kept { self.new.shown ≡ self.old.shown }
+        ensures slots { self.new.slots ≡ self.old.slots }
+        ensures rows { self.new.rows ≡ self.old.rows }
     {
-        self.past.reserve(1)?;
-        let next = edited(config, edit)?;
-        Ok(Plan { next })
+        // prover: a configuration is valid, and so an edit forms no more than it reaches.
+        config.units();
+        let lists = self.lists.prepare(self.alloc, config, edit)?;
+        self.formed.reserve(lists.fresh().len())?;
+        let fresh = form_all(self.alloc, &mut self.former, lists.fresh())?;
+        Ok(Plan { fresh, lists })
     }
 
-    /// Goes over to what was prepared last. Takes no memory.
-    pub fn commit(&mut self, plan: Plan)
-        requires { 1 ≤ self.old.room }
-        ensures { ShowsNext plan self.old.shown self.new.shown }
+    /// Goes over to what was prepared. Takes no memory and forms no record. The plan is the last that
+    /// was prepared, and none was committed since, so that the counts go on from those of now.
+    pub fn commit(&mut self, plan: Plan<F>)
+        requires { IsPlannedFor self.old.slots self.old.rows self.old.room plan }
+        ensures shown { self.new.shown ≡ shown_after self.old.slots self.old.rows plan }
+        ensures slots { self.new.slots ≡ slots_after self.old.slots plan }
+        ensures rows { self.new.rows ≡ rows_after self.old.rows plan.rows }
+        ensures formed { self.new.formed ≡ self.old.formed }
     {
-        let Plan { next } = plan;
-        let before = mem::replace(&mut self.latest, next);
-        self.past.push_reserved(before);
+        let Plan { fresh, lists } = plan;
+        splice(&mut self.formed, lists.first(), fresh, lists.last());
+        self.lists.commit(lists);
+    }
+
+    // What the host of this name is shown.
+    fn shown(&self, host: &[u8]) -> FormedRecords<'_, F>
+        ensures { result ≡ row_in self.now.shown host.now }
+    {
+        FormedRecords::new(
+            self.formed.as_slice(),
+            self.lists.slots(),
+            self.lists.row(host),
+        )
     }
 
     /// Fills `out` with the host's page from an offset on, and with zeros past the page's end.
+    #[tactic(auto, unfolding(crate::specs::View::records_in, crate::specs::View::count_in))]
     pub fn window(&self, host: &[u8], offset: u64, out: &mut [u8])
         ensures { out.new ≡ window (page_in self.now.shown host.now) offset (length out.old) }
     {
-        let shown = Listing::new(&self.latest, host);
-        write_page(out, offset, self.count(host), &shown);
+        write_page(out, offset, &self.shown(host));
     }
 
     /// The length of the host's page in bytes.
@@ -94,15 +151,14 @@ impl DiscoveryView {
     pub fn len(&self, host: &[u8]) -> u64
         ensures { result ≡ length (page_in self.now.shown host.now) }
     {
-        page_len(&Listing::new(&self.latest, host))
+        page_len(&self.shown(host))
     }
 
     /// Whether an offset is past the end of the host's page.
     pub fn is_past_end(&self, host: &[u8], offset: u64) -> bool
         ensures { result ≡ nat_lt (length (page_in self.now.shown host.now)) offset }
     {
-        // Most reads begin at the header, which each page has.
-        offset > RECORD_LEN as u64 && offset > self.len(host)
+        offset > self.len(host)
     }
 
     /// The host's generation counter (GENCTR): how many edits have changed its records.
@@ -110,26 +166,28 @@ impl DiscoveryView {
     pub fn count(&self, host: &[u8]) -> u64
         ensures { result ≡ count_in self.now.shown host.now }
     {
-        let mut count: u64 = 0;
-        let mut shown = Listing::new(&self.latest, host);
-        let mut past = self.past.as_slice();
-        while let Some((before, rest)) = past.split_last() {
-            let earlier = Listing::new(before, host);
-            count = count.wrapping_add(earlier.changes_to(&shown));
-            shown = earlier;
-            past = rest;
-        }
-        count
+        self.shown(host).count()
     }
-}
 
-// What an edit that is accepted makes of a configuration.
-fn edited(config: &Config, edit: &Edit) -> Result<Config, AllocError>
-    requires { IsOk (accept config.now edit.now) }
-    ensures { IfOk result (λ next. accept config.now edit.now ≡ Ok next) }
-{
-    let mut next = config.try_clone()?;
-    let change = next.prepare(edit)?;
-    next.commit(change);
-    Ok(next)
+    /// The record of this number, from 0, of the host's page.
+    #[tactic(auto, unfolding(crate::specs::View::records_in))]
+    pub fn record(&self, host: &[u8], index: usize) -> Option<&F::Record>
+        ensures { let records = records_in self.now.shown host.now in MatchOption result
+            (length records ≤ index) (λ r. F.bytes_of r.now
+            ≡ record_of (slice_index_or records index no_parts)) }
+    {
+        let shown = self.shown(host);
+        if index < shown.len() {
+            Some(shown.get(index))
+        } else {
+            None
+        }
+    }
+
+    /// How many records were formed, or the greatest number of 64 bits where they are more.
+    pub fn formed(&self) -> u64
+        ensures { result ≡ self.now.formed }
+    {
+        self.former.formed()
+    }
 }

@@ -18,7 +18,7 @@ use Rattle.target_core.specs.declared.fault.NoConn.{NoConn}
 use Rattle.target_core.specs.declared.fault.OpenFault.{OpenFault}
 use Rattle.target_core.specs.declared.fault.OpenFault.TheVariants.{NoSuchPort, Full}
 use Rattle.target_core.specs.Connection.{KnownConnection}
-use Rattle.target_views.specs.Views.{ShowFirst, ViewsShown, pages_shown}
+use Rattle.target_views.specs.Views.{AreViewsOf, ShowFirst, ViewsShown, ViewsState, pages_shown}
 use Rattle.target_decision.specs.declared.controller.Controller.{Controller}
 use Rattle.target_decision.specs.declared.session.ConnectionState.{ConnectionState}
 use Rattle.target_decision.specs.declared.transfer.WaitingCommand.{WaitingCommand}
@@ -66,10 +66,11 @@ pub record IsTarget (streams : List (Option (List ℕ))) (connections : List (Op
   pub alike : (k : ℕ) → is_none (place streams k) ≡ is_none (place connections k)
   pub within : length streams ≡ connections_max
 
--- .. and the disks of its configuration
-pub record IsSound (config : Configuration) (disks : List Stored) (streams : List (Option (List ℕ))) (connections : List (Option KnownConnection)) : Type 0 where
+-- .. and the disks of its configuration, and the views of it
+pub record IsSound (config : Configuration) (views : ViewsState) (disks : List Stored) (streams : List (Option (List ℕ))) (connections : List (Option KnownConnection)) : Type 0 where
   pub tables : IsTarget streams connections
   pub units : config.units ≡ sizes disks
+  pub shows : AreViewsOf config views
 
 -- ---- what a decision may look at
 

@@ -17,7 +17,7 @@ ghost use Rattle.target_decision.specs.Decision.{PerformsWithin, head_of, is_end
 ghost use Rattle.target_decision.specs.World.{connections_max, world_in};
 ghost use Rattle.target_core.specs.Target.{free_number, is_ended_at, is_incomplete, open_fault, output_at, room_at, IsNewTarget, IsOver, ReceivesAt, TakenAt};
 ghost use Rattle.target_history.specs.Event.{edited, given_up, opened, ticked};
-ghost use Rattle.target_views.specs.Views.{ShowFirst};
+ghost use Rattle.target_views.specs.Views.{AreViewsOf, ShowFirst};
 
 use crate::connection::Connection;
 use crate::disks::{are_disks, stores_over, units_of};
@@ -70,7 +70,7 @@ impl<D: Disk> Model for Target<D> {
       disks = t.stores.items;
     } };
 
-    ghost invariant = { λ t. IsSound t.config t.stores.items t.streams t.connections };
+    ghost invariant = { λ t. IsSound t.config t.views t.stores.items t.streams t.connections };
 }
 
 // What each call promises is in two parts: what becomes of the target's own state, exactly, and that
@@ -469,6 +469,7 @@ impl Parts {
         ensures own { IfOk result (λ parts.
             parts.controllers.own ≡ replicate controller_places None) }
         ensures views { IfOk result (λ parts. ShowFirst config.now parts.views.shown) }
+        ensures of { IfOk result (λ parts. AreViewsOf config.now parts.views) }
     {
         Ok(Parts {
             streams: NumberTable::new(alloc, CONNECTIONS_MAX)?,

@@ -1,12 +1,15 @@
 -- The views that log pages are written from, as the target sees them.
-use Rattle.std.specs.Prelude.{◌≡◌, ℕ, ◌%◌, ◌^◌, List}
+use Rattle.std.specs.Prelude.{◌≡◌, ℕ, ◌%◌, ◌^◌, List, Option, unwrap_or}
 use Rattle.admin_queue.specs.Pages.{Pages}
 use Rattle.ana_view.specs.Group.{listed}
 use Rattle.ana_view.specs.View.{Shown as AnaShown, ShowsAna, groups_in, page_in as ana_page_in}
-use Rattle.change_lists.specs.ActiveView.{Shown as ActiveShown, ShowsActive, active_page, nsids_in}
+use Rattle.change_lists.specs.ActiveView.{Shown as ActiveShown, ShowsActive, active_page, nsids_in, shown_after}
 use Rattle.config_words.specs.Numbered.{active_nsids}
+use Rattle.discovery_view.specs.Plan.{IsPlannedFor, LeadsTo, Planned}
+use Rattle.discovery_view.specs.Ready.{AreOf, Places}
+use Rattle.discovery_view.specs.Record.{Parts}
 use Rattle.discovery_view.specs.Records.{records_of}
-use Rattle.discovery_view.specs.View.{Shown, ShowsFirst, ShowsNext, count_in, page_in, records_in}
+use Rattle.discovery_view.specs.View.{Rows, Shown, ShowsFirst, ShowsNext, count_in, page_in, records_in}
 use Rattle.config_rules.specs.Configuration.{Configuration}
 use Rattle.target_history.specs.Event.{Event, edited, opened, stepped, given_up, ticked}
 use Rattle.target_history.specs.Occurrence.{Occurrence}
@@ -18,10 +21,21 @@ pub record ViewsShown : Type 0 where
   pub active : ActiveShown
   pub ana : AnaShown
 
--- .. and for how many more edits there is room
+-- the views, as contracts see them: what they show, and the discovery view's table of records, the rows of places in it,
+-- and for how many more records it has room
 pub record ViewsState : Type 0 where
   pub shown : ViewsShown
+  pub slots : List Parts
+  pub rows : Rows Places
   pub room : ℕ
+
+-- what an edit will make of them: they go over from one configuration to another, each view as it planned
+pub record PlansState : Type 0 where
+  pub old : Configuration
+  pub new : Configuration
+  pub discovery : Planned
+  pub active : Option ActiveShown
+  pub ana : Option AnaShown
 
 -- the log pages of each host, the lists of each subsystem, and its ANA groups on each port
 abbrev pub pages_shown : ViewsShown → Pages
@@ -38,6 +52,19 @@ pub record ShowNext (c : Configuration) (old new : ViewsShown) : Type 0 where
   pub discovery : ShowsNext c old.discovery new.discovery
   pub active : ShowsActive c new.active
   pub ana : ShowsAna c new.ana
+
+-- they are the views of this configuration
+pub record AreViewsOf (c : Configuration) (v : ViewsState) : Type 0 where
+  pub discovery : AreOf c v.slots v.rows
+  pub active : ShowsActive c v.shown.active
+  pub ana : ShowsAna c v.shown.ana
+
+-- the plans are for these views
+pub record ArePlannedFor (v : ViewsState) (plans : PlansState) : Type 0 where
+  pub discovery : IsPlannedFor v.slots v.rows v.room plans.discovery
+  pub next : LeadsTo plans.new v.shown.discovery v.slots v.rows plans.discovery
+  pub active : ShowsActive plans.new (shown_after v.shown.active plans.active)
+  pub ana : ShowsAna plans.new (unwrap_or plans.ana v.shown.ana)
 
 -- what they show after an event, with the configuration after it: it changes by edits alone
 abbrev pub ShowAfter : Event → Configuration → ViewsShown → ViewsShown → Type 0

@@ -1,13 +1,14 @@
 //! The views follow the edits of a configuration together.
-ghost use Rattle.std.specs.Prelude.{◌≡◌, ◌≤◌, IfOk, IsOk, MatchResult, Ok, Err, OnOk};
+ghost use Rattle.std.specs.Prelude.{◌≡◌, IfOk, IsOk, MatchResult, Ok, Err};
 ghost use Rattle.admin_queue.specs.Pages.{pages_in};
 ghost use Rattle.config_rules.specs.Accept.{accept};
-ghost use Rattle.target_views.specs.Views.{ShowFirst, ShowNext, pages_shown};
+ghost use Rattle.config_rules.specs.Configuration.{Configuration};
+ghost use Rattle.target_views.specs.Views.{ArePlannedFor, AreViewsOf, ShowFirst, ShowNext, pages_shown};
 
 use admin_queue::Pages;
 use ana_view::{AnaView, Plan as AnaPlan};
 use change_lists::{ActiveView, Plan as ActivePlan};
-use discovery_view::{DiscoveryView, Plan as DiscoveryPlan};
+use discovery_view::{DiscoveryView, Plan as DiscoveryPlan, RecordFormer};
 use nvt_config::{Config, Edit};
 use std::alloc::{AllocError, Global};
 use std::marker::Model;
@@ -27,6 +28,8 @@ impl Model for Views {
 
     ghost view = { λ v. record {
       shown = record { discovery = v.discovery.shown; active = v.active; ana = v.ana };
+      slots = v.discovery.slots;
+      rows = v.discovery.rows;
       room = v.discovery.room;
     } };
 }
@@ -40,20 +43,24 @@ pub struct Plans {
 }
 
 impl Model for Plans {
-    ghost use Rattle.std.specs.Prelude.{◌≡◌};
-    ghost use Rattle.ana_view.specs.View.{Planned};
+    ghost use Rattle.target_views.specs.Views.{PlansState};
 
-    ghost Value = { Planned };
+    ghost Value = { PlansState };
 
-    ghost view = { λ plans. plans.ana };
-
-    ghost invariant = { λ plans. (plans.discovery ≡ plans.ana.new) × (plans.active ≡ plans.ana.new) };
+    ghost view = { λ plans. record {
+      old = plans.ana.old;
+      new = plans.ana.new;
+      discovery = plans.discovery;
+      active = plans.active;
+      ana = plans.ana.shown;
+    } };
 }
 
 impl Plans {
     /// The edit: the configuration before it and the one after it.
     pub fn edit(&self) -> &AnaPlan
-        ensures { result.now ≡ self.now }
+        ensures old { result.now.old ≡ self.now.old }
+        ensures new { result.now.new ≡ self.now.new }
     {
         &self.ana
     }
@@ -62,9 +69,10 @@ impl Plans {
 impl Views {
     /// The views of a configuration that no edit has changed yet.
     pub fn new(alloc: Global, config: &Config) -> Result<Views, AllocError>
-        ensures { IfOk result (λ views. ShowFirst config.now views.shown) }
+        ensures shown { IfOk result (λ views. ShowFirst config.now views.shown) }
+        ensures of { IfOk result (AreViewsOf config.now) }
     {
-        let discovery = DiscoveryView::new(alloc, config)?;
+        let discovery = DiscoveryView::new(alloc, config, RecordFormer::new())?;
         let active = ActiveView::new(alloc, config);
         let (discovery, active, ana) = with(discovery, active, AnaView::new(alloc, config))?;
         Ok(Views {
@@ -74,14 +82,16 @@ impl Views {
         })
     }
 
-    /// Takes all the memory to go over to what an edit makes of this configuration. Every page is as
-    /// before, also after want of memory.
+    /// Takes all the memory to go over to what an edit makes of this configuration, whose views they
+    /// are. Every page is as before, also after want of memory.
     pub fn prepare(&mut self, config: &Config, edit: &Edit) -> Result<Plans, AllocError>
-        requires { IsOk (accept config.now edit.now) }
+        requires accepted { IsOk (accept config.now edit.now) }
+        requires of { AreViewsOf config.now self.old }
         ensures old { IfOk result (λ plans. plans.old ≡ config.now) }
         ensures new { IfOk result (λ plans. accept config.now edit.now ≡ Ok plans.new) }
-        ensures room { OnOk result (1 ≤ self.new.room) }
+        ensures planned { IfOk result (λ plans. ArePlannedFor self.new plans) }
         ensures kept { self.new.shown ≡ self.old.shown }
+        ensures stays { (c : Configuration) → AreViewsOf c self.old → AreViewsOf c self.new }
     {
         let discovery = self.discovery.prepare(config, edit)?;
         let active = self.active.prepare(config, edit);
@@ -95,8 +105,9 @@ impl Views {
 
     /// Goes over to what was prepared last. Takes no memory.
     pub fn commit(&mut self, plans: Plans)
-        requires { 1 ≤ self.old.room }
-        ensures { ShowNext plans.new self.old.shown self.new.shown }
+        requires { ArePlannedFor self.old plans }
+        ensures shown { ShowNext plans.new self.old.shown self.new.shown }
+        ensures of { AreViewsOf plans.new self.new }
     {
         let Plans {
             discovery,

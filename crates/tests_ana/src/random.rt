@@ -1,7 +1,7 @@
 //! What controllers show beside the plain program, while random edits are made.
 use super::followed::{Followed, edit_of, is_planned, make, plan, start};
-use super::seen::{GROUPS, Group, NSIDS, PLACES, Past};
-use ana_view::{AnaCounts, Plan};
+use super::seen::{GROUPS, Group, NSIDS, PLACES, Past, Place, code};
+use ana_view::{AnaCounts, AnaGroup, AnaView, Plan};
 use nvt_config::{Access, AnaState, Edit};
 use rand_core::utils::NextWord;
 use rand_pcg::Pcg32;
@@ -120,6 +120,38 @@ fn append_members(page: &mut Vec<u8>, group: Group) -> Result<(), AllocError> {
     Ok(())
 }
 
+// Whether a group is what was to be seen of it.
+fn is_seen(group: &AnaGroup, id: u32, seen: Group) -> bool {
+    let mut count = 0usize;
+    for (at, nsid) in NSIDS.iter().enumerate() {
+        if at < 5 && seen.members >> at & 1 == 1 {
+            if group.nsids().get(count).copied() != Some(*nsid) {
+                return false;
+            }
+            count = count.saturating_add(1);
+        }
+    }
+    group.id() == id && code(group.state()) == seen.state && group.nsids().len() == count
+}
+
+// Whether the groups that hold a namespace are lent, one after the other, and no more.
+fn are_lent(view: &AnaView, past: &Past, at: usize, place: Place) -> bool {
+    let mut count = 0usize;
+    for (number, id) in GROUPS.iter().enumerate() {
+        let seen = past.group(at, number);
+        if seen.members != 0 {
+            let Some(group) = view.group(place.subsystem, place.port, count) else {
+                return false;
+            };
+            if !is_seen(group, *id, seen) {
+                return false;
+            }
+            count = count.saturating_add(1);
+        }
+    }
+    view.group(place.subsystem, place.port, count).is_none()
+}
+
 fn is_shown(
     alloc: Global,
     followed: &Followed,
@@ -143,7 +175,8 @@ fn is_shown(
     );
     let (front, rest) = bytes.split_at(page.len().min(160));
     let len = view.len(place.subsystem, place.port, false);
-    Ok(*front == *page && !rest.iter().any(|byte| *byte != 0) && len == page.len() as u64)
+    let is_same = *front == *page && !rest.iter().any(|byte| *byte != 0);
+    Ok(is_same && len == page.len() as u64 && are_lent(view, past, at, *place))
 }
 
 fn are_shown(

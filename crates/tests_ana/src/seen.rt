@@ -57,7 +57,8 @@ const NONE: Group = Group {
     state: 0,
 };
 
-fn code(state: AnaState) -> u8 {
+/// A state as the log page has it.
+pub fn code(state: AnaState) -> u8 {
     match state {
         AnaState::Optimized => 1,
         AnaState::NonOptimized => 2,

@@ -1,6 +1,8 @@
 //! A configuration and the view that follows its edits, and what a test expects of them.
+ghost use Rattle.discovery_view.specs.Ready.{AreOf};
+
 use super::{counts, pages};
-use discovery_view::DiscoveryView;
+use discovery_view::{DiscoveryView, RecordFormer};
 use nvt_config::{Access, Config, Edit};
 use nvt_fields::u64_at;
 use std::alloc::{AllocError, Global};
@@ -16,11 +18,12 @@ pub const UNITS: &[u64] = &[2048, 2048];
 pub struct Followed {
     pub config: Config,
     pub view: DiscoveryView,
+    ghost shows: { AreOf config view.slots view.rows },
 }
 
 pub fn start(alloc: Global) -> Result<Followed, AllocError> {
     let config = config_over(alloc, UNITS)?;
-    let view = DiscoveryView::new(alloc, &config)?;
+    let view = DiscoveryView::new(alloc, &config, RecordFormer::new())?;
     Ok(Followed { config, view })
 }
 

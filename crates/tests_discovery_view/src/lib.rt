@@ -9,8 +9,12 @@ mod counts;
 #[cfg(test)]
 mod followed;
 #[cfg(test)]
+mod formed;
+#[cfg(test)]
 mod pages;
 #[cfg(test)]
 mod plain;
 #[cfg(test)]
 mod random;
+#[cfg(test)]
+mod reach;

@@ -1,5 +1,7 @@
 //! The discovery view: it is made, and prepares for each kind of edit.
-use discovery_view::DiscoveryView;
+ghost use Rattle.discovery_view.specs.Ready.{AreOf};
+
+use discovery_view::{DiscoveryView, RecordFormer};
 use nvt_config::{Config, Edit, EditFault, NewFault};
 use std::alloc::{AllocError, Global};
 use std::test::Fail;
@@ -12,6 +14,7 @@ use testkit_tables::{Outcome, Placed, check, pass};
 struct Followed {
     config: Config,
     view: DiscoveryView,
+    ghost shows: { AreOf config view.slots view.rows },
 }
 
 // The host's page up to its first record, as the view shows it: its length, GENCTR and bytes.
@@ -86,7 +89,7 @@ fn follow_edits(alloc: Global, followed: &mut Followed, refused: &mut u32) -> Ou
 
 fn start(alloc: Global) -> Result<Followed, NewFault> {
     let config = Config::new(alloc, UNITS)?;
-    match DiscoveryView::new(alloc, &config) {
+    match DiscoveryView::new(alloc, &config, RecordFormer::new()) {
         Ok(view) => Ok(Followed { config, view }),
         Err(AllocError) => Err(NewFault::Memory),
     }

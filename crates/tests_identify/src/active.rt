@@ -26,7 +26,24 @@ fn shows(view: &ActiveView, subsystem: &[u8], above: u32, list: &[u8]) -> bool {
     let mut bytes = [0xA5; LEN];
     view.window(subsystem, above, &mut bytes);
     let (front, rest) = bytes.split_at(list.len().min(LEN));
-    front == list && !rest.iter().any(|byte| *byte != 0)
+    front == list
+        && !rest.iter().any(|byte| *byte != 0)
+        && is_lent(view.nsids(subsystem), above, list)
+}
+
+// The identifiers above that one are those of a list, 4 bytes each.
+fn is_lent(nsids: &[u32], above: u32, list: &[u8]) -> bool {
+    let mut left = list;
+    for nsid in nsids {
+        if *nsid > above {
+            let (front, rest) = left.split_at(left.len().min(4));
+            if front != nsid.to_le_bytes().as_slice() {
+                return false;
+            }
+            left = rest;
+        }
+    }
+    left.is_empty()
 }
 
 // What is behind the part stays as it is.

@@ -15,4 +15,4 @@ returns-then-may_use-clause-entry c =
     let ahead = entry_ahead slots done c.index-subsystems-done.result subsystem c.loop-done-test.true c.index-subsystems-done.is c.in-Some.is in
     let passes : may_use config host subsystem.now.nqn port.id ≡ true = cc in
     let shown = among_shown config host port subsystem.now (entries_of (drop (done + 1) slots)) passes in
-    c.loop-done.invariant ∙ rw (ahead, c.new.ensures) shown
+    c.loop-done.invariant ∙ rw (ahead, c.new.ensures.parts) shown

@@ -1,15 +1,7 @@
-use Rattle.std.proofs.Common.{refl}
-use Rattle.std.proofs.lemmas.List.{reverse-append}
-use Rattle.discovery_view.proofs.Counts.{shows_next}
+use Rattle.discovery_view.proofs.Catalogs.{formed_spliced}
 use Rattle.discovery_view.proofs.view.DiscoveryView.commit.Goals as goal
 
-pub returns : goal.returns
-returns c =
-    shows_next c.args.plan c.args.self.now.shown _ (rw (
-      c.replace-before.ensures.after,
-      c.push_reserved.ensures.items,
-      c.replace-before.ensures.value,
-      reverse-append,
-      ← c.self.view_is,
-      ← c.plan.view_is,
-    ) refl)
+pub invariant_of-self : goal.invariant_of-self
+invariant_of-self g c =
+    rw (c.splice.ensures, c.first.ensures, c.last.ensures, c.commit.ensures.slots)
+    (formed_spliced g.F.Former.bytes_of c.self.inside.formed.items c.plan.inside.fresh.items c.self.inside.lists.slots c.plan.inside.lists.fresh c.plan.inside.lists.first c.plan.inside.lists.last c.self.invariant c.plan.invariant)

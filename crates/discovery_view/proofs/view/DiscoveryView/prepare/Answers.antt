@@ -1,11 +1,8 @@
-use Rattle.std.proofs.Common.{refl, arith}
+use Rattle.discovery_view.proofs.Reaching.{reach_met}
 use Rattle.discovery_view.proofs.view.DiscoveryView.prepare.Goals as goal
 
-pub returns-clause-plan : goal.returns-clause-plan
-returns-clause-plan c = c.in_ok-next.ensures
-
-pub returns-clause-room : goal.returns-clause-room
-returns-clause-room c = omega (arith, c.in_ok-reserve.ensures.ok)
-
-pub returns-clause-kept : goal.returns-clause-kept
-returns-clause-kept c = rw (← c.self.view_is, c.in_ok-reserve.ensures.items) refl
+pub returns-clause-reach : goal.returns-clause-reach
+returns-clause-reach g c =
+    rw (← c.self.view_is)
+    (reach_met c.args.config.now c.args.edit.now c.self.inside.lists.shown c.self.inside.lists.slots c.self.inside.lists.rows c.in_ok-lists.lists _ _
+    c.units.ensures.valid c.requires.accepted (rw (← c.self.view_is) at c.requires.of) c.in_ok-lists.ensures.next (rw c.fresh-2.ensures at c.form_all.ensures.count))

@@ -1,5 +1,4 @@
 use Rattle.std.proofs.Common.{◌≡◌, Ok, refl, ap, sym, ◌∙◌}
-use Rattle.ana_view.specs.View.{Planned}
 use Rattle.target_core.proofs.Moving.{edit_moves, made_same}
 use Rattle.target_core.proofs.Places.{map_is_target}
 use Rattle.target_views.proofs.Shows.{planned_next}
@@ -10,7 +9,19 @@ pub invariant_of-self-2 : goal.invariant_of-self-2
 invariant_of-self-2 g c = record {
   tables = rw c.tell.ensures (map_is_target _ _ _ (rw c.settle.ensures.connections (map_is_target _ _ _ c.self.invariant.tables)));
   units = edit_keeps_units c.self.inside.config c.commit.new.self c.args.edit.now (c.in_ok-change.ensures.makes ∙ ap Ok (sym c.commit.ensures)) ∙ c.self.invariant.units;
+  shows = rw (made_same _ _ _ c.in_ok-plans.ensures.new (c.in_ok-change.ensures.makes ∙ ap Ok (sym c.commit.ensures))) at c.commit-2.ensures.of;
 }
+
+-- where the configuration wants memory, the views are those that they were
+pub invariant_of-self-in_err-change : goal.invariant_of-self-in_err-change
+invariant_of-self-in_err-change g c = record {
+  tables = c.self.invariant.tables;
+  units = c.self.invariant.units;
+  shows = c.prepare.ensures.stays c.self.inside.config c.self.invariant.shows;
+}
+
+pub returns-in_err-change-clause-err : goal.returns-in_err-change-clause-err
+returns-in_err-change-clause-err g c = rw (← c.self.view_is, c.prepare.ensures.kept) refl
 
 pub returns-clause-ok : goal.returns-clause-ok
 returns-clause-ok g c = rw (← c.self.view_is) (c.in_ok-change.ensures.makes ∙ ap Ok (sym c.commit.ensures))
@@ -18,10 +29,10 @@ returns-clause-ok g c = rw (← c.self.view_is) (c.in_ok-change.ensures.makes �
 pub returns-clause-transition : goal.returns-clause-transition
 returns-clause-transition g c =
     let accepted = c.in_ok-change.ensures.makes ∙ ap Ok (sym c.commit.ensures) in
-    let first = ap (λ (p : Planned). p.old) c.edit.ensures ∙ c.in_ok-plans.ensures.old in
-    let last = ap (λ (p : Planned). p.new) c.edit.ensures ∙ made_same _ _ _ c.in_ok-plans.ensures.new accepted in
+    let first = c.edit.ensures.old ∙ c.in_ok-plans.ensures.old in
+    let last = c.edit.ensures.new ∙ made_same _ _ _ c.in_ok-plans.ensures.new accepted in
     rw (← c.self.view_is)
     (edit_moves _ _ c.args.edit.now _ _ accepted first last refl
-    (planned_next _ _ _ _ _ c.in_ok-plans.ensures.new accepted (rw c.prepare.ensures.kept at c.commit-2.ensures)) refl
+    (planned_next _ _ _ _ _ c.in_ok-plans.ensures.new accepted (rw c.prepare.ensures.kept at c.commit-2.ensures.shown)) refl
     c.settle.new.connections (rw c.of_edit.ensures at c.settle.ensures.connections) c.tell.ensures (λ n. rw c.of_edit.ensures at (c.settle.ensures.rows n))
     (λ n. rw c.of_edit.ensures at (c.settle.ensures.own n)) (λ k t. rw c.of_edit.ensures at (c.settle.ensures.parts k t)) refl)

@@ -5,4 +5,5 @@ pub invariant_of-result : goal.invariant_of-result
 invariant_of-result g c = record {
   tables = new_is_target _ _ c.in-Ok.ensures.streams c.in-Ok.ensures.connections;
   units = c.requires;
+  shows = c.in-Ok.ensures.of;
 }

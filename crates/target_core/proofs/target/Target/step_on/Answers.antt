@@ -13,6 +13,7 @@ invariant_of-self g c =
       tables = rw (acted_known _ _ _ _ _ _ stream c.consume.ensures, c.settle.ensures.connections, acts.placed)
           (step_is_target _ _ _ _ _ _ _ _ c.self.invariant.tables stream known);
       units = c.self.invariant.units ∙ sym acts.acts.sizes;
+      shows = c.self.invariant.shows;
     }
 
 pub returns-in-Ok-act : goal.returns-in-Ok-act

@@ -1,0 +1,80 @@
+//! The identifiers of each subsystem's namespaces, ready.
+ghost use Rattle.std.specs.Prelude.{◌≡◌, IfOk, OnOk};
+ghost use Rattle.config_words.specs.Numbered.{active_nsids};
+ghost use Rattle.name_table.specs.Table.{IsPut};
+ghost use Rattle.change_lists.specs.ActiveView.{ShowsActive, nsids_in};
+
+use config_tables::{NSID_END, NamespaceTable};
+use name_table::NameTable;
+use nvt_config::{Config, Namespace};
+use std::alloc::{AllocError, Global};
+use std::marker::Model;
+
+/// By a subsystem's name the identifiers of its namespaces, rising.
+#[derive(Drop)]
+pub(crate) struct ActiveLists {
+    lists: NameTable<Vec<u32>>,
+}
+
+impl Model for ActiveLists {
+    ghost use Rattle.std.specs.Prelude.{map};
+    ghost use Rattle.change_lists.specs.ActiveView.{Shown};
+
+    ghost Value = { Shown };
+
+    ghost view = { λ l. record { lists = map (λ list. (list.0, list.1.items)) l.lists } };
+}
+
+impl ActiveLists {
+    /// Those of a configuration.
+    pub(crate) fn of(alloc: Global, config: &Config) -> Result<ActiveLists, AllocError>
+        ensures { IfOk result (ShowsActive config.now) }
+    {
+        let mut lists = ActiveLists {
+            lists: NameTable::new(alloc),
+        };
+        for subsystem in config.subsystems() {
+            let name = subsystem.nqn.as_bytes();
+            let nsids = active_nsids(alloc, config.namespaces(), name)?;
+            lists.put(alloc, name, nsids)?;
+        }
+        Ok(lists)
+    }
+
+    /// The identifiers of a subsystem's namespaces: none where it is not there.
+    #[tactic(auto, unfolding(crate::specs::ActiveView::nsids_in))]
+    pub(crate) fn get(&self, subsystem: &[u8]) -> &[u32]
+        ensures { result.now ≡ nsids_in self.now subsystem.now }
+    {
+        match self.lists.get(subsystem) {
+            Some(nsids) => nsids.as_slice(),
+            None => &[],
+        }
+    }
+
+    // Puts the identifiers of a subsystem's namespaces.
+    fn put(&mut self, alloc: Global, subsystem: &[u8], nsids: Vec<u32>) -> Result<(), AllocError>
+        ensures { OnOk result (IsPut self.old.lists self.new.lists subsystem.now nsids.items) }
+    {
+        self.lists.put(alloc, subsystem, nsids)?;
+        Ok(())
+    }
+}
+
+// The identifiers of a subsystem's namespaces, rising.
+fn active_nsids(
+    alloc: Global,
+    namespaces: &[Namespace],
+    subsystem: &[u8],
+) -> Result<Vec<u32>, AllocError>
+    ensures { IfOk result (λ nsids. nsids.items ≡ active_nsids namespaces.now subsystem.now) }
+{
+    let table = NamespaceTable::of(namespaces, subsystem);
+    let mut nsids = Vec::new(alloc);
+    for nsid in 1..NSID_END {
+        if table.get(nsid).is_some() {
+            nsids.push(nsid)?;
+        }
+    }
+    Ok(nsids)
+}

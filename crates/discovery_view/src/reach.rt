@@ -1,0 +1,44 @@
+//! Whose records an edit can change.
+ghost use Rattle.std.specs.Prelude.{◌≡◌, IfOk, IsOk, Ok};
+ghost use Rattle.config_rules.specs.Accept.{accept};
+ghost use Rattle.discovery_view.specs.Reach.{Reaches};
+
+use nvt_config::{Config, Edit};
+use nvt_fields::Nqn;
+use std::alloc::AllocError;
+
+/// Whose records an edit can change.
+#[derive(Clone, Copy)]
+pub(crate) enum Reach<'e> {
+    Nobody,
+    /// Those of this host alone: which of the records that are there it is shown.
+    Host(&'e Nqn),
+    Anybody,
+}
+
+/// Whose records an edit can change, where it is accepted.
+pub(crate) fn reach_of(edit: &Edit) -> Reach<'_>
+    ensures { Reaches edit.now result }
+{
+    match edit {
+        Edit::NamespaceAdd(_)
+        | Edit::NamespaceSize { .. }
+        | Edit::NamespaceGroup { .. }
+        | Edit::NamespaceDel { .. }
+        | Edit::HostDel { .. }
+        | Edit::AnaSet { .. } => Reach::Nobody,
+        Edit::AllowAdd { host, .. } | Edit::AllowDel { host, .. } => Reach::Host(host),
+        _ => Reach::Anybody,
+    }
+}
+
+/// What an edit that is accepted makes of a configuration.
+pub(crate) fn edited(config: &Config, edit: &Edit) -> Result<Config, AllocError>
+    requires { IsOk (accept config.now edit.now) }
+    ensures { IfOk result (λ next. accept config.now edit.now ≡ Ok next) }
+{
+    let mut next = config.try_clone()?;
+    let change = next.prepare(edit)?;
+    next.commit(change);
+    Ok(next)
+}

@@ -1,0 +1,14 @@
+-- What a contract sees of a table: its names, each with its value.
+use Rattle.std.specs.Prelude.{◌≡◌, ℕ, List, Option, Some, if◌then◌else◌}
+use Rattle.std.specs.Map.{lookup}
+use Rattle.std.specs.Str.{bytes_eq}
+
+module _ {T : Type 0} where
+  -- the value of a name, if it has one
+  abbrev pub value_of : List (List ℕ × T) → List ℕ → Option T
+  value_of table name = lookup (bytes_eq name) table
+
+  -- the name has that value now, and every other what it had
+  abbrev pub IsPut : List (List ℕ × T) → List (List ℕ × T) → List ℕ → T → Type 0
+  IsPut old new name value =
+      (other : List ℕ) → value_of new other ≡ (if bytes_eq other name then Some value else value_of old other)
