@@ -1,3 +1,9 @@
+pub mod Calls
 pub mod Commands
+pub mod Conversation
 pub mod Fault
+pub mod Filling
+pub mod Link
 pub mod Session
+pub mod Turn
+pub mod Waiting

@@ -1,0 +1,4 @@
+pub mod Asking
+pub mod Ranges
+pub mod Turning
+pub mod Waited
