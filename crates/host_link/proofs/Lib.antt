@@ -1,3 +1,4 @@
+pub mod Agreement
 pub mod Asking
 pub mod Ranges
 pub mod Turning

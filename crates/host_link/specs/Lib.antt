@@ -3,6 +3,7 @@ pub mod Commands
 pub mod Conversation
 pub mod Fault
 pub mod Filling
+pub mod Laws
 pub mod Link
 pub mod Session
 pub mod Turn
