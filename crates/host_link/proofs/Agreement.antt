@@ -110,8 +110,8 @@ module _ (params : HostParams) where
   turn_agrees t old new takes h handed_out took a =
       let m = takes.moves in
       let first = sends_agree t.sending (record old { turns = old.turns - 1 }) m.then_sent m.sends h handed_out took (less_agrees old (old.turns - 1) h handed_out took a) in
-      let then = receives_agree t.receiving m.then_sent m.then_received m.receives h handed_out (took ++ sent_in t.sending) first in
-      let handed = hands_agree m.then_received m.then_handed m.hands h (handed_out ++ came_in t.receiving) (took ++ sent_in t.sending) then in
+      let next = receives_agree t.receiving m.then_sent m.then_received m.receives h handed_out (took ++ sent_in t.sending) first in
+      let handed = hands_agree m.then_received m.then_handed m.hands h (handed_out ++ came_in t.receiving) (took ++ sent_in t.sending) next in
       let stepped = steps_agree t.steps m.then_handed m.then_stepped m.steps h (handed_out ++ came_in t.receiving) (took ++ sent_in t.sending) handed in
       subst (λ (l : List ℕ). ConversationAgrees params (history_after t.steps h) (handed_out ++ came_in t.receiving) l new)
       (append_assoc took (sent_in t.sending) (sent_last t.last))

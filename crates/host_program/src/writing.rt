@@ -1,13 +1,14 @@
 //! The command `write`.
-ghost use Rattle.std.specs.Prelude.{◌≡◌, ◌≤◌, ◌*◌, IfOk, replicate};
+ghost use Rattle.std.specs.Prelude.{◌≡◌, ◌≤◌, ◌*◌, ◌⊎◌, IfOk, replicate};
 ghost use Rattle.host_link.specs.Commands.{write};
+ghost use Rattle.host_program.specs.Blocks.{Writes, WritesBeside, IsStarved, WritesBlocks};
 
 use crate::asked::ask_result;
 use crate::identified::ask_block_len;
 use crate::links::Links;
 use crate::opened::{open_admin, open_io};
 use crate::peers::{IN_CAPSULE, Peers};
-use crate::printed::written;
+use crate::printed::{print_text, written};
 use host_driver::HostCommand;
 use host_link::{Blocks, Link, Session, SessionFault, commands};
 use std::alloc::{AllocError, Global};
@@ -31,7 +32,10 @@ pub fn write<A: Link + Drop, L: Link + Drop, W: Write>(
     fill: Fill,
     turns: u64,
     out: &mut W,
-) -> Result<(), SessionFault> {
+) -> Result<(), SessionFault>
+    ensures { Writes peers.now fill turns (A.state links.admin) (L.state links.io) result
+        (W.contents out.old) (W.contents out.new) }
+{
     let mut admin = open_admin(alloc, links.admin, peers, turns)?;
     write_beside(alloc, &mut admin, links.io, peers, fill, out)
 }
@@ -43,7 +47,9 @@ fn write_beside<A: Link + Drop, L: Link + Drop, W: Write>(
     peers: &Peers,
     fill: Fill,
     out: &mut W,
-) -> Result<(), SessionFault> {
+) -> Result<(), SessionFault>
+    ensures { WritesBeside peers.now fill (L.state link) admin.old result (W.contents out.old) (W.contents out.new) }
+{
     let block_len = ask_block_len(alloc, admin, fill.blocks.nsid)?;
     let mut io = open_io(alloc, link, peers, admin, IN_CAPSULE)?;
     write_over(alloc, &mut io, fill, block_len, out)
@@ -57,10 +63,12 @@ fn write_over<L: Link + Drop, W: Write>(
     out: &mut W,
 ) -> Result<(), SessionFault>
     requires { block_len ≤ 4096 }
+    ensures { IsStarved result (W.contents out.old) (W.contents out.new)
+        ⊎ WritesBlocks fill block_len io.old result (W.contents out.old) (W.contents out.new) }
 {
     let command = filled(alloc, fill, block_len)?;
     ask_result(io, &command)?;
-    written(out.write_all(b"ok\n"))
+    print_text(out, b"ok\n")
 }
 
 /// Writes blocks as `write` does, none of their data in the capsule. Once the controller has asked for data, prints
@@ -113,12 +121,12 @@ fn hold<L: Link + Drop, R: Read, W: Write>(
     out: &mut W,
 ) -> Result<(), SessionFault> {
     if is_requested(io)? {
-        written(out.write_all(b"held\n"))?;
+        print_text(out, b"held\n")?;
         written(out.flush())?;
         pass_line(lines)?;
         await_answer(io)?;
     }
-    written(out.write_all(b"ok\n"))
+    print_text(out, b"ok\n")
 }
 
 // Whether data are asked for, and not the answer there.
