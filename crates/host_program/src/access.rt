@@ -1,4 +1,8 @@
 //! The command `ana`.
+ghost use Rattle.host_pages.specs.AnaLog.{fault_of};
+ghost use Rattle.host_program.specs.Pages.{PrintsPage, ShowsAna, TellsGroups, log_text};
+ghost use Rattle.host_program.specs.Printed.{Prints};
+
 use crate::asked::ask;
 use crate::lines::{push_change, push_group};
 use crate::opened::open_admin;
@@ -23,7 +27,9 @@ pub fn ana<L: Link + Drop, W: Write>(
     peers: &Peers,
     turns: u64,
     out: &mut W,
-) -> Result<(), SessionFault> {
+) -> Result<(), SessionFault>
+    ensures { ShowsAna peers.now turns (L.state link) result (W.contents out.old) (W.contents out.new) }
+{
     let mut session = open_admin(alloc, link, peers, turns)?;
     tell_groups(alloc, &mut session, out)
 }
@@ -32,20 +38,26 @@ fn tell_groups<L: Link + Drop, W: Write>(
     alloc: Global,
     session: &mut Session<L>,
     out: &mut W,
-) -> Result<(), SessionFault> {
+) -> Result<(), SessionFault>
+    ensures { TellsGroups session.old result (W.contents out.old) (W.contents out.new) }
+{
     let command = get_log_page(alloc, ASYMMETRIC_NAMESPACE_ACCESS, 0, READ_LEN);
     let page = ask(session, &command)?;
     print_page(alloc, &page, out)
 }
 
-fn print_page<W: Write>(alloc: Global, page: &[u8], out: &mut W) -> Result<(), SessionFault> {
+fn print_page<W: Write>(alloc: Global, page: &[u8], out: &mut W) -> Result<(), SessionFault>
+    ensures { PrintsPage (fault_of page.now) (log_text page.now) result (W.contents out.old) (W.contents out.new) }
+{
     match AnaLog::read(page) {
         Ok(log) => print_log(alloc, &log, out),
         Err(_) => Err(SessionFault::BadPage),
     }
 }
 
-fn print_log<W: Write>(alloc: Global, log: &AnaLog<'_>, out: &mut W) -> Result<(), SessionFault> {
+fn print_log<W: Write>(alloc: Global, log: &AnaLog<'_>, out: &mut W) -> Result<(), SessionFault>
+    ensures { Prints (log_text log.now) result (W.contents out.old) (W.contents out.new) }
+{
     let mut line = Vec::new(alloc);
     push_change(&mut line, log.change(), log.group_count())?;
     print(out, &mut line)?;
