@@ -30,7 +30,7 @@ module _ (params : HostParams) where
   begun_agrees : (link : LinkState) (turns : ℕ) (c : Conversation) → IsBegun params link turns c → ConversationAgrees params [] [] [] c
   begun_agrees link turns c b = record {
     received = [];
-    came = sym (ap (λ (d : Conversation). d.held) b.stays);
+    arrived = sym (ap (λ (d : Conversation). d.held) b.stays);
     queue = b.queue.2;
   }
 
@@ -40,7 +40,7 @@ module _ (params : HostParams) where
       → ConversationAgrees params h handed_out took old → ConversationAgrees params g handed_out took new
   goes_on h g handed_out took old new held on a = record {
     received = a.received;
-    came = a.came ∙ ap (λ (l : List ℕ). a.received ++ l) (sym held);
+    arrived = a.arrived ∙ ap (λ (l : List ℕ). a.received ++ l) (sym held);
     queue = on a.received a.queue;
   }
 
@@ -54,12 +54,12 @@ module _ (params : HostParams) where
       → ConversationAgrees params h handed_out took old → ConversationAgrees params h handed_out (took ++ sent_in s) new
   sends_agree (sent bytes) old new does h handed_out took a = record {
     received = a.received;
-    came = a.came ∙ ap (λ (l : List ℕ). a.received ++ l) (sym (ap (λ (d : Conversation). d.held) does.stays));
+    arrived = a.arrived ∙ ap (λ (l : List ℕ). a.received ++ l) (sym (ap (λ (d : Conversation). d.held) does.stays));
     queue = does.agrees params h a.received took a.queue;
   }
   sends_agree unsent old new does h handed_out took a = record {
     received = a.received;
-    came = a.came ∙ ap (λ (l : List ℕ). a.received ++ l) (sym (ap (λ (d : Conversation). d.held) does.stays));
+    arrived = a.arrived ∙ ap (λ (l : List ℕ). a.received ++ l) (sym (ap (λ (d : Conversation). d.held) does.stays));
     queue = subst (λ (l : List ℕ). Agrees params h a.received l new.queue) (sym (append-nil took))
         (subst (λ (q : QueueState). Agrees params h a.received took q) (sym (ap (λ (d : Conversation). d.queue) does.stays)) a.queue);
   }
@@ -77,7 +77,7 @@ module _ (params : HostParams) where
       → ConversationAgrees params h handed_out took old → ConversationAgrees params h (handed_out ++ came_in r) took new
   receives_agree r old new does h handed_out took a = record {
     received = a.received;
-    came = came_behind r old.link new.link old.held new.held a.received handed_out does.fills a.came;
+    arrived = came_behind r old.link new.link old.held new.held a.received handed_out does.fills a.arrived;
     queue = subst (λ (q : QueueState). Agrees params h a.received took q) (sym (ap (λ (d : Conversation). d.queue) does.stays)) a.queue;
   }
 
@@ -87,7 +87,7 @@ module _ (params : HostParams) where
       let n = room_for old.queue old.held in
       record {
         received = a.received ++ take n old.held;
-        came = a.came ∙ ap (λ (l : List ℕ). a.received ++ l) (sym (take-append-drop n old.held) ∙ ap (λ (l : List ℕ). take n old.held ++ l) (sym does.hands.left))
+        arrived = a.arrived ∙ ap (λ (l : List ℕ). a.received ++ l) (sym (take-append-drop n old.held) ∙ ap (λ (l : List ℕ). take n old.held ++ l) (sym does.hands.left))
             ∙ sym (append_assoc a.received (take n old.held) new.held);
         queue = does.hands.agrees params h a.received took a.queue;
       }
@@ -102,7 +102,7 @@ module _ (params : HostParams) where
   -- the turns that are left are no matter
   less_agrees : (c : Conversation) (n : ℕ) (h : History) (handed_out took : List ℕ) → ConversationAgrees params h handed_out took c
       → ConversationAgrees params h handed_out took (record c { turns = n })
-  less_agrees c n h handed_out took a = record { received = a.received; came = a.came; queue = a.queue }
+  less_agrees c n h handed_out took a = record { received = a.received; arrived = a.arrived; queue = a.queue }
 
   turn_agrees : (t : Turn) (old new : Conversation) → TakesTurn t old new → (h : History) (handed_out took : List ℕ)
       → ConversationAgrees params h handed_out took old
@@ -171,11 +171,11 @@ turn_tells t old new told takes is =
     let m = takes.moves in
     let begins : TellsMore told [] [] old.link = is ∙ ap (λ (x : Told). Some x) (nothing told) in
     let sends : TellsMore told [] (sent_in t.sending) m.then_sent.link =
-        sends_tell t.sending told [] [] (record old { turns = old.turns - 1 }) m.then_sent m.sends begins in
+    sends_tell t.sending told [] [] (record old { turns = old.turns - 1 }) m.then_sent m.sends begins in
     let receives : TellsMore told (came_in t.receiving) (sent_in t.sending) m.then_received.link =
-        receives_tell t.receiving told [] (sent_in t.sending) m.then_sent.held m.then_received.held m.then_sent.link m.then_received.link m.receives.fills sends in
+    receives_tell t.receiving told [] (sent_in t.sending) m.then_sent.held m.then_received.held m.then_sent.link m.then_received.link m.receives.fills sends in
     let steps : TellsMore told (came_in t.receiving) (sent_in t.sending) m.then_stepped.link =
-        ap (λ (l : LinkState). l.told) (steps_link t.steps m.then_handed m.then_stepped m.steps ∙ ap (λ (c : Conversation). c.link) m.hands.stays) ∙ receives in
+    ap (λ (l : LinkState). l.told) (steps_link t.steps m.then_handed m.then_stepped m.steps ∙ ap (λ (c : Conversation). c.link) m.hands.stays) ∙ receives in
     last_tells (told_in t.steps) t.last told (came_in t.receiving) (sent_in t.sending) m.then_stepped new m.ends steps
   where
     nothing : (x : Told) → x ≡ record { took = x.took ++ []; handed_out = x.handed_out ++ [] }
@@ -187,7 +187,7 @@ turn_tells t old new told takes is =
 pub conversations_agree : ConversationsAgree
 conversations_agree = record {
   begun = λ params. begun_agrees params;
-  submitted = λ c old new s params. submitted_agrees params c old new s;
+  submits = λ c old new s params. submitted_agrees params c old new s;
   turn = λ t old new takes params. turn_agrees params t old new takes;
 }
 

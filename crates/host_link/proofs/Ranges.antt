@@ -22,4 +22,4 @@ pub left_of : (xs : List ℕ) (a n b : ℕ) → a + n ≤ b → slice_range xs (
 left_of xs a n b within =
     let e : b - a ≡ n + (b - (a + n)) = omega arith in
     sym (ap (λ (m : ℕ). drop n (take m (drop a xs))) e ∙ drop-take n (b - (a + n)) (drop a xs)
-        ∙ ap (λ (ys : List ℕ). take (b - (a + n)) ys) (drop-drop n a xs))
+    ∙ ap (λ (ys : List ℕ). take (b - (a + n)) ys) (drop-drop n a xs))

@@ -28,11 +28,14 @@ answers_step old new answer by a = (a.last ∷ a.fronts, record { steps = by; mo
 same_step : (old new : QueueState) (answer : Result HostStep HostFault) → StepsBy old answer new → new ≡ old
     → (fronts : List Front) × StepsQueue (record { fronts = fronts; answer = answer }) old new
 unfolding run with_taken
-same_step old new answer by same = ([], record {
-  steps = by;
-  moved = same;
-  agrees = subst (λ (q : QueueState). AgreesAfterAll [] old q) (sym same) (λ given h received gave a. a);
-})
+same_step old new answer by same = (
+  [],
+  record {
+    steps = by;
+    moved = same;
+    agrees = subst (λ (q : QueueState). AgreesAfterAll [] old q) (sym same) (λ given h received gave a. a);
+  },
+)
 
 steps_in : (old new : QueueState) (answer : Result HostStep HostFault) → StepsBy old answer new → StepsIn old answer new
     → (fronts : List Front) × StepsQueue (record { fronts = fronts; answer = answer }) old new
@@ -106,6 +109,7 @@ steps_all old new told l = by l.steps l.all l.are_telling l.number l.is
     last_told (Ok (step.Connected cntlid)) before tells = refl
     last_told (Ok (step.Done a)) before tells = refl
     last_told (Err f) before tells = cc
+
     by : (steps : List Step) → StepsAll steps old new → AreTelling steps → length steps ≡ 64 → told ≡ told_last steps → StepsOut (Ok told) old new
     by [] all telling number is = absurd (omega (arith, number))
     by (s ∷ ss) all telling number is = record {

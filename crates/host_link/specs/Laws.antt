@@ -39,14 +39,14 @@ came_in not_asked = []
 -- history: it received what was handed out, but for what is held, and gave what was taken.
 pub record ConversationAgrees (params : HostParams) (h : History) (handed_out took : List ℕ) (c : Conversation) : Type 0 where
   pub received : List ℕ
-  pub came : handed_out ≡ received ++ c.held
+  pub arrived : handed_out ≡ received ++ c.held
   pub queue : Agrees params h received took c.queue
 
 -- A conversation that begins agrees with no events. Whatever it agrees with, after a command is submitted it agrees with
 -- that event too, and after a turn with the events of its steps, where the link took and handed out what the turn says.
 pub record ConversationsAgree : Type 0 where
   pub begun : (params : HostParams) (link : LinkState) (turns : ℕ) (c : Conversation) → IsBegun params link turns c → ConversationAgrees params [] [] [] c
-  pub submitted : (c : Command) (old new : Conversation) → (s : SubmitsNext c old new)
+  pub submits : (c : Command) (old new : Conversation) → (s : SubmitsNext c old new)
       → (params : HostParams) (h : History) (handed_out took : List ℕ) → ConversationAgrees params h handed_out took old
       → ConversationAgrees params (submitted s.cid c ∷ h) handed_out took new
   pub turn : (t : Turn) (old new : Conversation) → TakesTurn t old new

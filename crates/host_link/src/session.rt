@@ -13,9 +13,9 @@ use host_driver::{Answer, HostCommand, HostFault, HostParams, HostQueue, HostSte
 use std::alloc::Global;
 use std::marker::Model;
 
-/// The most commands that are outstanding on a queue: so many steps may be answers, without a PDU between them that
-/// breaks the transport's rules.
-const COMMANDS_MAX: usize = 63;
+/// The most steps of a turn: one more than the commands that are outstanding on a queue, for so many steps may be
+/// answers, without a PDU between them that breaks the transport's rules.
+const STEPS_MAX: usize = 64;
 
 /// RDY of the property CSTS (Base 2.0, section 3.1.3.6).
 const READY: u64 = 1;
@@ -227,7 +227,7 @@ impl<L: Link + Drop> Session<L> {
         ensures { StepsOut result self.old self.new }
     {
         let mut told = None;
-        for _ in 0..=COMMANDS_MAX {
+        for _ in 0..STEPS_MAX {
             match self.queue.step()? {
                 HostStep::Idle => return Ok(told),
                 step => told = Some(step),

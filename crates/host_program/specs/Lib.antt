@@ -1,7 +1,9 @@
 pub mod Asked
 pub mod Asking
 pub mod Blocks
+pub mod Discovering
 pub mod Lines
+pub mod Listing
 pub mod Pages
 pub mod Peers
 pub mod Printed
