@@ -2,6 +2,7 @@ pub mod Asked
 pub mod Asking
 pub mod Blocks
 pub mod Discovering
+pub mod Holding
 pub mod Lines
 pub mod Listing
 pub mod Pages
