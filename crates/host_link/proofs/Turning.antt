@@ -1,5 +1,5 @@
 -- From the parts of a turn to the turn.
-use Rattle.std.proofs.Common.{◌≡◌, ℕ, ◌≤◌, ◌<◌, ◌-◌, List, [], ◌∷◌, Bool, true, false, Result, Ok, Err, length, refl, sym, ap, ◌∙◌, subst, arith}
+use Rattle.std.proofs.Common.{◌≡◌, ℕ, ◌≤◌, ◌<◌, ◌+◌, ◌-◌, List, [], ◌∷◌, Bool, true, false, Result, Ok, Err, length, refl, sym, ap, ◌∙◌, subst, arith}
 use Rattle.std.specs.Prelude.{Option, Some, None}
 use Rattle.host_driver.specs.declared.answer.HostStep.{HostStep}
 use Rattle.host_driver.specs.declared.answer.HostStep.TheVariants as step
@@ -9,7 +9,7 @@ use Rattle.host_driver.specs.Queue.{Answers, Idles, QueueState, StepsBy, StepsIn
 use Rattle.host_driver.specs.Session.{is_failed}
 use Rattle.pdu_cut.specs.Front.{Front}
 use Rattle.host_link.specs.declared.fault.SessionFault.{SessionFault}
-use Rattle.host_link.specs.Calls.{MovesBy, ReceivesBy, SendsBy, StepsOut}
+use Rattle.host_link.specs.Calls.{MovesBy, ReceivesBy, SendsBy, StepsOnce, StepsOut, TurnsBy}
 use Rattle.host_link.specs.Conversation.{Conversation, Sending, Sends, Step, Steps, StepsQueue, sent, unsent}
 use Rattle.host_link.specs.Fault.{of_queue}
 use Rattle.host_link.specs.Turn.{AreTelling, IsOut, Moves, SendsLast, StepsAll, TakesTurn, Turn, is_telling, outcome, outcome_by, receiving_result, sending_result, told_behind, told_by, told_in, told_last}
@@ -75,13 +75,13 @@ pub begins_stepping : (c : Conversation) → Stepping c c 0 None
 begins_stepping c = record { steps = []; all = refl; are_telling = tt; number = refl; is = refl }
 
 pub tells_more : (s : HostStep) (old mid new : Conversation) (count next : ℕ) (told : Option HostStep) → Stepping old mid count told
-    → StepsBy mid.queue (Ok s) new.queue → new ≡ record mid { queue = new.queue } → is_telling (Ok s) ≡ true → next ≡ count + 1
+    → StepsOnce (Ok s) mid new → is_telling (Ok s) ≡ true → next ≡ count + 1
     → Stepping old new next (Some s)
-tells_more s old mid new count next told l by stays tells more =
-    let found = fronts_of mid.queue new.queue (Ok s) by in
+tells_more s old mid new count next told l once tells more =
+    let found = fronts_of mid.queue new.queue (Ok s) once.steps in
     record {
       steps = record { fronts = found.0; answer = Ok s } ∷ l.steps;
-      all = (mid, l.all, record { queue = found.1; stays = stays });
+      all = (mid, l.all, record { queue = found.1; stays = once.stays });
       are_telling = (tells, l.are_telling);
       number = omega (arith, l.number, more);
       is = refl;
@@ -89,13 +89,13 @@ tells_more s old mid new count next told l by stays tells more =
 
 -- the last one is idle, or a fault
 pub steps_end : (answer : Result HostStep HostFault) (old mid new : Conversation) (count : ℕ) (told : Option HostStep) (result : Result (Option HostStep) HostFault)
-    → Stepping old mid count told → StepsBy mid.queue answer new.queue → new ≡ record mid { queue = new.queue } → is_telling answer ≡ false → count ≤ 63
+    → Stepping old mid count told → StepsOnce answer mid new → is_telling answer ≡ false → count ≤ 63
     → result ≡ told_behind answer told → StepsOut result old new
-steps_end answer old mid new count told result l by stays tells most is =
-    let found = fronts_of mid.queue new.queue answer by in
+steps_end answer old mid new count told result l once tells most is =
+    let found = fronts_of mid.queue new.queue answer once.steps in
     record {
       steps = record { fronts = found.0; answer = answer } ∷ l.steps;
-      all = (mid, l.all, record { queue = found.1; stays = stays });
+      all = (mid, l.all, record { queue = found.1; stays = once.stays });
       is_out = (l.are_telling, omega (arith, l.number, most), λ is_true. cc);
       is = is ∙ ap (λ (o : Option HostStep). told_behind answer o) l.is;
     }
@@ -190,3 +190,11 @@ moves_turns t old new m =
 
 pub takes_turns : (t : Turn) (old new : Conversation) → TakesTurn t old new → new.turns < old.turns
 takes_turns t old new h = omega (arith, moves_turns t (record old { turns = old.turns - 1 }) new h.moves, h.is_left)
+
+-- one of the turns that are left is taken
+pub turns : (result : Result (Option HostStep) SessionFault) (old new : Conversation) → 0 < old.turns → MovesBy result (record old { turns = old.turns - 1 }) new
+    → TurnsBy result old new
+turns result old new left m = record { turn = m.turn; takes = record { is_left = omega (arith, left); moves = m.moves }; is = m.is }
+
+pub turns_fewer : (result : Result (Option HostStep) SessionFault) (old new : Conversation) → TurnsBy result old new → new.turns < old.turns
+turns_fewer result old new t = takes_turns t.turn old new t.takes

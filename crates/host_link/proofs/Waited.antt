@@ -5,7 +5,7 @@ use Rattle.host_driver.specs.declared.answer.Answer.{Answer}
 use Rattle.host_driver.specs.declared.answer.HostStep.{HostStep}
 use Rattle.host_link.specs.declared.fault.SessionFault.{SessionFault}
 use Rattle.host_link.specs.declared.fault.SessionFault.TheVariants as fault
-use Rattle.host_link.specs.Calls.{MovesBy}
+use Rattle.host_link.specs.Calls.{TurnsBy}
 use Rattle.host_link.specs.Conversation.{Conversation}
 use Rattle.host_link.specs.Session.{Requests, answer_by, answer_of, request_by}
 use Rattle.host_link.specs.Turn.{TakesTurn, Turn}
@@ -20,28 +20,20 @@ pub record Waiting (stops : Conversation → Bool) (old new : Conversation) : Ty
 pub begins_waiting : (stops : Conversation → Bool) (c : Conversation) → Waiting stops c c
 begins_waiting stops c = record { turns = []; quiet = refl }
 
--- with one turn less
-abbrev pub less : Conversation → Conversation
-less c = record c { turns = c.turns - 1 }
-
-takes : (result : Result (Option HostStep) SessionFault) (old new : Conversation) → 1 ≤ old.turns → (m : MovesBy result (less old) new) → TakesTurn m.turn old new
-takes result old new left m = record { is_left = left; moves = m.moves }
-
-pub waits_on : (stops : Conversation → Bool) (first old new : Conversation) → Waiting stops first old → 1 ≤ old.turns → MovesBy (Ok None) (less old) new
+pub waits_on : (stops : Conversation → Bool) (first old new : Conversation) → Waiting stops first old → TurnsBy (Ok None) old new
     → stops new ≡ false → Waiting stops first new
-waits_on stops first old new w left m on = record {
+waits_on stops first old new w m on = record {
   turns = m.turn ∷ w.turns;
-  quiet = (old, w.quiet, record { turn = takes (Ok None) old new left m; nothing = sym m.is; goes_on = on });
+  quiet = (old, w.quiet, record { turn = m.takes; nothing = sym m.is; goes_on = on });
 }
 
-ends_by : (result : Result HostStep SessionFault) (old new : Conversation) → 1 ≤ old.turns → MovesBy (as_outcome result) (less old) new → EndsByTurn result old new
-ends_by result old new left m = record { turn = m.turn; takes = takes (as_outcome result) old new left m; told = sym m.is }
+ends_by : (result : Result HostStep SessionFault) (old new : Conversation) → TurnsBy (as_outcome result) old new → EndsByTurn result old new
+ends_by result old new m = record { turn = m.turn; takes = m.takes; told = sym m.is }
 
 -- ---- until something is told
 
-pub waits_told : (result : Result HostStep SessionFault) (first old new : Conversation) → Waiting never first old → 1 ≤ old.turns
-    → MovesBy (as_outcome result) (less old) new → Waits result first new
-waits_told result first old new w left m = record { turns = w.turns; stands = old; quiet = w.quiet; ends = inr (ends_by result old new left m) }
+pub waits_told : (result : Result HostStep SessionFault) (first old new : Conversation) → Waiting never first old → TurnsBy (as_outcome result) old new → Waits result first new
+waits_told result first old new w m = record { turns = w.turns; stands = old; quiet = w.quiet; ends = inr (ends_by result old new m) }
 
 pub waits_out : (first old : Conversation) → Waiting never first old → old.turns ≡ 0 → Waits (Err fault.Turns) first old
 waits_out first old w none = record {
@@ -55,27 +47,27 @@ quiet_turns : (stops : Conversation → Bool) (ts : List Turn) (old new : Conver
 quiet_turns stops [] old new same = let e : new.turns ≡ old.turns = ap (λ (c : Conversation). c.turns) same in omega (arith, e)
 quiet_turns stops (t ∷ ts) old new h = omega (arith, takes_turns t h.0 new h.2.turn, quiet_turns stops ts old h.0 h.1)
 
-pub fewer : (stops : Conversation → Bool) (first old new : Conversation) → Waiting stops first old → 1 ≤ old.turns → new.turns ≡ old.turns - 1 → new.turns < first.turns
-fewer stops first old new w left is = omega (arith, quiet_turns stops w.turns first old w.quiet, left, is)
+pub fewer : (stops : Conversation → Bool) (first old new : Conversation) → Waiting stops first old → new.turns < old.turns → new.turns < first.turns
+fewer stops first old new w less = omega (arith, quiet_turns stops w.turns first old w.quiet, less)
 
 -- ---- until data are asked for
 
 pub requests_told : (told : Result HostStep SessionFault) (result : Result (Option Answer) SessionFault) (first old new : Conversation) → Waiting is_asked first old
-    → 1 ≤ old.turns → MovesBy (as_outcome told) (less old) new → result ≡ request_by (answer_by told) → Requests result first new
-requests_told told result first old new w left m is = record {
+    → TurnsBy (as_outcome told) old new → result ≡ request_by (answer_by told) → Requests result first new
+requests_told told result first old new w m is = record {
   turns = w.turns;
   stands = old;
   quiet = w.quiet;
-  ends = inr (inr (record { told = told; ends = ends_by told old new left m; is = is }));
+  ends = inr (inr (record { told = told; ends = ends_by told old new m; is = is }));
 }
 
-pub requests_asked : (first old new : Conversation) → Waiting is_asked first old → 1 ≤ old.turns → MovesBy (Ok None) (less old) new → is_asked new ≡ true
+pub requests_asked : (first old new : Conversation) → Waiting is_asked first old → TurnsBy (Ok None) old new → is_asked new ≡ true
     → Requests (Ok None) first new
-requests_asked first old new w left m asked = record {
+requests_asked first old new w m asked = record {
   turns = w.turns;
   stands = old;
   quiet = w.quiet;
-  ends = inr (inl (refl, record { turn = m.turn; takes = takes (Ok None) old new left m; nothing = sym m.is; asked = asked }));
+  ends = inr (inl (refl, record { turn = m.turn; takes = m.takes; nothing = sym m.is; asked = asked }));
 }
 
 pub requests_out : (first old : Conversation) → Waiting is_asked first old → old.turns ≡ 0 → Requests (Err fault.Turns) first old

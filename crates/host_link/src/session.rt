@@ -1,7 +1,7 @@
 //! A queue of a host over a link.
 ghost use Rattle.std.specs.Prelude.{◌≡◌, ◌<◌, IfOk, IfSome, OnOk};
 ghost use Rattle.host_driver.specs.Session.{AreParams};
-ghost use Rattle.host_link.specs.Calls.{MovesBy, ReceivesBy, SendsBy, StepsOut};
+ghost use Rattle.host_link.specs.Calls.{MovesBy, ReceivesBy, SendsBy, StepsOnce, StepsOut, TurnsBy};
 ghost use Rattle.host_link.specs.Session.{Answers, Connects, Enables, Executes, IsSuccess, Requests, SubmitsBy, answer_of};
 ghost use Rattle.host_link.specs.Waiting.{Waits, is_asked};
 
@@ -150,7 +150,6 @@ impl<L: Link + Drop> Session<L> {
         ensures success { IfOk result (λ answer. IfSome answer IsSuccess) }
     {
         while self.turns > 0 {
-            self.turns -= 1;
             if let Some(step) = self.turn()? {
                 return Ok(Some(answered(step)?));
             }
@@ -174,7 +173,6 @@ impl<L: Link + Drop> Session<L> {
         ensures fewer { OnOk result (self.new.turns < self.old.turns) }
     {
         while self.turns > 0 {
-            self.turns -= 1;
             if let Some(step) = self.turn()? {
                 return Ok(step);
             }
@@ -182,10 +180,19 @@ impl<L: Link + Drop> Session<L> {
         Err(SessionFault::Turns)
     }
 
-    // What comes of a turn. What was received counts before the end of the link.
+    // Takes one of the turns that are left.
     fn turn(&mut self) -> Result<Option<HostStep>, SessionFault>
-        ensures does { MovesBy result self.old self.new }
-        ensures turns { self.new.turns ≡ self.old.turns }
+        requires { 0 < self.old.turns }
+        ensures does { TurnsBy result self.old self.new }
+        ensures fewer { self.new.turns < self.old.turns }
+    {
+        self.turns -= 1;
+        self.exchange()
+    }
+
+    // What comes of a turn. What was received counts before the end of the link.
+    fn exchange(&mut self) -> Result<Option<HostStep>, SessionFault>
+        ensures { MovesBy result self.old self.new }
     {
         let sent = self.send();
         let received = self.receive();
@@ -228,12 +235,18 @@ impl<L: Link + Drop> Session<L> {
     {
         let mut told = None;
         for _ in 0..STEPS_MAX {
-            match self.queue.step()? {
+            match self.step()? {
                 HostStep::Idle => return Ok(told),
                 step => told = Some(step),
             }
         }
         Ok(told)
+    }
+
+    fn step(&mut self) -> Result<HostStep, HostFault>
+        ensures { StepsOnce result self.old self.new }
+    {
+        self.queue.step()
     }
 }
 
