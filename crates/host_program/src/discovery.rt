@@ -1,8 +1,9 @@
 //! The command `discover`.
-ghost use Rattle.std.specs.Prelude.{◌≡◌, ◌≤◌, Err, IfSome, MatchResult, Ok};
+ghost use Rattle.std.specs.Prelude.{◌≡◌, ◌≤◌, Err, IfSome, MatchResult, Ok, flat_map};
 ghost use Rattle.host_pages.specs.DiscoveryPage.{fault_of};
 ghost use Rattle.host_program.specs.Asked.{record_count_of};
 ghost use Rattle.host_program.specs.Discovering.{Discovers, ReadsInto, ReadsPage, ShowsRecords, TellsRecords, page_text};
+ghost use Rattle.host_program.specs.Lines.{genctr_line, record_line};
 ghost use Rattle.host_program.specs.Pages.{PrintsPage};
 ghost use Rattle.host_program.specs.Printed.{Prints};
 
@@ -13,7 +14,7 @@ use crate::peers::Peers;
 use crate::printed::print;
 use host_link::commands::get_log_page;
 use host_link::{Link, Session, SessionFault};
-use host_pages::DiscoveryPage;
+use host_pages::{DiscoveryPage, DiscoveryRecord, Records};
 use nvt_fields::{Nqn, u16_at, u64_at};
 use std::alloc::Global;
 use std::io::Write;
@@ -140,12 +141,44 @@ fn print_page<W: Write>(
 ) -> Result<(), SessionFault>
     ensures { Prints (page_text page.now) result (W.contents out.old) (W.contents out.new) }
 {
+    print_genctr(alloc, page.genctr(), page.record_count(), out)?;
+    print_records(alloc, page.records(), out)
+}
+
+fn print_genctr<W: Write>(
+    alloc: Global,
+    genctr: u64,
+    records: u16,
+    out: &mut W,
+) -> Result<(), SessionFault>
+    ensures { Prints (genctr_line genctr records) result (W.contents out.old) (W.contents out.new) }
+{
     let mut line = Vec::new(alloc);
-    push_genctr(&mut line, page.genctr(), page.record_count())?;
-    print(out, &mut line)?;
-    for record in page.records() {
-        push_record(&mut line, &record)?;
-        print(out, &mut line)?;
+    push_genctr(&mut line, genctr, records)?;
+    print(out, &mut line)
+}
+
+fn print_records<W: Write>(
+    alloc: Global,
+    records: Records<'_>,
+    out: &mut W,
+) -> Result<(), SessionFault>
+    ensures { Prints (flat_map record_line records.entry) result (W.contents out.old) (W.contents out.new) }
+{
+    for found in records {
+        print_record(alloc, &found, out)?;
     }
     Ok(())
+}
+
+fn print_record<W: Write>(
+    alloc: Global,
+    found: &DiscoveryRecord<'_>,
+    out: &mut W,
+) -> Result<(), SessionFault>
+    ensures { Prints (record_line found.now) result (W.contents out.old) (W.contents out.new) }
+{
+    let mut line = Vec::new(alloc);
+    push_record(&mut line, found)?;
+    print(out, &mut line)
 }
