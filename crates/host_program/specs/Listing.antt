@@ -1,6 +1,7 @@
 -- What the command `list` does.
-use Rattle.std.specs.Prelude.{◌≡◌, ◌⊎◌, ◌==◌, ℕ, ◌-◌, Bool, true, false, List, [], ◌∷◌, ◌++◌, length, get_or, Option, Some, None, Result, Ok, Err, flat_map, if◌then◌else◌}
+use Rattle.std.specs.Prelude.{◌≡◌, ◌⊎◌, ◌==◌, ℕ, List, [], ◌∷◌, length, Option, Some, None, Result, Ok, Err, flat_map, if◌then◌else◌}
 use Rattle.std.specs.Io.KnownBytes.{Appends}
+use Rattle.std.specs.List.{last_or}
 use Rattle.host_pages.specs.NsList.{nsids_listed}
 use Rattle.host_link.specs.declared.fault.SessionFault.{SessionFault}
 use Rattle.host_link.specs.Commands.{identify}
@@ -9,18 +10,15 @@ use Rattle.host_link.specs.Link.{LinkState}
 use Rattle.host_program.specs.declared.peers.Peers.{Peers}
 use Rattle.host_program.specs.Asking.{Asks, OpensAdmin, payload_of}
 use Rattle.host_program.specs.Lines.{nsid_line}
-use Rattle.host_program.specs.Printed.{AppendsFront, Behind, IsOfWriting, Prints}
+use Rattle.host_program.specs.Printed.{AppendsFront, Behind, IsOfWriting}
 
 -- the namespaces of a list, one a line
 abbrev pub list_text : List ℕ → List ℕ
 list_text nsids = flat_map nsid_line nsids
 
 -- others may follow a list of 1,024 identifiers, above the last of them
-abbrev pub last_of : List ℕ → ℕ
-last_of nsids = get_or nsids (length nsids - 1) 0
-
 abbrev pub follows : List ℕ → Option ℕ
-follows nsids = if length nsids == 1024 then Some (last_of nsids) else None
+follows nsids = if length nsids == 1024 then last_or None nsids else None
 
 -- ---- one list
 
