@@ -5,7 +5,7 @@ use Rattle.host_driver.specs.declared.answer.HostStep.{HostStep}
 use Rattle.host_driver.specs.declared.answer.HostStep.TheVariants as step
 use Rattle.host_driver.specs.declared.fault.HostFault.{HostFault}
 use Rattle.host_driver.specs.declared.fault.HostFault.TheVariants as fault
-use Rattle.host_driver.specs.Queue.{Answers, Idles, QueueState, StepsBy, StepsIn, StepsWhere, Wants, AgreesAfterAll, run}
+use Rattle.host_driver.specs.Queue.{Answers, Idles, QueueState, StepsBy, StepsIn, StepsWhere, Wants, AgreesAfterAll, run, with_taken}
 use Rattle.host_driver.specs.Session.{is_failed}
 use Rattle.pdu_cut.specs.Front.{Front}
 use Rattle.host_link.specs.declared.fault.SessionFault.{SessionFault}
@@ -86,6 +86,12 @@ tells_more s old mid new count next told l once tells more =
       number = omega (arith, l.number, more);
       is = refl;
     }
+
+-- a step that is not idle tells something
+pub telling : (s : HostStep) → (s ≡ step.Idle → ⊥) → is_telling (Ok s) ≡ true
+telling step.Idle some = absurd (some refl)
+telling (step.Connected cntlid) some = refl
+telling (step.Done a) some = refl
 
 -- the last one is idle, or a fault
 pub steps_end : (answer : Result HostStep HostFault) (old mid new : Conversation) (count : ℕ) (told : Option HostStep) (result : Result (Option HostStep) HostFault)

@@ -202,7 +202,7 @@ impl<L: Link + Drop> Session<L> {
                 received?;
                 Ok(None)
             }
-            Ok(told) => Ok(told),
+            Ok(Some(step)) => Ok(Some(step)),
             Err(fault) => {
                 // What the queue has to say of the fault is sent as far as it goes.
                 let _ = self.send();
