@@ -1,5 +1,5 @@
 -- Commands that are submitted, and answered.
-use Rattle.std.proofs.Common.{◌≡◌, ℕ, ◌%◌, List, [], ◌∷◌, Result, Ok, Err, refl, sym, ap, ◌∙◌}
+use Rattle.std.proofs.Common.{◌≡◌, ℕ, ◌%◌, List, [], ◌∷◌, Result, Ok, Err, refl, ap, ◌∙◌}
 use Rattle.std.specs.Prelude.{◌≢◌, IsOkUnless, MatchOption, Option, Some, None}
 use Rattle.host_driver.specs.declared.answer.Answer.{Answer}
 use Rattle.host_driver.specs.declared.fault.HostFault.{HostFault}

@@ -1,12 +1,12 @@
 -- The parts of a turn.
-use Rattle.std.proofs.Common.{◌≡◌, ℕ, ◌+◌, ◌-◌, ◌<◌, ◌≤◌, List, [], ◌∷◌, ◌++◌, Bool, ◌||◌, Result, Ok, Err, length, min, take, drop, refl, sym, ap, ◌∙◌, subst, take-append-drop, arith}
+use Rattle.std.proofs.Common.{◌≡◌, ℕ, ◌+◌, ◌-◌, ◌<◌, ◌≤◌, List, ◌++◌, Bool, ◌||◌, Result, Ok, Err, length, min, take, drop, refl, sym, ap, ◌∙◌, subst, take-append-drop, arith}
 use Rattle.std.specs.Prelude.{◌==◌, Option, slice_range}
 use Rattle.host_driver.specs.declared.answer.HostStep.{HostStep}
 use Rattle.host_driver.specs.Queue.{QueueState, ReceiveAgrees, TakenAgrees}
 use Rattle.host_link.specs.declared.fault.SessionFault.{SessionFault}
 use Rattle.host_link.specs.declared.fault.SessionFault.TheVariants.{Io}
-use Rattle.host_link.specs.Calls.{MovesBy, ReceivesBy, SendsBy, TurnsBy}
-use Rattle.host_link.specs.Conversation.{Conversation, HandsOn, Receiving, came, failed, not_asked, room_for, sent, unsent, with_output}
+use Rattle.host_link.specs.Calls.{MovesBy, ReceivesBy, SendsBy}
+use Rattle.host_link.specs.Conversation.{Conversation, HandsOn, Receiving, came, failed, not_asked, room_for, sent, with_output}
 use Rattle.host_link.specs.Filling.{FillsBy, IsAnswerOf}
 use Rattle.host_link.specs.Link.{LinkState, Takes}
 use Rattle.host_link.specs.Turn.{receiving_result}

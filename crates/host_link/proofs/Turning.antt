@@ -5,14 +5,14 @@ use Rattle.host_driver.specs.declared.answer.HostStep.{HostStep}
 use Rattle.host_driver.specs.declared.answer.HostStep.TheVariants as step
 use Rattle.host_driver.specs.declared.fault.HostFault.{HostFault}
 use Rattle.host_driver.specs.declared.fault.HostFault.TheVariants as fault
-use Rattle.host_driver.specs.Queue.{Answers, Idles, QueueState, StepsBy, StepsIn, StepsWhere, Wants, AgreesAfterAll, run, with_taken}
+use Rattle.host_driver.specs.Queue.{Answers, Idles, QueueState, StepsBy, StepsIn, StepsWhere, AgreesAfterAll, run, with_taken}
 use Rattle.host_driver.specs.Session.{is_failed}
 use Rattle.pdu_cut.specs.Front.{Front}
 use Rattle.host_link.specs.declared.fault.SessionFault.{SessionFault}
 use Rattle.host_link.specs.Calls.{MovesBy, ReceivesBy, SendsBy, StepsOnce, StepsOut, TurnsBy}
-use Rattle.host_link.specs.Conversation.{Conversation, Sending, Sends, Step, Steps, StepsQueue, sent, unsent}
+use Rattle.host_link.specs.Conversation.{Conversation, Sending, Sends, Step, StepsQueue, sent, unsent}
 use Rattle.host_link.specs.Fault.{of_queue}
-use Rattle.host_link.specs.Turn.{AreTelling, IsOut, Moves, SendsLast, StepsAll, TakesTurn, Turn, is_telling, outcome, outcome_by, receiving_result, sending_result, told_behind, told_by, told_in, told_last}
+use Rattle.host_link.specs.Turn.{AreTelling, Moves, SendsLast, StepsAll, TakesTurn, Turn, is_telling, outcome_by, receiving_result, sending_result, told_behind, told_by, told_in, told_last}
 
 -- ---- a step of the queue
 

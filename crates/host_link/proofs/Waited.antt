@@ -1,14 +1,14 @@
 -- From turns to what is waited for.
-use Rattle.std.proofs.Common.{◌≡◌, ℕ, ◌≤◌, ◌<◌, ◌-◌, List, [], ◌∷◌, Bool, true, false, Result, Ok, Err, refl, sym, ap, ◌∙◌, subst, inl, inr, arith}
-use Rattle.std.specs.Prelude.{Option, Some, None}
+use Rattle.std.proofs.Common.{◌≡◌, ◌≤◌, ◌<◌, List, [], ◌∷◌, Bool, true, false, Result, Ok, Err, refl, sym, ap, inl, inr, arith}
+use Rattle.std.specs.Prelude.{Option, None}
 use Rattle.host_driver.specs.declared.answer.Answer.{Answer}
 use Rattle.host_driver.specs.declared.answer.HostStep.{HostStep}
 use Rattle.host_link.specs.declared.fault.SessionFault.{SessionFault}
 use Rattle.host_link.specs.declared.fault.SessionFault.TheVariants as fault
 use Rattle.host_link.specs.Calls.{TurnsBy}
 use Rattle.host_link.specs.Conversation.{Conversation}
-use Rattle.host_link.specs.Session.{Requests, answer_by, answer_of, request_by}
-use Rattle.host_link.specs.Turn.{TakesTurn, Turn}
+use Rattle.host_link.specs.Session.{Requests, answer_by, request_by}
+use Rattle.host_link.specs.Turn.{Turn}
 use Rattle.host_link.specs.Waiting.{AreQuiet, EndsByTurn, Waits, as_outcome, is_asked, never}
 use Rattle.host_link.proofs.Turning.{takes_turns}
 

@@ -1,5 +1,5 @@
 -- What a receive leaves of a piece.
-use Rattle.std.specs.Prelude.{◌≡◌, ℕ, List, Result, Ok, Err}
+use Rattle.std.specs.Prelude.{ℕ, List, Result, Ok, Err}
 use Rattle.host_link.specs.Conversation.{FillsWith, Receiving, came, failed, not_asked}
 use Rattle.host_link.specs.Link.{LinkState}
 

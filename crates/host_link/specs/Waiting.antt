@@ -1,6 +1,5 @@
 -- Turns that are waited.
 use Rattle.std.specs.Prelude.{◌≡◌, ◌⊎◌, ◌==◌, ◌&&◌, not, Bool, true, false, List, [], ◌∷◌, Option, Some, None, Result, Ok, Err, length}
-use Rattle.host_driver.specs.declared.answer.Answer.{Answer}
 use Rattle.host_driver.specs.declared.answer.HostStep.{HostStep}
 use Rattle.host_link.specs.declared.fault.SessionFault.{SessionFault}
 use Rattle.host_link.specs.declared.fault.SessionFault.TheVariants.{Turns}

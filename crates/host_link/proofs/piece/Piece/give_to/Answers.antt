@@ -1,4 +1,4 @@
-use Rattle.std.proofs.Common.{ℕ, ◌-◌, ◌≡◌, length, drop, arith}
+use Rattle.std.proofs.Common.{◌-◌, ◌≡◌, length, drop, arith}
 use Rattle.std.specs.Prelude.{slice_range}
 use Rattle.std.proofs.lemmas.List.{length-drop, length-take}
 use Rattle.host_link.proofs.Parts.{hands_on}
