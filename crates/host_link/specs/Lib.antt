@@ -1,3 +1,10 @@
+pub mod Calls
 pub mod Commands
+pub mod Conversation
 pub mod Fault
+pub mod Filling
+pub mod Laws
+pub mod Link
 pub mod Session
+pub mod Turn
+pub mod Waiting

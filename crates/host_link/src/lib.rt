@@ -5,6 +5,7 @@
 pub mod blocks;
 pub mod commands;
 pub mod fault;
+pub mod laws;
 pub mod link;
 mod piece;
 pub mod session;

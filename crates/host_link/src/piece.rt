@@ -1,9 +1,12 @@
 //! Bytes on their way from a link to a queue.
-ghost use Rattle.std.specs.Prelude.{◌≤◌, vec_len};
+ghost use Rattle.std.specs.Prelude.{◌≡◌, IfOk, []};
+ghost use Rattle.host_link.specs.Conversation.{HandsOn};
+ghost use Rattle.host_link.specs.Filling.{FillsBy};
 
 use crate::link::{Link, LinkFault};
 use host_driver::HostQueue;
 use std::alloc::{AllocError, Global};
+use std::marker::Model;
 
 /// The most bytes that are received at a time.
 const PIECE_MAX: usize = 65_536;
@@ -14,12 +17,23 @@ pub(crate) struct Piece {
     buffer: Vec<u8>,
     start: usize,
     end: usize,
-    ghost within: { end ≤ vec_len buffer },
+}
+
+impl Model for Piece {
+    ghost use Rattle.std.specs.Prelude.{◌≤◌, ℕ, List, slice_range, vec_len};
+
+    ghost Value = { List ℕ };
+
+    ghost view = { λ p. slice_range p.buffer.items p.start p.end };
+
+    ghost invariant = { λ p. (p.start ≤ p.end) × (p.end ≤ vec_len p.buffer) };
 }
 
 impl Piece {
     /// None yet.
-    pub(crate) fn new(alloc: Global) -> Result<Piece, AllocError> {
+    pub(crate) fn new(alloc: Global) -> Result<Piece, AllocError>
+        ensures { IfOk result (λ piece. piece ≡ []) }
+    {
         Ok(Piece {
             buffer: vec![in alloc; 0; PIECE_MAX]?,
             start: 0,
@@ -28,7 +42,9 @@ impl Piece {
     }
 
     /// Receives bytes, where all that came before are taken.
-    pub(crate) fn fill<L: Link>(&mut self, link: &mut L) -> Result<(), LinkFault> {
+    pub(crate) fn fill<L: Link>(&mut self, link: &mut L) -> Result<(), LinkFault>
+        ensures { FillsBy result (L.state link.old) (L.state link.new) self.old self.new }
+    {
         if self.start < self.end {
             return Ok(());
         }
@@ -39,9 +55,9 @@ impl Piece {
     }
 
     /// Hands the queue as many bytes as it has room for.
-    pub(crate) fn give_to(&mut self, queue: &mut HostQueue) {
-        if self.start < self.end {
-            self.start += queue.receive(&self.buffer[self.start..self.end]);
-        }
+    pub(crate) fn give_to(&mut self, queue: &mut HostQueue)
+        ensures { HandsOn self.old self.new queue.old queue.new }
+    {
+        self.start += queue.receive(&self.buffer[self.start..self.end]);
     }
 }

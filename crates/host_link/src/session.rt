@@ -1,7 +1,9 @@
 //! A queue of a host over a link.
-ghost use Rattle.std.specs.Prelude.{◌≡◌, IfOk, IfSome};
+ghost use Rattle.std.specs.Prelude.{◌≡◌, ◌<◌, IfOk, IfSome, OnOk};
 ghost use Rattle.host_driver.specs.Session.{AreParams};
-ghost use Rattle.host_link.specs.Session.{IsSuccess, answer_of};
+ghost use Rattle.host_link.specs.Calls.{MovesBy, ReceivesBy, SendsBy, StepsOnce, StepsOut, TurnsBy};
+ghost use Rattle.host_link.specs.Session.{Answers, Connects, Enables, Executes, IsSuccess, Requests, SubmitsBy, answer_of};
+ghost use Rattle.host_link.specs.Waiting.{Waits, is_asked};
 
 use crate::commands::{CONTROLLER_ENABLED, Property, property_get, property_set};
 use crate::fault::SessionFault;
@@ -9,10 +11,11 @@ use crate::link::Link;
 use crate::piece::Piece;
 use host_driver::{Answer, HostCommand, HostFault, HostParams, HostQueue, HostStep};
 use std::alloc::Global;
+use std::marker::Model;
 
-/// The most commands that are outstanding on a queue: so many steps may be answers, without a PDU between them that
-/// breaks the transport's rules.
-const COMMANDS_MAX: usize = 63;
+/// The most steps of a turn: one more than the commands that are outstanding on a queue, for so many steps may be
+/// answers, without a PDU between them that breaks the transport's rules.
+const STEPS_MAX: usize = 64;
 
 /// RDY of the property CSTS (Base 2.0, section 3.1.3.6).
 const READY: u64 = 1;
@@ -22,7 +25,7 @@ const READY: u64 = 1;
 /// A turn is one send, one receive, and steps until the queue is idle. Each call takes the turns that it needs from
 /// those that are left, and ends with `Turns` where there is none.
 #[derive(Drop)]
-pub struct Session<L> {
+pub struct Session<L: Link> {
     alloc: Global,
     link: L,
     queue: HostQueue,
@@ -31,6 +34,21 @@ pub struct Session<L> {
     cntlid: u16,
     // Whether all that was to be sent was taken, at some time since the last command was submitted.
     is_sent: bool,
+}
+
+impl<L: Link> Model for Session<L> {
+    ghost use Rattle.host_link.specs.Conversation.{Conversation};
+
+    ghost Value = { Conversation };
+
+    ghost view = { λ s. record {
+      link = L.state s.link;
+      queue = s.queue;
+      held = s.piece;
+      turns = s.turns;
+      cntlid = s.cntlid;
+      is_sent = s.is_sent;
+    } };
 }
 
 impl<L: Link + Drop> Session<L> {
@@ -43,6 +61,7 @@ impl<L: Link + Drop> Session<L> {
         turns: u64,
     ) -> Result<Session<L>, SessionFault>
         requires { AreParams params }
+        ensures { Connects params (L.state link) turns result }
     {
         let mut session = Session {
             alloc,
@@ -78,7 +97,9 @@ impl<L: Link + Drop> Session<L> {
     }
 
     /// Enables the controller, and waits until it is ready (Base 2.0, section 3.5.1).
-    pub fn enable(&mut self) -> Result<(), SessionFault> {
+    pub fn enable(&mut self) -> Result<(), SessionFault>
+        ensures { Enables result self.old self.new }
+    {
         let enable = property_set(
             self.alloc,
             Property::ControllerConfiguration,
@@ -86,24 +107,28 @@ impl<L: Link + Drop> Session<L> {
         );
         self.execute(&enable)?;
         let status = property_get(self.alloc, Property::ControllerStatus);
-        for _ in 0..self.turns {
+        loop {
             if self.execute(&status)?.result % 2 == READY {
                 return Ok(());
             }
         }
-        Err(SessionFault::Turns)
     }
 
     /// Sends a command, and waits for its answer. A status other than success is refused.
     pub fn execute(&mut self, command: &HostCommand) -> Result<Answer, SessionFault>
-        ensures { IfOk result IsSuccess }
+        ensures does { Executes command.now result self.old self.new }
+        ensures success { IfOk result IsSuccess }
+        ensures fewer { OnOk result (self.new.turns < self.old.turns) }
     {
         self.submit(command)?;
         self.answer()
     }
 
-    /// Puts a command behind what is to be sent. None is outstanding: that is the caller's to keep.
-    pub fn submit(&mut self, command: &HostCommand) -> Result<(), SessionFault> {
+    /// Puts a command behind what is to be sent. None is outstanding: that is the caller's to keep. A refusal changes
+    /// nothing.
+    pub fn submit(&mut self, command: &HostCommand) -> Result<(), SessionFault>
+        ensures { SubmitsBy command.now result self.old self.new }
+    {
         self.queue.submit(command)?;
         self.is_sent = false;
         Ok(())
@@ -111,7 +136,9 @@ impl<L: Link + Drop> Session<L> {
 
     /// Waits for the answer to the command that was submitted. A status other than success is refused.
     pub fn answer(&mut self) -> Result<Answer, SessionFault>
-        ensures { IfOk result IsSuccess }
+        ensures does { Answers result self.old self.new }
+        ensures success { IfOk result IsSuccess }
+        ensures fewer { OnOk result (self.new.turns < self.old.turns) }
     {
         answered(self.wait()?)
     }
@@ -119,24 +146,33 @@ impl<L: Link + Drop> Session<L> {
     /// Waits until the controller asks for data of the command that was submitted: until, once all of its capsule is
     /// taken, something is to be sent again. Its answer, where that comes before.
     pub fn request(&mut self) -> Result<Option<Answer>, SessionFault>
-        ensures { IfOk result (λ answer. IfSome answer IsSuccess) }
+        ensures does { Requests result self.old self.new }
+        ensures success { IfOk result (λ answer. IfSome answer IsSuccess) }
     {
-        for left in (0..self.turns).rev() {
-            self.turns = left;
+        while self.turns > 0 {
             if let Some(step) = self.turn()? {
                 return Ok(Some(answered(step)?));
             }
-            if self.is_sent && !self.queue.output().is_empty() {
+            if self.is_asked() {
                 return Ok(None);
             }
         }
         Err(SessionFault::Turns)
     }
 
+    // Whether more is to be sent than the capsules, all of which were taken.
+    fn is_asked(&self) -> bool
+        ensures { result ≡ is_asked self.now }
+    {
+        self.is_sent && !self.queue.output().is_empty()
+    }
+
     // Takes turns until one tells something.
-    fn wait(&mut self) -> Result<HostStep, SessionFault> {
-        for left in (0..self.turns).rev() {
-            self.turns = left;
+    fn wait(&mut self) -> Result<HostStep, SessionFault>
+        ensures does { Waits result self.old self.new }
+        ensures fewer { OnOk result (self.new.turns < self.old.turns) }
+    {
+        while self.turns > 0 {
             if let Some(step) = self.turn()? {
                 return Ok(step);
             }
@@ -144,8 +180,20 @@ impl<L: Link + Drop> Session<L> {
         Err(SessionFault::Turns)
     }
 
+    // Takes one of the turns that are left.
+    fn turn(&mut self) -> Result<Option<HostStep>, SessionFault>
+        requires { 0 < self.old.turns }
+        ensures does { TurnsBy result self.old self.new }
+        ensures fewer { self.new.turns < self.old.turns }
+    {
+        self.turns -= 1;
+        self.exchange()
+    }
+
     // What comes of a turn. What was received counts before the end of the link.
-    fn turn(&mut self) -> Result<Option<HostStep>, SessionFault> {
+    fn exchange(&mut self) -> Result<Option<HostStep>, SessionFault>
+        ensures { MovesBy result self.old self.new }
+    {
         let sent = self.send();
         let received = self.receive();
         match self.steps() {
@@ -154,7 +202,7 @@ impl<L: Link + Drop> Session<L> {
                 received?;
                 Ok(None)
             }
-            Ok(told) => Ok(told),
+            Ok(Some(step)) => Ok(Some(step)),
             Err(fault) => {
                 // What the queue has to say of the fault is sent as far as it goes.
                 let _ = self.send();
@@ -163,16 +211,18 @@ impl<L: Link + Drop> Session<L> {
         }
     }
 
-    fn send(&mut self) -> Result<(), SessionFault> {
+    fn send(&mut self) -> Result<(), SessionFault>
+        ensures { SendsBy result self.old self.new }
+    {
         let taken = self.link.send(self.queue.output())?;
         self.queue.taken(taken);
-        if self.queue.output().is_empty() {
-            self.is_sent = true;
-        }
+        self.is_sent |= self.queue.output().is_empty();
         Ok(())
     }
 
-    fn receive(&mut self) -> Result<(), SessionFault> {
+    fn receive(&mut self) -> Result<(), SessionFault>
+        ensures { ReceivesBy result self.old self.new }
+    {
         let received = self.piece.fill(&mut self.link);
         self.piece.give_to(&mut self.queue);
         received?;
@@ -180,15 +230,23 @@ impl<L: Link + Drop> Session<L> {
     }
 
     // Steps until the queue is idle: what the last one told.
-    fn steps(&mut self) -> Result<Option<HostStep>, HostFault> {
+    fn steps(&mut self) -> Result<Option<HostStep>, HostFault>
+        ensures { StepsOut result self.old self.new }
+    {
         let mut told = None;
-        for _ in 0..=COMMANDS_MAX {
-            match self.queue.step()? {
+        for _ in 0..STEPS_MAX {
+            match self.step()? {
                 HostStep::Idle => return Ok(told),
                 step => told = Some(step),
             }
         }
         Ok(told)
+    }
+
+    fn step(&mut self) -> Result<HostStep, HostFault>
+        ensures { StepsOnce result self.old self.new }
+    {
+        self.queue.step()
     }
 }
 

@@ -1,2 +1,4 @@
+mod Cutting
 mod Joined
 mod Padding
+mod Printing

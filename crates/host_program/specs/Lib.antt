@@ -1,3 +1,10 @@
 pub mod Asked
+pub mod Asking
+pub mod Blocks
+pub mod Discovering
+pub mod Holding
 pub mod Lines
+pub mod Listing
+pub mod Pages
 pub mod Peers
+pub mod Printed

@@ -1,4 +1,10 @@
 //! The command `ana`.
+ghost use Rattle.std.specs.Prelude.{flat_map};
+ghost use Rattle.host_pages.specs.AnaLog.{fault_of};
+ghost use Rattle.host_program.specs.Lines.{change_line, group_line};
+ghost use Rattle.host_program.specs.Pages.{PrintsPage, ShowsAna, TellsGroups, log_text};
+ghost use Rattle.host_program.specs.Printed.{Prints};
+
 use crate::asked::ask;
 use crate::lines::{push_change, push_group};
 use crate::opened::open_admin;
@@ -6,7 +12,7 @@ use crate::peers::Peers;
 use crate::printed::print;
 use host_link::commands::get_log_page;
 use host_link::{Link, Session, SessionFault};
-use host_pages::AnaLog;
+use host_pages::{AnaGroup, AnaLog, Groups};
 use std::alloc::Global;
 use std::io::Write;
 
@@ -23,7 +29,9 @@ pub fn ana<L: Link + Drop, W: Write>(
     peers: &Peers,
     turns: u64,
     out: &mut W,
-) -> Result<(), SessionFault> {
+) -> Result<(), SessionFault>
+    ensures { ShowsAna peers.now turns (L.state link) result (W.contents out.old) (W.contents out.new) }
+{
     let mut session = open_admin(alloc, link, peers, turns)?;
     tell_groups(alloc, &mut session, out)
 }
@@ -32,26 +40,64 @@ fn tell_groups<L: Link + Drop, W: Write>(
     alloc: Global,
     session: &mut Session<L>,
     out: &mut W,
-) -> Result<(), SessionFault> {
+) -> Result<(), SessionFault>
+    ensures { TellsGroups session.old result (W.contents out.old) (W.contents out.new) }
+{
     let command = get_log_page(alloc, ASYMMETRIC_NAMESPACE_ACCESS, 0, READ_LEN);
     let page = ask(session, &command)?;
     print_page(alloc, &page, out)
 }
 
-fn print_page<W: Write>(alloc: Global, page: &[u8], out: &mut W) -> Result<(), SessionFault> {
+fn print_page<W: Write>(alloc: Global, page: &[u8], out: &mut W) -> Result<(), SessionFault>
+    ensures { PrintsPage (fault_of page.now) (log_text page.now) result (W.contents out.old) (W.contents out.new) }
+{
     match AnaLog::read(page) {
         Ok(log) => print_log(alloc, &log, out),
         Err(_) => Err(SessionFault::BadPage),
     }
 }
 
-fn print_log<W: Write>(alloc: Global, log: &AnaLog<'_>, out: &mut W) -> Result<(), SessionFault> {
+fn print_log<W: Write>(alloc: Global, log: &AnaLog<'_>, out: &mut W) -> Result<(), SessionFault>
+    ensures { Prints (log_text log.now) result (W.contents out.old) (W.contents out.new) }
+{
+    print_change(alloc, log.change(), log.group_count(), out)?;
+    print_groups(alloc, log.groups(), out)
+}
+
+fn print_change<W: Write>(
+    alloc: Global,
+    change: u64,
+    groups: u16,
+    out: &mut W,
+) -> Result<(), SessionFault>
+    ensures { Prints (change_line change groups) result (W.contents out.old) (W.contents out.new) }
+{
     let mut line = Vec::new(alloc);
-    push_change(&mut line, log.change(), log.group_count())?;
-    print(out, &mut line)?;
-    for group in log.groups() {
-        push_group(&mut line, &group)?;
-        print(out, &mut line)?;
+    push_change(&mut line, change, groups)?;
+    print(out, &mut line)
+}
+
+fn print_groups<W: Write>(
+    alloc: Global,
+    groups: Groups<'_>,
+    out: &mut W,
+) -> Result<(), SessionFault>
+    ensures { Prints (flat_map group_line groups.entry) result (W.contents out.old) (W.contents out.new) }
+{
+    for group in groups {
+        print_group(alloc, &group, out)?;
     }
     Ok(())
+}
+
+fn print_group<W: Write>(
+    alloc: Global,
+    group: &AnaGroup<'_>,
+    out: &mut W,
+) -> Result<(), SessionFault>
+    ensures { Prints (group_line group.now) result (W.contents out.old) (W.contents out.new) }
+{
+    let mut line = Vec::new(alloc);
+    push_group(&mut line, group)?;
+    print(out, &mut line)
 }

@@ -1,4 +1,7 @@
 //! What a command asks a controller for. Each answer is taken apart here, so that what asks owns its bytes alone.
+ghost use Rattle.std.specs.Prelude.{Err, MatchResult, Ok};
+ghost use Rattle.host_program.specs.Asking.{Asks, payload_of, result_of};
+
 use host_driver::HostCommand;
 use host_link::{Link, Session, SessionFault};
 
@@ -6,7 +9,11 @@ use host_link::{Link, Session, SessionFault};
 pub(crate) fn ask<L: Link + Drop>(
     session: &mut Session<L>,
     command: &HostCommand,
-) -> Result<Vec<u8>, SessionFault> {
+) -> Result<Vec<u8>, SessionFault>
+    ensures { MatchResult result
+        (λ bytes. Asks payload_of command.now (Ok bytes.items) session.old session.new)
+        (λ fault. Asks payload_of command.now (Err fault) session.old session.new) }
+{
     match session.execute(command) {
         Ok(answer) => Ok(answer.payload),
         Err(fault) => Err(fault),
@@ -17,7 +24,9 @@ pub(crate) fn ask<L: Link + Drop>(
 pub(crate) fn ask_result<L: Link + Drop>(
     session: &mut Session<L>,
     command: &HostCommand,
-) -> Result<u64, SessionFault> {
+) -> Result<u64, SessionFault>
+    ensures { Asks result_of command.now result session.old session.new }
+{
     match session.execute(command) {
         Ok(answer) => Ok(answer.result),
         Err(fault) => Err(fault),

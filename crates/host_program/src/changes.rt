@@ -1,4 +1,9 @@
 //! The command `changed`.
+ghost use Rattle.host_pages.specs.NsList.{nsids_listed};
+ghost use Rattle.host_program.specs.Lines.{changed_line};
+ghost use Rattle.host_program.specs.Pages.{AwaitsChange, ShowsChanged, TellsChange, TellsList};
+ghost use Rattle.host_program.specs.Printed.{Prints};
+
 use crate::asked::{ask, ask_result};
 use crate::lines::push_changed;
 use crate::opened::open_admin;
@@ -32,7 +37,9 @@ pub fn changed<L: Link + Drop, W: Write>(
     peers: &Peers,
     turns: u64,
     out: &mut W,
-) -> Result<(), SessionFault> {
+) -> Result<(), SessionFault>
+    ensures { ShowsChanged peers.now turns (L.state link) result (W.contents out.old) (W.contents out.new) }
+{
     let mut session = open_admin(alloc, link, peers, turns)?;
     tell_change(alloc, &mut session, out)
 }
@@ -41,13 +48,35 @@ fn tell_change<L: Link + Drop, W: Write>(
     alloc: Global,
     session: &mut Session<L>,
     out: &mut W,
-) -> Result<(), SessionFault> {
+) -> Result<(), SessionFault>
+    ensures { TellsChange session.old result (W.contents out.old) (W.contents out.new) }
+{
     let enable = set_features(alloc, EVENT_CONFIGURATION, NAMESPACE_NOTICES);
     ask_result(session, &enable)?;
+    await_change(alloc, session, out)
+}
+
+fn await_change<L: Link + Drop, W: Write>(
+    alloc: Global,
+    session: &mut Session<L>,
+    out: &mut W,
+) -> Result<(), SessionFault>
+    ensures { AwaitsChange session.old result (W.contents out.old) (W.contents out.new) }
+{
     let event = ask_result(session, &event_request(alloc))?;
     if event % (1 << 32) != NAMESPACE_CHANGED {
         return Err(SessionFault::BadPage);
     }
+    tell_list(alloc, session, out)
+}
+
+fn tell_list<L: Link + Drop, W: Write>(
+    alloc: Global,
+    session: &mut Session<L>,
+    out: &mut W,
+) -> Result<(), SessionFault>
+    ensures { TellsList session.old result (W.contents out.old) (W.contents out.new) }
+{
     let list = ask(
         session,
         &get_log_page(alloc, CHANGED_NAMESPACES, 0, LIST_LEN),
@@ -55,7 +84,9 @@ fn tell_change<L: Link + Drop, W: Write>(
     print_changed(alloc, &list, out)
 }
 
-fn print_changed<W: Write>(alloc: Global, list: &[u8], out: &mut W) -> Result<(), SessionFault> {
+fn print_changed<W: Write>(alloc: Global, list: &[u8], out: &mut W) -> Result<(), SessionFault>
+    ensures { Prints (changed_line (nsids_listed list.now)) result (W.contents out.old) (W.contents out.new) }
+{
     let Ok(list) = NsList::read(list) else {
         return Err(SessionFault::BadPage);
     };

@@ -1,6 +1,7 @@
 //! What a host has to know of a namespace.
-ghost use Rattle.std.specs.Prelude.{◌≡◌, ◌≤◌, IfOk, IfSome};
+ghost use Rattle.std.specs.Prelude.{◌≡◌, ◌<◌, ◌≤◌, IfOk, IfSome};
 ghost use Rattle.host_program.specs.Asked.{block_len_of};
+ghost use Rattle.host_program.specs.Asking.{AsksBlockLen};
 
 use crate::asked::ask;
 use host_link::commands::identify;
@@ -21,7 +22,9 @@ pub(crate) fn ask_block_len<L: Link + Drop>(
     session: &mut Session<L>,
     nsid: u32,
 ) -> Result<u32, SessionFault>
-    ensures { IfOk result (λ len. len ≤ 4096) }
+    ensures asks { AsksBlockLen nsid result session.old session.new }
+    ensures some { IfOk result (λ len. 0 < len) }
+    ensures most { IfOk result (λ len. len ≤ 4096) }
 {
     let namespace = ask(session, &identify(alloc, NAMESPACE, nsid))?;
     match block_len(&namespace) {
@@ -34,6 +37,7 @@ pub(crate) fn ask_block_len<L: Link + Drop>(
 // section 4.1.5.1).
 fn block_len(namespace: &[u8]) -> Option<u32>
     ensures value { result ≡ block_len_of namespace.now }
+    ensures some { IfSome result (λ len. 0 < len) }
     ensures most { IfSome result (λ len. len ≤ 4096) }
 {
     let format = usize::from(*namespace.get(FORMATTED_LBA_SIZE)? % 16);

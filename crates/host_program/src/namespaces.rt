@@ -1,4 +1,9 @@
 //! The command `list`.
+ghost use Rattle.host_pages.specs.NsList.{nsids_listed};
+ghost use Rattle.host_program.specs.Lines.{nsid_line};
+ghost use Rattle.host_program.specs.Listing.{Lists, PrintsList, TellsAbove, TellsNamespaces};
+ghost use Rattle.host_program.specs.Printed.{Prints};
+
 use crate::asked::ask;
 use crate::lines::push_nsid;
 use crate::opened::open_admin;
@@ -26,7 +31,9 @@ pub fn list<L: Link + Drop, W: Write>(
     peers: &Peers,
     turns: u64,
     out: &mut W,
-) -> Result<(), SessionFault> {
+) -> Result<(), SessionFault>
+    ensures { Lists peers.now turns (L.state link) result (W.contents out.old) (W.contents out.new) }
+{
     let mut session = open_admin(alloc, link, peers, turns)?;
     tell_namespaces(alloc, &mut session, out)
 }
@@ -35,12 +42,14 @@ fn tell_namespaces<L: Link + Drop, W: Write>(
     alloc: Global,
     session: &mut Session<L>,
     out: &mut W,
-) -> Result<(), SessionFault> {
+) -> Result<(), SessionFault>
+    ensures { TellsNamespaces session.old result (W.contents out.old) (W.contents out.new) }
+{
     let mut above = 0;
     for _ in 0..LISTS_MAX {
         match tell_namespaces_above(alloc, session, above, out)? {
             Some(last) => above = last,
-            None => break,
+            None => return Ok(()),
         }
     }
     Ok(())
@@ -51,7 +60,9 @@ fn tell_namespaces_above<L: Link + Drop, W: Write>(
     session: &mut Session<L>,
     above: u32,
     out: &mut W,
-) -> Result<Option<u32>, SessionFault> {
+) -> Result<Option<u32>, SessionFault>
+    ensures { TellsAbove above result session.old session.new (W.contents out.old) (W.contents out.new) }
+{
     let list = ask(session, &identify(alloc, ACTIVE_NAMESPACES, above))?;
     print_list(alloc, &list, out)
 }
@@ -61,7 +72,9 @@ fn print_list<W: Write>(
     alloc: Global,
     list: &[u8],
     out: &mut W,
-) -> Result<Option<u32>, SessionFault> {
+) -> Result<Option<u32>, SessionFault>
+    ensures { PrintsList (nsids_listed list.now) result (W.contents out.old) (W.contents out.new) }
+{
     match NsList::read(list) {
         Ok(list) => print_nsids(alloc, list.nsids(), out),
         Err(_) => Err(SessionFault::BadPage),
@@ -72,7 +85,9 @@ fn print_nsids<W: Write>(
     alloc: Global,
     nsids: ListedNsids<'_>,
     out: &mut W,
-) -> Result<Option<u32>, SessionFault> {
+) -> Result<Option<u32>, SessionFault>
+    ensures { PrintsList nsids.entry result (W.contents out.old) (W.contents out.new) }
+{
     let (mut count, mut last) = (0usize, None);
     for nsid in nsids {
         print_nsid(alloc, nsid, out)?;
@@ -86,7 +101,9 @@ fn print_nsids<W: Write>(
     }
 }
 
-fn print_nsid<W: Write>(alloc: Global, nsid: u32, out: &mut W) -> Result<(), SessionFault> {
+fn print_nsid<W: Write>(alloc: Global, nsid: u32, out: &mut W) -> Result<(), SessionFault>
+    ensures { Prints (nsid_line nsid) result (W.contents out.old) (W.contents out.new) }
+{
     let mut line = Vec::new(alloc);
     push_nsid(&mut line, nsid)?;
     print(out, &mut line)

@@ -1,5 +1,8 @@
 //! The queues that commands use.
 ghost use Rattle.std.specs.Prelude.{◌≤◌};
+ghost use Rattle.host_link.specs.Session.{Connects};
+ghost use Rattle.host_program.specs.Asking.{OpensAdmin};
+ghost use Rattle.host_program.specs.Peers.{io_queue};
 
 use crate::peers::Peers;
 use host_link::{Link, Session, SessionFault};
@@ -11,7 +14,9 @@ pub(crate) fn open_admin<L: Link + Drop>(
     link: L,
     peers: &Peers,
     turns: u64,
-) -> Result<Session<L>, SessionFault> {
+) -> Result<Session<L>, SessionFault>
+    ensures { OpensAdmin peers.now (L.state link) turns result }
+{
     let params = peers.admin_queue()?;
     let mut session = Session::connect(alloc, link, params, turns)?;
     session.enable()?;
@@ -27,6 +32,7 @@ pub(crate) fn open_io<A: Link + Drop, L: Link + Drop>(
     in_capsule: u32,
 ) -> Result<Session<L>, SessionFault>
     requires { in_capsule ≤ 8192 }
+    ensures { Connects (io_queue peers.now admin.now.cntlid in_capsule) (L.state link) admin.now.turns result }
 {
     let params = peers.io_queue(admin.cntlid(), in_capsule)?;
     Session::connect(alloc, link, params, admin.turns())

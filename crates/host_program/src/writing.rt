@@ -1,13 +1,15 @@
 //! The command `write`.
-ghost use Rattle.std.specs.Prelude.{◌≡◌, ◌≤◌, ◌*◌, IfOk, replicate};
+ghost use Rattle.std.specs.Prelude.{◌≡◌, ◌≤◌, ◌*◌, ◌⊎◌, IfErr, IfOk, replicate};
 ghost use Rattle.host_link.specs.Commands.{write};
+ghost use Rattle.host_program.specs.Blocks.{IsStarved, Writes, WritesBeside, WritesBlocks};
+ghost use Rattle.host_program.specs.Holding.{Holds, HoldsBeside, HoldsBlocks, HoldsData, IsAnswered, IsRequested, WritesHeld};
 
 use crate::asked::ask_result;
 use crate::identified::ask_block_len;
 use crate::links::Links;
 use crate::opened::{open_admin, open_io};
 use crate::peers::{IN_CAPSULE, Peers};
-use crate::printed::written;
+use crate::printed::{print_text, written};
 use host_driver::HostCommand;
 use host_link::{Blocks, Link, Session, SessionFault, commands};
 use std::alloc::{AllocError, Global};
@@ -31,7 +33,10 @@ pub fn write<A: Link + Drop, L: Link + Drop, W: Write>(
     fill: Fill,
     turns: u64,
     out: &mut W,
-) -> Result<(), SessionFault> {
+) -> Result<(), SessionFault>
+    ensures { Writes peers.now fill turns (A.state links.admin) (L.state links.io) result
+        (W.contents out.old) (W.contents out.new) }
+{
     let mut admin = open_admin(alloc, links.admin, peers, turns)?;
     write_beside(alloc, &mut admin, links.io, peers, fill, out)
 }
@@ -43,7 +48,9 @@ fn write_beside<A: Link + Drop, L: Link + Drop, W: Write>(
     peers: &Peers,
     fill: Fill,
     out: &mut W,
-) -> Result<(), SessionFault> {
+) -> Result<(), SessionFault>
+    ensures { WritesBeside peers.now fill (L.state link) admin.old result (W.contents out.old) (W.contents out.new) }
+{
     let block_len = ask_block_len(alloc, admin, fill.blocks.nsid)?;
     let mut io = open_io(alloc, link, peers, admin, IN_CAPSULE)?;
     write_over(alloc, &mut io, fill, block_len, out)
@@ -57,10 +64,12 @@ fn write_over<L: Link + Drop, W: Write>(
     out: &mut W,
 ) -> Result<(), SessionFault>
     requires { block_len ≤ 4096 }
+    ensures { IsStarved result (W.contents out.old) (W.contents out.new)
+        ⊎ WritesBlocks fill block_len io.old result (W.contents out.old) (W.contents out.new) }
 {
     let command = filled(alloc, fill, block_len)?;
     ask_result(io, &command)?;
-    written(out.write_all(b"ok\n"))
+    print_text(out, b"ok\n")
 }
 
 /// Writes blocks as `write` does, none of their data in the capsule. Once the controller has asked for data, prints
@@ -73,7 +82,10 @@ pub fn write_held<A: Link + Drop, L: Link + Drop, R: Read, W: Write>(
     turns: u64,
     lines: &mut R,
     out: &mut W,
-) -> Result<(), SessionFault> {
+) -> Result<(), SessionFault>
+    ensures { WritesHeld peers.now fill turns (A.state links.admin) (L.state links.io) result
+        (W.contents out.old) (W.contents out.new) }
+{
     let mut admin = open_admin(alloc, links.admin, peers, turns)?;
     hold_beside(alloc, &mut admin, links.io, peers, fill, lines, out)
 }
@@ -86,24 +98,29 @@ fn hold_beside<A: Link + Drop, L: Link + Drop, R: Read, W: Write>(
     fill: Fill,
     lines: &mut R,
     out: &mut W,
-) -> Result<(), SessionFault> {
+) -> Result<(), SessionFault>
+    ensures { HoldsBeside peers.now fill (L.state link) admin.old result (W.contents out.old) (W.contents out.new) }
+{
     let block_len = ask_block_len(alloc, admin, fill.blocks.nsid)?;
     let mut io = open_io(alloc, link, peers, admin, 0)?;
-    submit(alloc, &mut io, fill, block_len)?;
-    hold(&mut io, lines, out)
+    hold_over(alloc, &mut io, fill, block_len, lines, out)
 }
 
-fn submit<L: Link + Drop>(
+fn hold_over<L: Link + Drop, R: Read, W: Write>(
     alloc: Global,
     io: &mut Session<L>,
     fill: Fill,
     block_len: u32,
+    lines: &mut R,
+    out: &mut W,
 ) -> Result<(), SessionFault>
     requires { block_len ≤ 4096 }
+    ensures { IsStarved result (W.contents out.old) (W.contents out.new)
+        ⊎ HoldsBlocks fill block_len io.old result (W.contents out.old) (W.contents out.new) }
 {
     let command = filled(alloc, fill, block_len)?;
     io.submit(&command)?;
-    Ok(())
+    hold(io, lines, out)
 }
 
 // Waits until data are asked for, then for a line, and then for the answer; where the answer comes first, for that.
@@ -111,25 +128,43 @@ fn hold<L: Link + Drop, R: Read, W: Write>(
     io: &mut Session<L>,
     lines: &mut R,
     out: &mut W,
-) -> Result<(), SessionFault> {
+) -> Result<(), SessionFault>
+    ensures { Holds io.old result (W.contents out.old) (W.contents out.new) }
+{
     if is_requested(io)? {
-        written(out.write_all(b"held\n"))?;
-        written(out.flush())?;
-        pass_line(lines)?;
-        await_answer(io)?;
+        hold_data(io, lines, out)
+    } else {
+        print_text(out, b"ok\n")
     }
-    written(out.write_all(b"ok\n"))
+}
+
+fn hold_data<L: Link + Drop, R: Read, W: Write>(
+    io: &mut Session<L>,
+    lines: &mut R,
+    out: &mut W,
+) -> Result<(), SessionFault>
+    ensures { HoldsData io.old result (W.contents out.old) (W.contents out.new) }
+{
+    print_text(out, b"held\n")?;
+    written(out.flush())?;
+    pass_line(lines)?;
+    await_answer(io)?;
+    print_text(out, b"ok\n")
 }
 
 // Whether data are asked for, and not the answer there.
-fn is_requested<L: Link + Drop>(io: &mut Session<L>) -> Result<bool, SessionFault> {
+fn is_requested<L: Link + Drop>(io: &mut Session<L>) -> Result<bool, SessionFault>
+    ensures { IsRequested result io.old io.new }
+{
     match io.request() {
         Ok(answer) => Ok(answer.is_none()),
         Err(fault) => Err(fault),
     }
 }
 
-fn await_answer<L: Link + Drop>(io: &mut Session<L>) -> Result<(), SessionFault> {
+fn await_answer<L: Link + Drop>(io: &mut Session<L>) -> Result<(), SessionFault>
+    ensures { IsAnswered result io.old io.new }
+{
     match io.answer() {
         Ok(_) => Ok(()),
         Err(fault) => Err(fault),
@@ -155,7 +190,9 @@ fn len_of(blocks: Blocks, block_len: u32) -> usize
 }
 
 // Reads up to the end of a line.
-fn pass_line<R: Read>(lines: &mut R) -> Result<(), SessionFault> {
+fn pass_line<R: Read>(lines: &mut R) -> Result<(), SessionFault>
+    ensures { IfErr result (λ fault. fault ≡ SessionFault.Io) }
+{
     let mut byte = [0];
     for _ in 0..LINE_MAX {
         match lines.read(&mut byte) {

@@ -1,5 +1,5 @@
 //! A link over a TCP socket.
-ghost use Rattle.std.specs.Prelude.{◌≤◌, IfOk, length};
+ghost use Rattle.std.specs.Prelude.{◌≡◌, ◌≢◌, ◌≤◌, IfOk, length};
 
 use host_link::{Link, LinkFault};
 use mio::net::TcpStream;
@@ -18,6 +18,8 @@ pub struct TcpLink<R> {
     pause: Pause,
     // Whether something was sent since the last call of `receive`.
     has_sent: bool,
+    // How many calls failed.
+    faults: u64,
 }
 
 impl<R: Net + Clock + Drop> TcpLink<R> {
@@ -30,26 +32,44 @@ impl<R: Net + Clock + Drop> TcpLink<R> {
             stream,
             pause: Pause::new(),
             has_sent: false,
+            faults: 0,
         })
     }
 
     // Bytes came.
-    fn wake(&mut self) {
+    fn wake(&mut self)
+        ensures { self.new.faults ≡ self.old.faults }
+    {
         self.pause = Pause::new();
         self.has_sent = false;
     }
 
     // Nothing came.
-    fn rest(&mut self) {
+    fn rest(&mut self)
+        ensures { self.new.faults ≡ self.old.faults }
+    {
         if self.has_sent {
             self.wake();
         } else if let Some(pause) = self.pause.after_vain(&self.rt) {
             thread::sleep(&self.rt, pause);
         }
     }
+
+    // A call failed.
+    fn fail(&mut self) -> LinkFault
+        ensures { self.new.faults ≢ self.old.faults }
+    {
+        self.faults = self.faults.wrapping_add(1);
+        LinkFault
+    }
 }
 
 impl<R: Net + Clock + Drop> Link for TcpLink<R> {
+    ghost use Rattle.std.specs.Prelude.{◌≤◌, IfOk, None, length};
+    ghost use Rattle.host_link.specs.Link.{LinkState, ReceiveAnswers, SendAnswers};
+
+    ghost state = { λ link. record { told = None; faults = link.faults } };
+
     fn send(&mut self, bytes: &[u8]) -> Result<usize, LinkFault> {
         if bytes.is_empty() {
             return Ok(0);
@@ -60,14 +80,14 @@ impl<R: Net + Clock + Drop> Link for TcpLink<R> {
                 Ok(n)
             }
             Err(error) if is_passing(&error) => Ok(0),
-            Err(_) => Err(LinkFault),
+            Err(_) => Err(self.fail()),
         }
     }
 
     fn receive(&mut self, buffer: &mut [u8]) -> Result<usize, LinkFault> {
         match read_from(&self.stream, buffer) {
             // Where there is room, no byte is the end of the stream.
-            Ok(0) if !buffer.is_empty() => Err(LinkFault),
+            Ok(0) if !buffer.is_empty() => Err(self.fail()),
             Ok(n) => {
                 self.wake();
                 Ok(n)
@@ -76,7 +96,7 @@ impl<R: Net + Clock + Drop> Link for TcpLink<R> {
                 self.rest();
                 Ok(0)
             }
-            Err(_) => Err(LinkFault),
+            Err(_) => Err(self.fail()),
         }
     }
 }

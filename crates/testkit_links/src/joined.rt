@@ -1,5 +1,6 @@
 //! Links to a target in memory.
-ghost use Rattle.std.specs.Prelude.{◌≤◌, IfOk, length};
+ghost use Rattle.std.specs.Prelude.{◌≡◌, ◌≤◌, IfOk, length};
+ghost use Rattle.block_store.specs.Faults.{Counts};
 
 use crate::target::SharedTarget;
 use block_store::MemoryDisk;
@@ -15,28 +16,55 @@ const STEPS_MAX: usize = 64;
 pub struct TargetLink<'a> {
     target: &'a SharedTarget,
     k: usize,
+    // How many calls failed.
+    faults: u64,
 }
 
 impl<'a> TargetLink<'a> {
     pub(crate) fn of(target: &'a SharedTarget, k: usize) -> TargetLink<'a> {
-        TargetLink { target, k }
+        TargetLink {
+            target,
+            k,
+            faults: 0,
+        }
     }
 }
 
 impl Link for TargetLink<'_> {
+    ghost use Rattle.std.specs.Prelude.{◌≤◌, IfOk, None, length};
+    ghost use Rattle.host_link.specs.Link.{LinkState, ReceiveAnswers, SendAnswers};
+
+    ghost state = { λ link. record { told = None; faults = link.faults } };
+
     fn send(&mut self, bytes: &[u8]) -> Result<usize, LinkFault> {
-        match self.target.target.try_borrow_mut() {
+        let taken = match self.target.target.try_borrow_mut() {
             Ok(mut target) => receive_at(&mut target, self.k, bytes),
             Err(_) => Err(LinkFault),
-        }
+        };
+        counted(taken, &mut self.faults)
     }
 
     fn receive(&mut self, buffer: &mut [u8]) -> Result<usize, LinkFault> {
-        match self.target.target.try_borrow_mut() {
+        let sent = match self.target.target.try_borrow_mut() {
             Ok(mut target) => send_at(&mut target, self.k, buffer),
             Err(_) => Err(LinkFault),
-        }
+        };
+        counted(sent, &mut self.faults)
     }
+}
+
+// Counts a call that failed.
+pub(crate) fn counted(
+    answer: Result<usize, LinkFault>,
+    faults: &mut u64,
+) -> Result<usize, LinkFault>
+    ensures answer { result ≡ answer }
+    ensures counts { Counts result faults.old faults.new }
+{
+    if answer.is_err() {
+        *faults = faults.wrapping_add(1);
+    }
+    answer
 }
 
 // A connection receives the first of these bytes.
@@ -85,6 +113,8 @@ pub struct EditedLink<'a> {
     link: TargetLink<'a>,
     edits: &'a [Line<'a>],
     waits: u32,
+    // How many calls failed.
+    faults: u64,
 }
 
 impl<'a> EditedLink<'a> {
@@ -93,20 +123,26 @@ impl<'a> EditedLink<'a> {
             link,
             edits,
             waits: 0,
+            faults: 0,
         }
     }
 }
 
 impl Link for EditedLink<'_> {
+    ghost use Rattle.std.specs.Prelude.{◌≤◌, IfOk, None, length};
+    ghost use Rattle.host_link.specs.Link.{LinkState, ReceiveAnswers, SendAnswers};
+
+    ghost state = { λ link. record { told = None; faults = link.faults } };
+
     fn send(&mut self, bytes: &[u8]) -> Result<usize, LinkFault> {
-        self.link.send(bytes)
+        counted(self.link.send(bytes), &mut self.faults)
     }
 
     fn receive(&mut self, buffer: &mut [u8]) -> Result<usize, LinkFault> {
         self.waits = self.waits.saturating_add(1);
         if self.waits == WAITS && !self.link.target.makes(self.edits) {
-            return Err(LinkFault);
+            return counted(Err(LinkFault), &mut self.faults);
         }
-        self.link.receive(buffer)
+        counted(self.link.receive(buffer), &mut self.faults)
     }
 }

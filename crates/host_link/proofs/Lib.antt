@@ -1,0 +1,6 @@
+pub mod Agreement
+pub mod Asking
+pub mod Parts
+pub mod Ranges
+pub mod Turning
+pub mod Waited
