@@ -1,1 +1,0 @@
-//! The law of an edit's reach. The function does nothing: its contract is the law.
