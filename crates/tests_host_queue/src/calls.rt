@@ -1,12 +1,12 @@
 //! Each refusal of a call, and the texts of faults.
+use host_driver::{HostFault, HostQueue};
+use nvt_fields::{FatalErrorStatus, Status};
+use std::alloc::Global;
 use testkit_host_queues::pdus::Sent;
 use testkit_host_queues::queues::{
     IC_RESP, Said, check_answer, check_failed, check_idle, connected, params, send, step,
     submit_reading, submit_writing, take_output,
 };
-use host_driver::{HostFault, HostQueue};
-use nvt_fields::{FatalErrorStatus, Status};
-use std::alloc::Global;
 use testkit_tables::{Outcome, Placed, check, check_bytes, check_number, pass};
 
 #[test]

@@ -1,12 +1,12 @@
 //! A conversation: the PDUs that a queue sends, whole, and what it tells.
+use host_driver::HostQueue;
+use nvt_fields::Status;
+use std::alloc::Global;
 use testkit_host_queues::pdus::{Sent, append};
 use testkit_host_queues::queues::{
     Said, check_answer, check_idle, connected_by, params, send, step, submit_reading,
     submit_writing, take_output,
 };
-use host_driver::HostQueue;
-use nvt_fields::Status;
-use std::alloc::Global;
 use testkit_tables::{Outcome, Placed, check, check_bytes, check_number, pass};
 
 const LAST: u8 = 4;

@@ -1,14 +1,14 @@
 //! Each fault of a controller, with the status, the information and the header that go back.
 ghost use Rattle.std.specs.Prelude.{◌≤◌};
 
+use host_driver::{HostFault, HostQueue};
+use nvt_fields::FatalErrorStatus;
+use std::alloc::{AllocError, Global};
 use testkit_host_queues::pdus::{Sent, bytes_of};
 use testkit_host_queues::queues::{
     CONNECTED, IC_RESP, Said, check_failed, params, send, step, submit_reading, submit_writing,
     take_output,
 };
-use host_driver::{HostFault, HostQueue};
-use nvt_fields::FatalErrorStatus;
-use std::alloc::{AllocError, Global};
 use testkit_tables::{Outcome, Placed, check, check_bytes, pass};
 
 // What the host's queue has sent before.

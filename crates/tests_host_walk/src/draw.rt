@@ -17,7 +17,7 @@ pub fn rarely(random: &mut Pcg32, n: u32) -> bool {
 // A number, and rarely one that is by one or two higher.
 fn about(random: &mut Pcg32, number: usize) -> u32 {
     let more = if rarely(random, 120) {
-        1 + below(random, 2)
+        below(random, 2).saturating_add(1)
     } else {
         0
     };
@@ -30,13 +30,13 @@ fn ic_resp(random: &mut Pcg32) -> Sent {
         if rarely(random, 12) {
             32
         } else {
-            below(random, 32) as u8
+            (below(random, 32) % 32) as u8
         },
         u8::from(rarely(random, 12)),
         if rarely(random, 8) {
-            4_000 + below(random, 200)
+            4_000u32.saturating_add(below(random, 200))
         } else {
-            4_096 + 4 * below(random, 9)
+            4_096u32.saturating_add(below(random, 9).saturating_mul(4))
         },
     )
 }
@@ -65,7 +65,7 @@ fn command(random: &mut Pcg32, plain: &Plain) -> (u16, Pending) {
             return (cid as u16, pending);
         }
     }
-    (below(random, 6) as u16, none)
+    ((below(random, 6) % 6) as u16, none)
 }
 
 fn data(random: &mut Pcg32, cid: u16, pending: Pending) -> Sent {
@@ -95,10 +95,10 @@ fn data(random: &mut Pcg32, cid: u16, pending: Pending) -> Sent {
 
 fn request(random: &mut Pcg32, cid: u16, pending: Pending) -> Sent {
     let left = pending.out.saturating_sub(pending.asked).max(1).min(4096);
-    let len = 1 + below(random, left as u32) as usize;
+    let len = (below(random, left as u32) as usize).saturating_add(1);
     Sent::Request(
         cid,
-        below(random, 4) as u16,
+        (below(random, 4) % 4) as u16,
         about(random, pending.asked),
         about(random, len),
     )
@@ -106,7 +106,7 @@ fn request(random: &mut Pcg32, cid: u16, pending: Pending) -> Sent {
 
 fn any_cid(random: &mut Pcg32, cid: u16) -> u16 {
     if rarely(random, 32) {
-        below(random, 7) as u16
+        (below(random, 7) % 7) as u16
     } else {
         cid
     }
@@ -117,7 +117,7 @@ pub fn pdu(random: &mut Pcg32, plain: &Plain) -> Sent {
     let (cid, pending) = command(random, plain);
     let cid = any_cid(random, cid);
     match below(random, 120) {
-        0 => Sent::Termination(below(random, 9) as u16, random.next_word()),
+        0 => Sent::Termination((below(random, 9) % 9) as u16, random.next_word()),
         1 => ic_resp(random),
         _ if plain.phase == Phase::Opened => ic_resp(random),
         2 => Sent::Response(cid, status(random), u64::from(random.next_word())),

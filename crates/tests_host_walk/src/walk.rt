@@ -79,21 +79,21 @@ fn check_submit(
     plain: &mut Plain,
     alloc: Global,
     is_writing: bool,
-    len: usize,
+    len: u32,
     seen: &mut Seen,
 ) -> Outcome {
     let (wanted, sends) = if is_writing {
-        plain.submit(len, 0)
+        plain.submit(len as usize, 0)
     } else {
-        plain.submit(0, len)
+        plain.submit(0, len as usize)
     };
     if wanted == Err(HostFault::QueueFull) {
         seen.full = seen.full.saturating_add(1);
     }
     let got = if is_writing {
-        submit_writing(queue, alloc, len)
+        submit_writing(queue, alloc, len as usize)
     } else {
-        submit_reading(queue, alloc, len as u32)
+        submit_reading(queue, alloc, len)
     };
     pass!(check(got == wanted, "what the call answers"));
     pass!(check(sent(queue) == sends, "the capsule"));
@@ -111,7 +111,7 @@ fn check_step(
     let is_nothing_owed = plain.is_quiet() && !rarely(random, 60);
     if is_nothing_owed || rarely(random, 3) {
         let is_writing = rarely(random, 2);
-        let len = below(random, 25) as usize;
+        let len = below(random, 25);
         return check_submit(queue, plain, alloc, is_writing, len, seen);
     }
     let pdu = pdu(random, plain);
