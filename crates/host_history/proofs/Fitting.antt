@@ -1,9 +1,9 @@
 -- No more data come of a command than it wants.
-use Rattle.std.proofs.Common.{◌≡◌, ◌⊎◌, ℕ, ◌≤◌, ◌==◌, ◌++◌, true, false, List, [], ◌∷◌, length, replicate, refl, sym, ap, ◌∙◌, inl, inr, arith, length-append}
+use Rattle.std.proofs.Common.{◌≡◌, ℕ, ◌≤◌, ◌++◌, List, [], ◌∷◌, length, replicate, sym, arith, length-append}
 use Rattle.std.specs.Prelude.{Option, Some, None}
 use Rattle.std.specs.Option.{option_map}
-use Rattle.number_table.specs.Table.{place, with_value}
-use Rattle.pdu_cut.specs.Front.{Front, incomplete, whole, faulty}
+use Rattle.number_table.specs.Table.{place}
+use Rattle.pdu_cut.specs.Front.{incomplete, whole, faulty}
 use Rattle.pdu_cut.specs.Pdu.{Pdu, data_part}
 use Rattle.host_decision.specs.declared.decision.Decision.{Decision}
 use Rattle.host_decision.specs.declared.decision.Decision.TheVariants as decision
@@ -11,8 +11,8 @@ use Rattle.host_decision.specs.Decision.{cid_named}
 use Rattle.host_decision.specs.Within.{Fits, IsWithin, Names}
 use Rattle.host_decision.proofs.Deciding.{decide_rests}
 use Rattle.host_wire.specs.declared.params.HostParams.{HostParams}
-use Rattle.host_history.specs.Event.{Event, History, submitted, taken}
-use Rattle.host_history.specs.Pending.{Commands, Pending, begun, changed, changed_by, connect_begun, outstanding_at, outstanding_of, with_data, with_request}
+use Rattle.host_history.specs.Event.{History, submitted, taken}
+use Rattle.host_history.specs.Pending.{Commands, Pending, begun, connect_begun, outstanding_at, outstanding_of, with_data, with_request}
 use Rattle.host_history.specs.State.{HostState, after_decision, owed_pdu, state_after}
 use Rattle.host_history.proofs.Placing.{Each, each_changed, each_replicated, each_with, each_without}
 

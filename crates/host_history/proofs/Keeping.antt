@@ -1,27 +1,26 @@
 -- A host is told the replies of a controller that keeps the rules, and nothing else.
-use Rattle.std.proofs.Common.{◌≡◌, ◌⊎◌, ℕ, ◌==◌, ◌++◌, ◌||◌, ◌%◌, ◌^◌, Bool, true, false, List, [], ◌∷◌, replicate, refl, sym, ap, ◌∙◌, inl, inr, arith, append-nil}
+use Rattle.std.proofs.Common.{◌≡◌, ℕ, ◌==◌, ◌++◌, ◌||◌, Bool, true, false, List, [], ◌∷◌, replicate, refl, sym, ap, ◌∙◌, inl, inr, arith, append-nil}
 use Rattle.std.specs.Prelude.{Option, Some, None, if◌then◌else◌}
 use Rattle.std.proofs.lemmas.Bool.Decides.{nat_tests}
 use Rattle.nvt_fields.specs.declared.pdu_type.PduType.{PduType}
 use Rattle.nvt_fields.specs.declared.pdu_type.PduType.TheVariants as types
 use Rattle.number_table.specs.Table.{place, with_value, without}
 use Rattle.number_table.proofs.Tables.{place-replicate}
-use Rattle.pdu_cut.specs.Front.{Front, incomplete, whole, faulty}
+use Rattle.pdu_cut.specs.Front.{incomplete, whole, faulty}
 use Rattle.pdu_cut.specs.Pdu.{Pdu, data_part, header_part}
 use Rattle.pdu_codec.specs.DataHead.{data_head_of}
 use Rattle.pdu_codec.specs.R2t.{r2t_of}
 use Rattle.host_decision.specs.declared.decision.Completion.{Completion}
 use Rattle.host_decision.specs.declared.decision.Decision.{Decision}
-use Rattle.host_decision.specs.declared.decision.Decision.TheVariants as decision
 use Rattle.host_decision.specs.declared.phase.Phase.{Phase}
 use Rattle.host_decision.specs.declared.phase.Phase.TheVariants.{Opened, Initialized, Connected, Failed}
 use Rattle.host_decision.specs.declared.phase.TransportLimits.{TransportLimits}
 use Rattle.host_decision.specs.Decision.{connected, is_success, response_in}
 use Rattle.host_wire.specs.declared.params.HostParams.{HostParams}
 use Rattle.host_history.specs.Behaved.{connect_told, data_told, reply_told}
-use Rattle.host_history.specs.Event.{Event, History, submitted, taken}
-use Rattle.host_history.specs.Keeping.{AsksNow, BringsNow, ConnectsNow, InitializesNow, KeepsRules, MayCome, RepliesAreTold, RepliesNow, brings_by, brought, has_response, is_response_by, loud, replies_of, reply_by, told_after}
-use Rattle.host_history.specs.Pending.{Commands, Pending, begun, changed, changed_by, connect_begun, with_data, with_request}
+use Rattle.host_history.specs.Event.{History, submitted, taken}
+use Rattle.host_history.specs.Keeping.{KeepsRules, MayCome, RepliesAreTold, brings_by, brought, has_response, is_response_by, loud, replies_of, reply_by, told_after}
+use Rattle.host_history.specs.Pending.{Commands, Pending, begun, changed_by, connect_begun, with_data, with_request}
 use Rattle.host_history.specs.State.{HostState, after_decision, owed_pdu, state_after}
 use Rattle.host_history.specs.Told.{tells}
 use Rattle.host_history.proofs.Behaving.{bytes_owed, connect_owed, initialize_owed, reply_owed, request_owed, understands, with_success}

@@ -2,8 +2,6 @@
 use Rattle.std.proofs.Common.{◌≡◌, ℕ, ◌==◌, Bool, true, false, if◌then◌else◌, List, [], ◌∷◌, replicate, refl, inl, inr}
 use Rattle.std.specs.Prelude.{Option, Some, None}
 use Rattle.number_table.specs.Table.{place}
-use Rattle.pdu_cut.specs.Front.{Front, incomplete, whole, faulty}
-use Rattle.pdu_cut.specs.Pdu.{Pdu, data_part}
 use Rattle.host_decision.specs.declared.decision.Decision.{Decision}
 use Rattle.host_decision.specs.declared.decision.Decision.TheVariants as decision
 use Rattle.host_wire.specs.declared.params.HostParams.{HostParams}
