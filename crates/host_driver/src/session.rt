@@ -129,7 +129,9 @@ impl Session {
         ensures err { OnErr result (self.new ≡ self.old) }
     {
         let in_capsule = self.params.in_capsule;
-        self.output.reserve(capsule_room(command.data(in_capsule)))?;
+        let room = capsule_room(command.data(in_capsule));
+        // As much again as waits, so that what waits is seldom moved.
+        self.output.reserve(room.max(self.output.len()))?;
         let pending = Pending::new(self.alloc, command, in_capsule)?;
         write_capsule(
             command,
@@ -153,7 +155,7 @@ impl Session {
         let decision = owed(&self.state, front);
         let room = room_of(&decision);
         if room > 0 {
-            self.output.reserve(room)?;
+            self.output.reserve(room.max(self.output.len()))?;
         }
         Ok(act(
             &self.params,
