@@ -16,7 +16,7 @@ fn seen(target: &Target<MemoryDisk>, k: usize) -> (usize, bool, usize) {
 }
 
 // Brings a PDU, and steps; where the step wants memory, nothing is consumed, sent or ended.
-fn is_taken(
+pub fn is_taken(
     target: &mut Target<MemoryDisk>,
     k: usize,
     pdu: &[u8],

@@ -10,3 +10,5 @@ mod pdus;
 mod replays;
 #[cfg(test)]
 mod targets;
+#[cfg(test)]
+mod transfers;

@@ -22,7 +22,7 @@ pub fn laid<const N: usize>(pieces: &[(usize, &[u8])]) -> [u8; N] {
     bytes
 }
 
-const IC_REQ: Pieces = &[(0, &[0x00, 0x00, 0x80, 0x00, 0x80])];
+pub const IC_REQ: Pieces = &[(0, &[0x00, 0x00, 0x80, 0x00, 0x80])];
 
 pub fn ic_req() -> [u8; 128] {
     laid(IC_REQ)
@@ -38,7 +38,7 @@ const CONNECT: Pieces = &[
     (584, b"nqn.2026-01.test:h1"),
 ];
 
-const ENABLE: Pieces = &[
+pub const ENABLE: Pieces = &[
     (0, &[0x04, 0x00, 0x48, 0x00, 0x48]),
     (8, &[0x7F, 0x40, 0x02]),
     (52, &[0x14, 0x00, 0x00, 0x00, 0x01, 0x00, 0x46]),

@@ -1,6 +1,6 @@
 //! The target: each kind of edit, with two connections open.
-use super::conversation;
 use super::pdus::ic_req;
+use super::{conversation, transfers};
 use block_store::MemoryDisk;
 use nvt_config::{Config, Edit, EditFault, NewFault};
 use std::alloc::{AllocError, Global};
@@ -140,6 +140,7 @@ fn serve_both(alloc: Global, target: &mut Target<MemoryDisk>, refused: &mut u32)
 pub enum Script {
     Edits,
     Conversation,
+    Transfer,
 }
 
 fn new_target(alloc: Global) -> Result<Target<MemoryDisk>, NewFault> {
@@ -158,6 +159,7 @@ fn use_target(
     match script {
         Script::Edits => serve_both(alloc, target, refused),
         Script::Conversation => conversation::serve_one(alloc, target, refused),
+        Script::Transfer => transfers::take_some(alloc, target, refused),
     }
 }
 
