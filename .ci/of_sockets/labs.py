@@ -67,7 +67,7 @@ def a_target_that_does_not_listen_ends_the_lab(_, host):
 def a_port_that_is_taken_ends_the_lab(program, host):
     with socket.create_server(("127.0.0.1", 0)) as taken:
         [control] = free_ports(1)
-        ran = lab(host, program, (taken.getsockname()[1], control), turns=12_000)
+        ran = lab(host, program, (taken.getsockname()[1], control), turns=25_000)
         check(b"host 1: error: turns" in ran[2], "host 1 waits for its turns")
         check_ended(ran)
 

@@ -78,7 +78,7 @@ fn make_edit<R: Eprint + AllocGlobal, S: Read + Write>(
     stream: &mut S,
     edit: &str,
 ) -> Result<(), LabFault> {
-    if send_line(stream, edit).is_err() {
+    if send_line(rt, stream, edit).is_err() {
         return Err(LabFault);
     }
     match next_line(rt.alloc(), stream) {
@@ -94,7 +94,8 @@ fn make_edit<R: Eprint + AllocGlobal, S: Read + Write>(
     }
 }
 
-fn send_line<S: Write>(stream: &mut S, line: &str) -> io::Result<()> {
-    stream.write_all(line.as_bytes())?;
-    stream.write_all(b"\n")
+// In one piece, since the end of a line that is sent on its own waits until what came before it is confirmed.
+fn send_line<R: AllocGlobal, S: Write>(rt: &R, stream: &mut S, line: &str) -> io::Result<()> {
+    let line = format!(in rt.alloc(); "{line}\n")?;
+    stream.write_all(line.as_bytes())
 }
