@@ -1,4 +1,4 @@
-use Rattle.std.proofs.Common.{◌≡◌, Ok, refl, ap, sym, ◌∙◌}
+use Rattle.std.proofs.Common.{◌≡◌, Result, Ok, Err, OnErr, refl, ap, sym, ◌∙◌}
 use Rattle.target_core.proofs.Moving.{edit_moves, made_same}
 use Rattle.target_core.proofs.Places.{map_is_target}
 use Rattle.target_views.proofs.Shows.{planned_next}
@@ -12,6 +12,11 @@ invariant_of-self-2 g c = record {
   shows = rw (made_same _ _ _ c.in_ok-plans.ensures.new (c.in_ok-change.ensures.makes ∙ ap Ok (sym c.commit.ensures))) at c.commit-2.ensures.of;
 }
 
+-- what holds whatever is answered holds after an error
+on_err : {A E : Type 0} (result : Result A E) (P : Type 0) → P → OnErr result P
+on_err (Ok a) P holds = tt
+on_err (Err error) P holds = holds
+
 -- where the configuration wants memory, the views are those that they were
 pub invariant_of-self-in_err-change : goal.invariant_of-self-in_err-change
 invariant_of-self-in_err-change g c = record {
@@ -21,7 +26,7 @@ invariant_of-self-in_err-change g c = record {
 }
 
 pub returns-in_err-change-clause-err : goal.returns-in_err-change-clause-err
-returns-in_err-change-clause-err g c = rw (← c.self.view_is, c.prepare.ensures.kept) refl
+returns-in_err-change-clause-err g c = rw (← c.self.view_is, c.prepare.ensures.kept) (on_err _ _ refl)
 
 pub returns-clause-ok : goal.returns-clause-ok
 returns-clause-ok g c = rw (← c.self.view_is) (c.in_ok-change.ensures.makes ∙ ap Ok (sym c.commit.ensures))
