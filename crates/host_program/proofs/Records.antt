@@ -1,6 +1,5 @@
 -- Records of a discovery log page, read part by part.
-use Rattle.std.proofs.Common.{◌≡◌, ℕ, ◌+◌, ◌-◌, ◌*◌, ◌<◌, min, List, ◌∷◌, ◌++◌, length, sym, ap, ◌∙◌, append_assoc, arith}
-use Rattle.host_wire.specs.Command.{Command}
+use Rattle.std.proofs.Common.{◌≡◌, ℕ, ◌+◌, ◌-◌, ◌*◌, ◌<◌, min, List, ◌∷◌, ◌++◌, ap, ◌∙◌, append_assoc, arith}
 use Rattle.host_link.specs.Commands.{get_log_page}
 use Rattle.host_program.specs.Discovering.{in_order, records_read}
 

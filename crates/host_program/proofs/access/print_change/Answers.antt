@@ -8,5 +8,5 @@ pub returns-in-Ok : goal.returns-in-Ok
 returns-in-Ok g c =
     prints_line c.push_change.new.line.items _ (change_line c.args.change c.args.groups) _ _ _ c.in-Ok.ensures c.new-line.ensures.items c.print.ensures.prints
 
-pub returns-in-Err : goal.returns-in-Err
-returns-in-Err g c = is_starved _ Memory _ refl
+pub returns : goal.returns
+returns g c = is_starved _ Memory _ refl

@@ -1,4 +1,4 @@
-use Rattle.std.proofs.Common.{Ok, Err, List, ◌++◌, ◌∷◌, ◌≡◌, refl, ap, ◌∙◌}
+use Rattle.std.proofs.Common.{List, ◌++◌, ap, ◌∙◌}
 use Rattle.std.specs.Prelude.{flat_map}
 use Rattle.std.proofs.lemmas.Result.{err_from_is_err_and}
 use Rattle.host_program.specs.Lines.{group_line}

@@ -1,4 +1,3 @@
-use Rattle.std.proofs.Common.{Ok, Err, refl}
 use Rattle.std.proofs.lemmas.Result.{err_from_is_err_and}
 use Rattle.host_program.proofs.Printing.{prints_behind, prints_part}
 use Rattle.host_program.proofs.access.print_log.Goals as goal

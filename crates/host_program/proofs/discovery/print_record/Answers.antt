@@ -8,5 +8,5 @@ pub returns-in-Ok : goal.returns-in-Ok
 returns-in-Ok g c =
     prints_line c.push_record.new.line.items _ (record_line c.args.found.now) _ _ _ c.in-Ok.ensures c.new-line.ensures.items c.print.ensures.prints
 
-pub returns-in-Err : goal.returns-in-Err
-returns-in-Err g c = is_starved _ Memory _ refl
+pub returns : goal.returns
+returns g c = is_starved _ Memory _ refl

@@ -1,4 +1,4 @@
-use Rattle.std.proofs.Common.{◌≡◌, ℕ, List, [], ◌∷◌, ◌++◌, length-append, refl, sym, ap, ◌∙◌, append_assoc, arith}
+use Rattle.std.proofs.Common.{ℕ, List, [], ◌∷◌, ◌++◌, length-append, sym, ap, ◌∙◌, append_assoc, arith}
 use Rattle.std.specs.List.{last_or}
 use Rattle.std.proofs.lemmas.Result.{err_from_is_err_and}
 use Rattle.host_program.specs.Lines.{nsid_line}

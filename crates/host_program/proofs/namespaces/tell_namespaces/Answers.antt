@@ -1,4 +1,4 @@
-use Rattle.std.proofs.Common.{◌∷◌, Ok, Err, refl, inr, arith}
+use Rattle.std.proofs.Common.{◌∷◌, refl, inr, arith}
 use Rattle.std.proofs.lemmas.Result.{err_from_is_err_and}
 use Rattle.host_program.proofs.namespaces.tell_namespaces.Goals as goal
 

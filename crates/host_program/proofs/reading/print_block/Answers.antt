@@ -1,4 +1,4 @@
-use Rattle.std.proofs.Common.{Ok, Err, refl}
+use Rattle.std.proofs.Common.{refl}
 use Rattle.std.proofs.lemmas.Result.{err_from_is_err_and}
 use Rattle.host_link.specs.declared.fault.SessionFault.TheVariants.{Memory}
 use Rattle.host_program.specs.Lines.{hex_line}
