@@ -1,6 +1,6 @@
 -- What is printed part by part.
-use Rattle.std.proofs.Common.{◌≡◌, ℕ, List, [], ◌∷◌, ◌++◌, length, take, drop, Result, Ok, Err, refl, sym, ap, ◌∙◌, subst, inl, inr, append_assoc, append-nil, take-append-drop, arith}
-use Rattle.std.specs.Prelude.{Bool, true, false, IfErr, OnErr, OnOk, Option, Some, None, is_ok}
+use Rattle.std.proofs.Common.{◌≡◌, ℕ, List, [], ◌∷◌, ◌++◌, length, take, drop, Result, Ok, Err, refl, sym, ap, ◌∙◌, subst, inl, append_assoc, append-nil, take-append-drop, arith}
+use Rattle.std.specs.Prelude.{IfErr, OnErr, OnOk, Option, is_ok}
 use Rattle.std.specs.Io.{StartsWith}
 use Rattle.std.specs.Io.KnownBytes.{Appends, Keeps}
 use Rattle.std.proofs.KnownBytes.{Appends-kept, Appends-nil, Appends-trans, starts_with_rest}
@@ -75,3 +75,13 @@ pub fails : (all done next rest : List ℕ) (f : SessionFault) (a b c : Option (
     → Prints all (Err f) a c
 fails all done next rest f a b c is first p =
     subst (λ (l : List ℕ). Prints l (Err f) a c) (sym is) (prints_behind done (next ++ rest) (Err f) a b c first (prints_part next rest f b c p))
+
+-- nothing is left
+pub all_printed : (all done rest : List ℕ) (a b : Option (List ℕ)) → all ≡ done ++ rest → rest ≡ [] → Appends a b done → Prints all (Ok tt) a b
+all_printed all done rest a b is none first =
+    subst (λ (l : List ℕ). Appends a b l) (sym (is ∙ ap (λ (l : List ℕ). done ++ l) none ∙ append-nil done)) first
+
+-- a line that was made is printed
+pub prints_line : (line before text : List ℕ) (r : Result (Unit {0}) SessionFault) (a b : Option (List ℕ)) → line ≡ before ++ text → before ≡ [] → Prints line r a b
+    → Prints text r a b
+prints_line line before text r a b is none p = subst (λ (l : List ℕ). Prints l r a b) (is ∙ ap (λ (l : List ℕ). l ++ text) none) p

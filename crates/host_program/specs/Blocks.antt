@@ -1,6 +1,5 @@
 -- What the commands `read` and `write` do.
-use Rattle.std.specs.Prelude.{◌≡◌, ◌⊎◌, ℕ, ◌*◌, List, replicate, Option, None, Some, Result, Ok, Err}
-use Rattle.host_driver.specs.declared.answer.Answer.{Answer}
+use Rattle.std.specs.Prelude.{◌≡◌, ◌⊎◌, ℕ, ◌*◌, List, replicate, Option, Result, Err}
 use Rattle.host_link.specs.declared.blocks.Blocks.{Blocks}
 use Rattle.host_link.specs.declared.fault.SessionFault.{SessionFault}
 use Rattle.host_link.specs.declared.fault.SessionFault.TheVariants.{Memory}

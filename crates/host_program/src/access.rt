@@ -73,8 +73,11 @@ fn print_change<W: Write>(
     ensures { Prints (change_line change groups) result (W.contents out.old) (W.contents out.new) }
 {
     let mut line = Vec::new(alloc);
-    push_change(&mut line, change, groups)?;
-    print(out, &mut line)
+    match push_change(&mut line, change, groups) {
+        Ok(()) => print(out, &mut line),
+        // To make a line wants memory alone.
+        Err(_) => Err(SessionFault::Memory),
+    }
 }
 
 fn print_groups<W: Write>(
@@ -98,6 +101,9 @@ fn print_group<W: Write>(
     ensures { Prints (group_line group.now) result (W.contents out.old) (W.contents out.new) }
 {
     let mut line = Vec::new(alloc);
-    push_group(&mut line, group)?;
-    print(out, &mut line)
+    match push_group(&mut line, group) {
+        Ok(()) => print(out, &mut line),
+        // To make a line wants memory alone.
+        Err(_) => Err(SessionFault::Memory),
+    }
 }

@@ -91,6 +91,9 @@ fn print_changed<W: Write>(alloc: Global, list: &[u8], out: &mut W) -> Result<()
         return Err(SessionFault::BadPage);
     };
     let mut line = Vec::new(alloc);
-    push_changed(&mut line, list.nsids())?;
-    print(out, &mut line)
+    match push_changed(&mut line, list.nsids()) {
+        Ok(()) => print(out, &mut line),
+        // To make a line wants memory alone.
+        Err(_) => Err(SessionFault::Memory),
+    }
 }

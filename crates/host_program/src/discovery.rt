@@ -154,8 +154,11 @@ fn print_genctr<W: Write>(
     ensures { Prints (genctr_line genctr records) result (W.contents out.old) (W.contents out.new) }
 {
     let mut line = Vec::new(alloc);
-    push_genctr(&mut line, genctr, records)?;
-    print(out, &mut line)
+    match push_genctr(&mut line, genctr, records) {
+        Ok(()) => print(out, &mut line),
+        // To make a line wants memory alone.
+        Err(_) => Err(SessionFault::Memory),
+    }
 }
 
 fn print_records<W: Write>(
@@ -179,6 +182,9 @@ fn print_record<W: Write>(
     ensures { Prints (record_line found.now) result (W.contents out.old) (W.contents out.new) }
 {
     let mut line = Vec::new(alloc);
-    push_record(&mut line, found)?;
-    print(out, &mut line)
+    match push_record(&mut line, found) {
+        Ok(()) => print(out, &mut line),
+        // To make a line wants memory alone.
+        Err(_) => Err(SessionFault::Memory),
+    }
 }

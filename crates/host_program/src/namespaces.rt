@@ -105,6 +105,9 @@ fn print_nsid<W: Write>(alloc: Global, nsid: u32, out: &mut W) -> Result<(), Ses
     ensures { Prints (nsid_line nsid) result (W.contents out.old) (W.contents out.new) }
 {
     let mut line = Vec::new(alloc);
-    push_nsid(&mut line, nsid)?;
-    print(out, &mut line)
+    match push_nsid(&mut line, nsid) {
+        Ok(()) => print(out, &mut line),
+        // To make a line wants memory alone.
+        Err(_) => Err(SessionFault::Memory),
+    }
 }

@@ -1,0 +1,12 @@
+use Rattle.std.proofs.Common.{refl}
+use Rattle.host_link.specs.declared.fault.SessionFault.TheVariants.{Memory}
+use Rattle.host_program.specs.Lines.{record_line}
+use Rattle.host_program.proofs.Printing.{is_starved, prints_line}
+use Rattle.host_program.proofs.discovery.print_record.Goals as goal
+
+pub returns-in-Ok : goal.returns-in-Ok
+returns-in-Ok g c =
+    prints_line c.push_record.new.line.items _ (record_line c.args.found.now) _ _ _ c.in-Ok.ensures c.new-line.ensures.items c.print.ensures.prints
+
+pub returns : goal.returns
+returns g c = is_starved _ Memory _ refl
