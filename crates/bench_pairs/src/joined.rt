@@ -11,6 +11,10 @@ const STEPS_MAX: usize = 1024;
 
 const EXCHANGES: usize = 4;
 
+/// In more pieces than the data of all commands come: of 128 KiB each in 8 H2CData, of which the target has room for one
+/// and a part of the next.
+const SENDS_MAX: usize = 1024;
+
 /// A queue of a host over a connection of a target.
 #[derive(Drop)]
 pub(crate) struct JoinedQueue {
@@ -75,21 +79,31 @@ impl JoinedQueue {
         }
     }
 
-    /// Sends what there is room for, lets the target take it, and receives what it sends; whether the connection
+    /// Sends all that there is to send, lets the target take it, and receives what it sends; whether the connection
     /// stands.
     pub(crate) fn exchange(&mut self, target: &mut Target<MemoryDisk>) -> bool {
+        for _ in 0..SENDS_MAX {
+            if self.queue.output().is_empty() {
+                break;
+            }
+            if !self.sends(target) {
+                return false;
+            }
+        }
+        let received = self.queue.receive(target.output(self.k));
+        target.taken(self.k, received);
+        true
+    }
+
+    // Sends what the target has room for, and lets it take that.
+    fn sends(&mut self, target: &mut Target<MemoryDisk>) -> bool {
         let output = self.queue.output();
         let len = output.len();
         let Ok(sent) = target.receive(self.k, output) else {
             return false;
         };
         self.queue.taken(sent.min(len));
-        if !take_steps(target, self.k) {
-            return false;
-        }
-        let received = self.queue.receive(target.output(self.k));
-        target.taken(self.k, received);
-        true
+        take_steps(target, self.k)
     }
 }
 

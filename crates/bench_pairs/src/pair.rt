@@ -15,9 +15,8 @@ use testkit_edits::{A, Blocks, H1, Line, edit, memory_disks};
 /// How many commands are outstanding at a time.
 const DEPTH: u16 = 31;
 
-/// More exchanges than a command needs: 128 KiB go in 8 H2CData, of which the target has room for one, and a part of
-/// the next.
-const EXCHANGES_PER_COMMAND: u32 = 16;
+/// More exchanges than a command needs, with an R2T between its capsule and its data.
+const EXCHANGES_PER_COMMAND: u32 = 4;
 
 const UNITS: u64 = 512;
 
