@@ -8,7 +8,7 @@ use std::rt::Clock;
 /// Prints a figure for each kind of command.
 pub fn measure<R: Clock + Print + AllocGlobal>(rt: &R) -> Result<(), BenchFault> {
     measure_one(rt, PairWork::Read, 1_000_000)?;
-    measure_one(rt, PairWork::LongestWrite, 50_000)
+    measure_one(rt, PairWork::LongestWrite, 20_000)
 }
 
 // The time of the commands has that of the connection in it, less than a thousandth.
