@@ -123,6 +123,12 @@ fn move_to_front(bytes: &mut Vec<u8>, start: usize)
     ensures capacity { vec_capacity bytes.new ≡ vec_capacity bytes.old }
 {
     let held = bytes.len() - start;
-    bytes.copy_within(start.., 0);
+    if held <= start {
+        // They do not overlap, so that they are copied at once.
+        let (front, back) = bytes.as_mut_slice().split_at_mut(start);
+        front[..held].copy_from_slice(back);
+    } else {
+        bytes.copy_within(start.., 0);
+    }
     bytes.truncate(held);
 }
