@@ -1,3 +1,4 @@
+pub mod After
 pub mod Bodies
 pub mod Changes
 pub mod Counts

@@ -4,6 +4,7 @@
 //! and no command.
 #![tactic(auto)]
 
+mod after;
 mod bodies;
 pub mod counts;
 pub mod group_list;

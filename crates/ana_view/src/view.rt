@@ -4,15 +4,14 @@ ghost use Rattle.std.specs.Prelude.{◌≡◌, ℕ, IfOk, IsOk, Ok, length, slic
 ghost use Rattle.config_rules.specs.Accept.{accept};
 ghost use Rattle.nvt_fields.specs.Window.{window};
 ghost use Rattle.ana_view.specs.Counts.{Counts};
-ghost use Rattle.ana_view.specs.Bodies.{IsAfter};
 ghost use Rattle.ana_view.specs.View.{ShowsAna, groups_in, page_in, shown_after};
 ghost use Rattle.std.specs.Option.{option_copied};
 
+use crate::after::After;
 use crate::bodies::Bodies;
 use crate::counts::AnaCounts;
 use crate::group_list::AnaGroup;
 use crate::page::{page_len, write_page};
-use edit_reach::subsystem_reached;
 use nvt_config::{Config, Edit};
 use std::alloc::{AllocError, Global};
 use std::marker::Model;
@@ -36,21 +35,25 @@ impl Model for AnaView {
 }
 
 /// What an edit will make of a view: the groups after it, where it reaches a subsystem's. With it are
-/// the configuration before the edit and the one after it, by which each controller counts what changes
-/// (`AnaCounts::note`).
+/// the configuration before the edit and what the edit makes of it, by which each controller counts what
+/// changes (`AnaCounts::note`).
 #[derive(Drop)]
 pub struct Plan {
     before: Config,
-    next: Config,
-    bodies: Option<Bodies>,
+    after: After,
 }
 
 impl Model for Plan {
+    ghost use Rattle.ana_view.specs.After.{bodies_of, new_of};
     ghost use Rattle.ana_view.specs.View.{Planned};
 
     ghost Value = { Planned };
 
-    ghost view = { λ plan. record { old = plan.before; new = plan.next; shown = plan.bodies } };
+    ghost view = { λ plan. record {
+      old = plan.before;
+      new = new_of plan.before plan.after;
+      shown = bodies_of plan.after;
+    } };
 }
 
 impl Plan {
@@ -61,11 +64,15 @@ impl Plan {
         &self.before
     }
 
-    /// The configuration after it.
+    /// A configuration with the namespaces and the ANA states of the one after it.
     pub fn new(&self) -> &Config
-        ensures { result.now ≡ self.now.new }
+        ensures namespaces { result.now.namespaces ≡ self.now.new.namespaces }
+        ensures states { result.now.states ≡ self.now.new.states }
     {
-        &self.next
+        match &self.after {
+            After::Given(_) | After::Taken(_) => &self.before,
+            After::Whole(next, _) => next,
+        }
     }
 }
 
@@ -89,27 +96,17 @@ impl AnaView {
         ensures kept { self.new ≡ self.old }
     {
         let before = config.try_clone()?;
-        let next = edited(config, edit)?;
-        let bodies = bodies_after(self.alloc, edit, &next)?;
-        Ok(Plan {
-            before,
-            next,
-            bodies,
-        })
+        let after = After::of(self.alloc, config, edit)?;
+        Ok(Plan { before, after })
     }
 
     /// Goes over to what was prepared last. Takes no memory.
     pub fn commit(&mut self, plan: Plan)
         ensures { self.new ≡ shown_after self.old plan }
     {
-        let Plan {
-            before,
-            next,
-            bodies,
-        } = plan;
+        let Plan { before, after } = plan;
         drop(before);
-        drop(next);
-        if let Some(bodies) = bodies {
+        if let Some(bodies) = after.into_bodies() {
             self.bodies = bodies;
         }
     }
@@ -154,27 +151,4 @@ impl AnaView {
     {
         page_len(self.bodies.get(subsystem, port), groups_only)
     }
-}
-
-// What an edit that is accepted makes of a configuration.
-fn edited(config: &Config, edit: &Edit) -> Result<Config, AllocError>
-    requires { IsOk (accept config.now edit.now) }
-    ensures { IfOk result (λ next. accept config.now edit.now ≡ Ok next) }
-{
-    let mut next = config.try_clone()?;
-    let change = next.prepare(edit)?;
-    next.commit(change);
-    Ok(next)
-}
-
-// What is ready after an edit that made this configuration: nothing else than before where the edit
-// reaches no subsystem.
-fn bodies_after(alloc: Global, edit: &Edit, next: &Config) -> Result<Option<Bodies>, AllocError>
-    ensures { IfOk result (λ bodies. IsAfter edit.now next.now bodies) }
-{
-    if subsystem_reached(edit).is_none() {
-        return Ok(None);
-    }
-    let bodies = Bodies::of(alloc, next)?;
-    Ok(Some(bodies))
 }

@@ -16,7 +16,7 @@ use Rattle.discovery_view.specs.Ready.{AreReady, IsWithin, Places}
 use Rattle.discovery_view.specs.Record.{Parts, record_of, same_parts}
 use Rattle.discovery_view.specs.Records.{parts_of, ports_in_order, records_among, records_of, referral_of, referrals_in_order, subsystems_in_order}
 use Rattle.discovery_view.proofs.Told.{told_apart}
-use Rattle.discovery_view.proofs.Walks.{filter_bound}
+use Rattle.discovery_view.proofs.Slots.{filter_bound}
 
 -- ---- at the places of those that pass are those that pass
 

@@ -1,3 +1,4 @@
+pub mod Allowances
 pub mod Bytes
 pub mod Catalogs
 pub mod Comparisons
@@ -5,12 +6,14 @@ pub mod Counts
 pub mod Listings
 pub mod Orders
 pub mod Pages
+pub mod Placed
 pub mod Plans
 pub mod Reaches
 pub mod Rows
 pub mod Strangers
 pub mod Told
-pub mod Walks
+pub mod Slots
+pub mod Counting
 pub mod Changing
 pub mod Ordering
 pub mod Least

@@ -1,10 +1,11 @@
 -- Plans that leave the table as it is: each row stays, or all but one.
-use Rattle.std.proofs.Common.{◌≡◌, ℕ, zero, suc, ◌≤◌, ◌+◌, ◌-◌, ◌%◌, ◌^◌, ◌<◌, true, false, Option, Some, None, IfSome, IfOk, Result, Ok, Err, get_or, List, [], ◌∷◌, ◌++◌, length, take, drop, bytes_eq, refl, ap, sym, ◌∙◌, arith, inl, inr}
+use Rattle.std.proofs.Common.{◌≡◌, ℕ, zero, suc, ◌≤◌, ◌+◌, ◌-◌, ◌%◌, ◌^◌, ◌<◌, true, false, Option, Some, None, IfOk, Result, Ok, Err, get_or, List, [], ◌∷◌, ◌++◌, length, take, drop, bytes_eq, refl, ap, sym, ◌∙◌, arith, inl, inr}
 use lib.Pointwise.{pointwise_decides}
-use Rattle.std.proofs.lemmas.Bool.{cases_Bool}
+use Rattle.std.proofs.lemmas.Bool.{cases_Bool, lt-ltb}
 use Rattle.std.proofs.lemmas.List.{length-drop, nil_from_length, take-append-drop}
 use Rattle.std.proofs.lemmas.List.Quantifiers.{position-Some}
-use Rattle.std.specs.Prelude.{if◌then◌else◌, position}
+use Rattle.std.specs.Prelude.{MatchOption, if◌then◌else◌, position}
+use Rattle.std.specs.List.{position_or_len}
 use Rattle.std.specs.Map.{keys_of}
 use Rattle.indexmap.specs.IndexMap.{set_value_at}
 use Rattle.config_rules.specs.Configuration.{Configuration}
@@ -12,7 +13,7 @@ use Rattle.discovery_view.specs.declared.rows_plan.RowsPlan.{RowsPlan}
 use Rattle.discovery_view.specs.declared.rows_plan.RowsPlan.TheVariants.{Stay, One}
 use Rattle.discovery_view.specs.Catalog.{catalog_of, places_of, records_at}
 use Rattle.discovery_view.specs.Plan.{IsLeast, IsPlaceOf, IsPlannedFor, LeadsTo, common_first, row_set, rows_after, spliced, table_stays}
-use Rattle.discovery_view.specs.Ready.{AreWithin, Follows, Places, next_places, shown_by}
+use Rattle.discovery_view.specs.Ready.{AreWithin, Follows, Places, has_row, next_places, shown_by}
 use Rattle.discovery_view.specs.Record.{Parts, same_records}
 use Rattle.discovery_view.specs.Records.{records_of}
 use Rattle.discovery_view.specs.View.{Named, Rows, count_after, row_among, row_in}
@@ -149,9 +150,28 @@ first_place name (e ∷ es) host zero d below here none = here
 first_place name (e ∷ es) host (suc place) d below here none =
     (none 0 (omega arith), first_place name es host place d (omega (arith, below)) here (λ k under. none (suc k) (omega (arith, under))))
 
+row_placed : {K R : Type 0} (name : K → List ℕ) (es : List (K × R)) (host : List ℕ) → has_row (rows_of name es) host ≡ true
+    → position_or_len (λ k. bytes_eq host (name k)) (keys_of es) < length (keys_of es)
+row_placed name [] host there = absurd (cc)
+row_placed name (e ∷ es) host there =
+    elim (cases_Bool (bytes_eq host (name e.0))) [
+      | inl same ↦ rw same (omega arith)
+      | inr apart ↦ rw apart (omega (arith, row_placed name es host (rw apart at there)))
+    ]
+
+no_place : {K R : Type 0} (name : K → List ℕ) (es : List (K × R)) (host : List ℕ) → None ≡ position (λ k. bytes_eq host (name k)) (keys_of es) → has_row (rows_of name es) host ≡ false
+no_place name es host none =
+    elim (cases_Bool (has_row (rows_of name es) host)) [
+      | inl there ↦
+          let below = lt-ltb (position_or_len (λ k. bytes_eq host (name k)) (keys_of es)) (length (keys_of es)) (row_placed name es host there) in
+          let found = rw below at none in
+          absurd (cc)
+      | inr apart ↦ apart
+    ]
+
 pub place_is : {K R : Type 0} (name : K → List ℕ) (es : List (K × R)) (host : List ℕ) (r : Option ℕ) → r ≡ position (λ k. bytes_eq host (name k)) (keys_of es)
-    → IfSome r (IsPlaceOf host (rows_of name es))
-place_is name es host None is = tt
+    → MatchOption r (has_row (rows_of name es) host ≡ false) (IsPlaceOf host (rows_of name es))
+place_is name es host None is = no_place name es host is
 place_is name [] host (Some place) is = absurd (cc)
 place_is name (e ∷ es) host (Some place) is =
     let found = position-Some (λ k. bytes_eq host (name k)) (keys_of (e ∷ es)) place e.0 (sym is) in

@@ -5,7 +5,7 @@ use Rattle.std.proofs.lemmas.Bool.{cases_Bool, both_ways, false_from_ne_true}
 use Rattle.std.proofs.lemmas.List.Folds.{list_any-append}
 use Rattle.std.specs.Prelude.{if◌then◌else◌}
 use Rattle.config_edits.specs.declared.edit.Edit.{Edit}
-use Rattle.config_edits.specs.declared.edit.Edit.TheVariants.{NamespaceAdd, NamespaceSize, NamespaceGroup, NamespaceDel, HostDel, AllowAdd, AllowDel, AnaSet}
+use Rattle.config_edits.specs.declared.edit.Edit.TheVariants.{NamespaceAdd, NamespaceSize, NamespaceGroup, NamespaceDel, HostDel, AnaSet}
 use Rattle.config_edits.specs.declared.edit.NewNamespace.{NewNamespace}
 use Rattle.config_edits.specs.declared.fault.EditFault.{EditFault}
 use Rattle.config_lists.specs.declared.allow.Allow.{Allow}
@@ -16,6 +16,9 @@ use Rattle.config_lists.specs.declared.namespace.Namespace.{Namespace}
 use Rattle.config_lists.specs.Lists.{without}
 use Rattle.config_rules.specs.Accept.{accept, refuse}
 use Rattle.config_rules.specs.Configuration.{Configuration, has_allow, with_allow, without_allow}
+use Rattle.discovery_view.specs.declared.allowed.Allowance.{Allowance}
+use Rattle.discovery_view.specs.declared.allowed.Allowance.TheVariants.{Given, Taken}
+use Rattle.discovery_view.specs.Allowed.{allows_after, edit_of, host_of}
 use Rattle.discovery_view.specs.Reach.{Leaves, no_host}
 use Rattle.discovery_view.proofs.Rows.{same_name, turned}
 use Rattle.discovery_view.proofs.Strangers.{shown_who}
@@ -110,11 +113,27 @@ without_one c nqn name = record {
   places = λ host apart. ap (shown_who c) (fun_ext (λ other. some_removed c.allows nqn name other host apart));
 }
 
-allow_added : (c : Configuration) (nqn host : List ℕ) → LeavesIn (λ other. bytes_eq other host) c (accept c (AllowAdd nqn host))
-allow_added c nqn host = search (either_leaves, with_one)
+-- an allowance that is given or taken
+pub allowance_leaves : (c : Configuration) (a : Allowance) → Leaves (λ other. bytes_eq other (host_of a)) c (record c { allows = allows_after c.allows a })
+allowance_leaves c (Given nqn host) = with_one c (record { subsystem = nqn.now; host = host.now })
+allowance_leaves c (Taken nqn host) = without_one c nqn.now host.now
 
-allow_deleted : (c : Configuration) (nqn host : List ℕ) → LeavesIn (λ other. bytes_eq other host) c (accept c (AllowDel nqn host))
-allow_deleted c nqn host = search (either_leaves, without_one)
+abbrev BecomesIn : Configuration → Result Configuration EditFault → Type 0
+BecomesIn next made = IfOk made (λ d. d ≡ next)
+
+either_becomes : (test : Bool) (fault : EditFault) (made : Result Configuration EditFault) (next : Configuration) → BecomesIn next made → BecomesIn next (refuse test fault made)
+either_becomes true fault made next h = tt
+either_becomes false fault made next h = h
+
+allowance_made : (c : Configuration) (a : Allowance) → BecomesIn (record c { allows = allows_after c.allows a }) (accept c (edit_of a))
+allowance_made c (Given nqn host) = search (either_becomes)
+allowance_made c (Taken nqn host) = search (either_becomes)
+
+then_becomes : (next d : Configuration) (made : Result Configuration EditFault) → made ≡ Ok d → BecomesIn next made → d ≡ next
+then_becomes next d made is h = rw is at h
+
+pub allowance_becomes : (c : Configuration) (a : Allowance) (d : Configuration) → accept c (edit_of a) ≡ Ok d → d ≡ record c { allows = allows_after c.allows a }
+allowance_becomes c a d is = then_becomes (record c { allows = allows_after c.allows a }) d (accept c (edit_of a)) is (allowance_made c a)
 
 -- ---- what an edit reaches
 
@@ -135,8 +154,3 @@ nobody_reached edit (inr (inr (inl (nqn, nsid, group, is)))) c d ok = then_leave
 nobody_reached edit (inr (inr (inr (inl (nqn, nsid, is))))) c d ok = then_leaves no_host c d _ (rw is at ok) (namespace_deleted c nqn nsid)
 nobody_reached edit (inr (inr (inr (inr (inl (nqn, is)))))) c d ok = then_leaves no_host c d _ (rw is at ok) (host_deleted c nqn)
 nobody_reached edit (inr (inr (inr (inr (inr (port, nqn, group, state, is)))))) c d ok = then_leaves no_host c d _ (rw is at ok) (state_set c port nqn group state)
-
-pub host_reached : (edit : Edit) (host : List ℕ) → ((nqn : List ℕ) × (edit ≡ AllowAdd nqn host)) ⊎ ((nqn : List ℕ) × (edit ≡ AllowDel nqn host))
-    → (c d : Configuration) → accept c edit ≡ Ok d → Leaves (λ other. bytes_eq other host) c d
-host_reached edit host (inl (nqn, is)) c d ok = then_leaves (λ other. bytes_eq other host) c d _ (rw is at ok) (allow_added c nqn host)
-host_reached edit host (inr (nqn, is)) c d ok = then_leaves (λ other. bytes_eq other host) c d _ (rw is at ok) (allow_deleted c nqn host)

@@ -1,11 +1,13 @@
 -- The catalog of a configuration: its records, whoever is shown them; and which of them a host is shown.
 use Rattle.std.specs.Prelude.{ℕ, Bool, true, false, ◌+◌, ◌||◌, List, [], ◌∷◌, ◌++◌, map, filter, slice_index_or, if◌then◌else◌}
+use Rattle.std.specs.Borrow.{Bor}
 use Rattle.std.specs.List.{flat_map}
 use Rattle.config_lists.specs.declared.port.Port.{Port}
 use Rattle.config_lists.specs.declared.port.Family.TheVariants.{Ipv4}
 use Rattle.config_lists.specs.declared.subsystem.Subsystem.{Subsystem}
 use Rattle.config_rules.specs.Configuration.{Configuration, has_allow, has_link}
 use Rattle.config_rules.specs.Permission.{is_open_subsystem}
+use Rattle.discovery_view.specs.Allowed.{is_named}
 use Rattle.discovery_view.specs.declared.record.Subtype.{Subtype}
 use Rattle.discovery_view.specs.declared.record.Subtype.TheVariants.{Referral, NvmSubsystem}
 use Rattle.discovery_view.specs.Record.{Parts}
@@ -33,11 +35,6 @@ abbrev pub is_shown : Configuration → List ℕ → Parts → Bool
 is_shown c host p =
     is_referral p.subtype || (is_open_subsystem c.subsystems p.nqn || has_allow c.allows p.nqn host)
 
--- a host that is shown a configuration
-pub record Viewing : Type 0 where
-  pub config : Configuration
-  pub host : List ℕ
-
 -- the places of those that pass, where the first has this place
 abbrev pub places_from : (Parts → Bool) → ℕ → List Parts → List ℕ
 places_from test place [] = []
@@ -47,6 +44,11 @@ places_from test place (p ∷ rest) =
 -- the places in the catalog of the records that a host is shown
 abbrev pub places_of : Configuration → List ℕ → List ℕ
 places_of c host = places_from (is_shown c host) 0 (catalog_of c)
+
+-- .. that one is shown whom the subsystems of these names allow
+abbrev pub places_by : Configuration → List (Bor (List ℕ)) → List ℕ
+places_by c names =
+    places_from (λ p. is_referral p.subtype || (is_open_subsystem c.subsystems p.nqn || is_named names p.nqn)) 0 (catalog_of c)
 
 -- no record
 abbrev pub no_parts : Parts

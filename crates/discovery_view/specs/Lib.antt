@@ -1,3 +1,4 @@
+pub mod Allowed
 pub mod Catalog
 pub mod Forming
 pub mod Listing
@@ -11,4 +12,3 @@ pub mod Records
 pub mod Same
 pub mod Told
 pub mod View
-pub mod Walk

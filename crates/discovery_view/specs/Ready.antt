@@ -3,6 +3,8 @@ use Rattle.std.specs.Prelude.{◌≡◌, ◌≤◌, ◌<◌, ℕ, Bool, List, []
 use Rattle.std.specs.List.{list_any}
 use Rattle.std.specs.Str.{bytes_eq}
 use Rattle.config_rules.specs.Configuration.{Configuration}
+use Rattle.discovery_view.specs.declared.finding.Finding.{Finding}
+use Rattle.discovery_view.specs.declared.finding.Finding.TheVariants.{Sought, Kept}
 use Rattle.discovery_view.specs.Catalog.{catalog_of, places_of, records_at}
 use Rattle.discovery_view.specs.Record.{Parts, record_of}
 use Rattle.discovery_view.specs.Records.{records_of}
@@ -106,6 +108,12 @@ pub record ListsState : Type 0 where
 abbrev pub shown_before : Option ListsState → Option Shown
 shown_before None = None
 shown_before (Some lists) = Some lists.shown
+
+-- the places of what each host is shown by this configuration are where they were, if they are not looked for
+abbrev pub AreFound : Finding → Option ListsState → Configuration → Type 0
+AreFound Sought before c = Unit {0}
+AreFound Kept None c = Unit {0}
+AreFound Kept (Some lists) c = (host : List ℕ) → (row_in lists.rows host).places ≡ places_of c host
 
 -- a view, as contracts see it: what it shows, the table of records, the rows of places in it, for how many more records
 -- it has room, and how many were formed

@@ -4,17 +4,17 @@ ghost use Rattle.std.specs.Prelude.{drop, length, map, take};
 ghost use Rattle.std.specs.List.{AllByRecursion, flat_map};
 ghost use Rattle.config_lists.specs.Port.{is_port};
 ghost use Rattle.discovery_view.specs.Catalog.{catalog_of, is_for_all, linked_among};
+ghost use Rattle.discovery_view.specs.Order.{entries_of};
 ghost use Rattle.discovery_view.specs.Plan.{common_first, common_last};
 ghost use Rattle.discovery_view.specs.Ready.{AreReady};
 ghost use Rattle.discovery_view.specs.Record.{record_of};
 ghost use Rattle.discovery_view.specs.Records.{referral_of};
-ghost use Rattle.discovery_view.specs.Walk.{entries_of};
 
 use crate::entry::Entry;
 use crate::kept::KeptRecord;
+use crate::open::OpenSubsystems;
 use crate::order::in_order;
 use config_lists::link::has_link;
-use config_lists::subsystem::has_open_subsystem;
 use nvt_config::{Config, Port, Subsystem};
 use std::alloc::{AllocError, Global};
 use std::marker::Model;
@@ -108,18 +108,19 @@ fn are_for_all(
 ) -> Result<Vec<bool>, AllocError>
     ensures { IfOk result (λ flags. flags.items ≡ map (is_for_all config.now) entries.now) }
 {
+    let subsystems = OpenSubsystems::of(alloc, config)?;
     let mut flags = Vec::new(alloc);
     for entry in entries {
-        flags.push(is_for_all(config, entry))?;
+        flags.push(is_for_all(&subsystems, entry))?;
     }
     Ok(flags)
 }
 
 // Whether every host is shown a record.
-fn is_for_all(config: &Config, entry: &Entry<'_>) -> bool
-    ensures { result ≡ is_for_all config.now entry.now }
+fn is_for_all(subsystems: &OpenSubsystems<'_>, entry: &Entry<'_>) -> bool
+    ensures { result ≡ is_for_all subsystems.now entry.now }
 {
-    entry.is_referral() || has_open_subsystem(config.subsystems(), entry.nqn())
+    entry.is_referral() || subsystems.has(entry.nqn())
 }
 
 // What these records tell.

@@ -2,30 +2,27 @@
 //! edits changed them, and the page's bytes from any offset. It knows no connection and no command.
 #![tactic(auto)]
 
+mod allowed;
 mod catalog;
-pub mod changes;
 mod entry;
+mod finding;
 mod formed;
 pub mod former;
 mod kept;
 pub mod laws;
-mod listing;
 mod lists;
+mod open;
 mod order;
 mod page;
 mod reach;
 mod ready;
 mod record;
 mod rows_plan;
-mod served;
 mod shown;
 mod splice;
 mod table;
 pub mod view;
-mod viewer;
-mod walk;
 
-pub use changes::changes_for;
 pub use entry::Entry as Parts;
 pub use former::{FormedRecord, Former, RecordFormer};
 pub use view::{DiscoveryView, Plan};

@@ -1,15 +1,18 @@
 //! A table of records, and for each host the places of its records in it.
-ghost use Rattle.std.specs.Prelude.{◌≡◌, ℕ, false, IfOk, IsOk, List, Some};
-ghost use Rattle.std.specs.Str.{bytes_eq};
+ghost use Rattle.std.specs.Prelude.{◌≡◌, IfOk, IsOk, Some};
 ghost use Rattle.config_rules.specs.Accept.{accept};
-ghost use Rattle.discovery_view.specs.Catalog.{catalog_of, places_of};
+ghost use Rattle.config_rules.specs.Configuration.{Configuration};
+ghost use Rattle.discovery_view.specs.Allowed.{allows_after, edit_of, host_of};
+ghost use Rattle.discovery_view.specs.Catalog.{catalog_of};
 ghost use Rattle.discovery_view.specs.Plan.{IsPlannedFor, LeadsTo, rows_after, shown_after};
 ghost use Rattle.discovery_view.specs.Plan.{slots_after, table_stays};
-ghost use Rattle.discovery_view.specs.Ready.{AreOf, AreWithin, IsWithin, names_in, next_places};
+ghost use Rattle.discovery_view.specs.Ready.{AreFound, AreOf, AreWithin, IsWithin, names_in, next_places};
 ghost use Rattle.discovery_view.specs.Ready.{row_at, shown_by};
-ghost use Rattle.discovery_view.specs.View.{Rows, ShowsFirst, row_in};
+ghost use Rattle.discovery_view.specs.View.{ShowsFirst, changes_discovery, row_in};
 
+use crate::allowed::{Allowance, allowed_after};
 use crate::catalog::{Catalog, kept, same_at_first, same_at_last};
+use crate::finding::Finding;
 use crate::kept::KeptRecord;
 use crate::reach::{Reach, edited, reach_of};
 use crate::ready::Ready;
@@ -98,7 +101,7 @@ impl Lists {
         ensures of { IfOk result (λ lists. AreOf config.now lists.slots lists.rows) }
     {
         let catalog = Catalog::new(alloc, config)?;
-        let table = Table::following(alloc, None, &catalog)?;
+        let table = Table::following(alloc, None, Finding::Sought, &catalog)?;
         let slots = kept(alloc, catalog.entries())?;
         Ok(Lists { slots, table })
     }
@@ -122,8 +125,9 @@ impl Lists {
     {
         match reach_of(edit) {
             Reach::Nobody => Ok(self.staying(alloc, RowsPlan::Stay)),
-            Reach::Host(host) => self.prepare_host(alloc, &edited(config, edit)?, host.as_bytes()),
-            Reach::Anybody => self.prepare_all(alloc, &edited(config, edit)?),
+            Reach::Host(allowance) => self.prepare_host(alloc, config, edit, allowance),
+            Reach::Records => self.prepare_all(alloc, &edited(config, edit)?, Finding::Kept),
+            Reach::Anybody => self.prepare_all(alloc, &edited(config, edit)?, Finding::Sought),
         }
     }
 
@@ -141,45 +145,62 @@ impl Lists {
         }
     }
 
-    // Takes the memory to go over to a configuration that shows other records to this host alone.
+    // Takes the memory to go over to what an edit makes of this configuration, which shows other records to
+    // one host alone.
     fn prepare_host(
         &mut self,
         alloc: Global,
-        next: &Config,
-        host: &[u8],
+        config: &Config,
+        edit: &Edit,
+        allowance: Allowance<'_>,
     ) -> Result<ListsPlan, AllocError>
-        requires catalog { self.old.slots ≡ catalog_of next.now }
-        requires others { (other : List ℕ) → bytes_eq other host.now ≡ false
-            → (row_in self.old.rows other).places ≡ places_of next.now other }
+        requires accepted { IsOk (accept config.now edit.now) }
+        requires edit { edit.now ≡ edit_of allowance }
+        requires of { AreOf config.now self.old.slots self.old.rows }
         ensures planned { IfOk result (λ plan.
             IsPlannedFor self.new.slots self.new.rows self.new.room plan) }
-        ensures next { IfOk result (λ plan.
-            LeadsTo next.now self.old.shown self.old.slots self.old.rows plan) }
+        ensures next { IfOk result (λ plan. IfOk (accept config.now edit.now)
+            (λ next. LeadsTo next self.old.shown self.old.slots self.old.rows plan)) }
         ensures shown { self.new.shown ≡ self.old.shown }
         ensures slots { self.new.slots ≡ self.old.slots }
         ensures rows { self.new.rows ≡ self.old.rows }
     {
-        match self.table.place_of(host) {
+        match self.table.place_of(allowance.host()) {
             Some(place) => {
-                let ready = self.next_row(alloc, next, host)?;
+                let ready = self.next_row(alloc, config, allowance)?;
                 Ok(self.staying(alloc, RowsPlan::One(place, ready)))
             }
-            None => self.prepare_all(alloc, next),
+            None => self.prepare_all(alloc, &edited(config, edit)?, Finding::Sought),
         }
     }
 
-    // What is ready for a host after a change to a configuration with the same records.
-    fn next_row(&self, alloc: Global, next: &Config, host: &[u8]) -> Result<Ready, AllocError>
-        requires { self.now.slots ≡ catalog_of next.now }
-        ensures { IfOk result (λ ready. ready
-            ≡ next_places (Some self.now.shown) next.now host.now) }
+    // What is ready for the host of an allowance once that is given or taken. The configuration is not
+    // copied: its records stay.
+    fn next_row(
+        &self,
+        alloc: Global,
+        config: &Config,
+        allowance: Allowance<'_>,
+    ) -> Result<Ready, AllocError>
+        requires { self.now.slots ≡ catalog_of config.now }
+        ensures { IfOk result (λ ready. ready ≡ next_places (Some self.now.shown)
+            (record config.now { allows = allows_after config.now.allows allowance.entry })
+            (host_of allowance.entry)) }
     {
-        let catalog = Catalog::of_kept(alloc, next, &self.slots)?;
-        Ready::following(alloc, Some(self.shown(host)), &catalog, host)
+        let catalog = Catalog::of_kept(alloc, config, &self.slots)?;
+        let names = allowed_after(alloc, config, allowance)?;
+        let before = self.shown(allowance.host());
+        Ready::allowed_by(alloc, Some(before), &catalog, &names)
     }
 
     // Takes all the memory to go over to another configuration.
-    fn prepare_all(&mut self, alloc: Global, next: &Config) -> Result<ListsPlan, AllocError>
+    fn prepare_all(
+        &mut self,
+        alloc: Global,
+        next: &Config,
+        finding: Finding,
+    ) -> Result<ListsPlan, AllocError>
+        requires { AreFound finding (Some self.old) next.now }
         ensures planned { IfOk result (λ plan.
             IsPlannedFor self.new.slots self.new.rows self.new.room plan) }
         ensures next { IfOk result (λ plan.
@@ -189,7 +210,7 @@ impl Lists {
         ensures rows { self.new.rows ≡ self.old.rows }
     {
         let catalog = Catalog::new(alloc, next)?;
-        let table = Table::following(alloc, Some(&*self), &catalog)?;
+        let table = Table::following(alloc, Some(&*self), finding, &catalog)?;
         let entries = catalog.entries();
         let first = same_at_first(&self.slots, entries);
         let last = same_at_last(&self.slots[first..], &entries[first..]);
@@ -237,9 +258,20 @@ impl Lists {
     /// What is ready for the host of this name.
     pub(crate) fn row(&self, host: &[u8]) -> &Ready
         ensures row { row_at self.now.slots result.now ≡ row_in self.now.shown host.now }
+        ensures ready { result.now ≡ row_in self.now.rows host.now }
         ensures within { IsWithin self.now.slots result.now }
     {
         self.table.row(host)
+    }
+
+    /// Whether a plan changes the records of the host of this name: its count goes on.
+    pub(crate) fn changes(&self, plan: &ListsPlan, host: &[u8]) -> bool
+        ensures { (c d : Configuration) → AreOf c self.now.slots self.now.rows
+            → LeadsTo d self.now.shown self.now.slots self.now.rows plan.now
+            → result ≡ changes_discovery c d host.now }
+    {
+        let after = self.table.row_after(&plan.rows, host);
+        after.count() != self.table.row(host).count()
     }
 
     /// The table of records.

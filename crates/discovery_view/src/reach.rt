@@ -3,16 +3,18 @@ ghost use Rattle.std.specs.Prelude.{◌≡◌, IfOk, IsOk, Ok};
 ghost use Rattle.config_rules.specs.Accept.{accept};
 ghost use Rattle.discovery_view.specs.Reach.{Reaches};
 
+use crate::allowed::Allowance;
 use nvt_config::{Config, Edit};
-use nvt_fields::Nqn;
 use std::alloc::AllocError;
 
 /// Whose records an edit can change.
 #[derive(Clone, Copy)]
 pub(crate) enum Reach<'e> {
     Nobody,
-    /// Those of this host alone: which of the records that are there it is shown.
-    Host(&'e Nqn),
+    /// Those of the host of this allowance alone: which of the records that are there it is shown.
+    Host(Allowance<'e>),
+    /// What records tell, and not which of them a host is shown.
+    Records,
     Anybody,
 }
 
@@ -27,7 +29,9 @@ pub(crate) fn reach_of(edit: &Edit) -> Reach<'_>
         | Edit::NamespaceDel { .. }
         | Edit::HostDel { .. }
         | Edit::AnaSet { .. } => Reach::Nobody,
-        Edit::AllowAdd { host, .. } | Edit::AllowDel { host, .. } => Reach::Host(host),
+        Edit::AllowAdd { subsystem, host } => Reach::Host(Allowance::Given { subsystem, host }),
+        Edit::AllowDel { subsystem, host } => Reach::Host(Allowance::Taken { subsystem, host }),
+        Edit::PortSet(_) | Edit::HostAdd { .. } | Edit::ReferralSet(_) => Reach::Records,
         _ => Reach::Anybody,
     }
 }

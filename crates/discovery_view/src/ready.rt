@@ -1,13 +1,14 @@
 //! What a view has ready for a host: the places of its records in the table, and its generation
 //! counter.
 ghost use Rattle.std.specs.Prelude.{◌≡◌, ◌<◌, All, IfOk, length};
-ghost use Rattle.discovery_view.specs.Catalog.{places_of, records_at};
+ghost use Rattle.discovery_view.specs.Catalog.{catalog_of, places_by, records_at};
 ghost use Rattle.discovery_view.specs.Ready.{count_from, places_after};
+ghost use Rattle.discovery_view.specs.View.{count_after};
 
+use crate::allowed::{allowed, is_among};
 use crate::catalog::Catalog;
 use crate::entry::Entry;
 use crate::shown::ShownRecords;
-use crate::viewer::Viewer;
 use std::alloc::{AllocError, Global};
 use std::marker::Model;
 
@@ -38,8 +39,45 @@ impl Ready {
     ) -> Result<Ready, AllocError>
         ensures { IfOk result (λ ready. ready ≡ places_after before.entry catalog.now host.now) }
     {
-        let places = shown_places(alloc, catalog, host)?;
+        let names = allowed(alloc, catalog.config(), host)?;
+        Ready::allowed_by(alloc, before, catalog, &names)
+    }
+
+    /// Those of the records of a catalog that one is shown whom the subsystems of these names allow.
+    pub(crate) fn allowed_by(
+        alloc: Global,
+        before: Option<ShownRecords<'_>>,
+        catalog: &Catalog<'_>,
+        names: &[&[u8]],
+    ) -> Result<Ready, AllocError>
+        ensures { IfOk result (λ ready. ready ≡ record {
+          places = places_by catalog.now names.now;
+          count = count_from before.entry
+              (records_at (catalog_of catalog.now) (places_by catalog.now names.now));
+        }) }
+    {
+        let places = shown_places(alloc, catalog, names)?;
         let count = count_from(before, &places, catalog.entries());
+        Ok(Ready { places, count })
+    }
+
+    /// Those at the same places as before, where the records there are those of a catalog. The count goes
+    /// on.
+    pub(crate) fn staying(
+        alloc: Global,
+        before: ShownRecords<'_>,
+        places: &[usize],
+        catalog: &Catalog<'_>,
+    ) -> Result<Ready, AllocError>
+        requires { All (λ place. place < length (catalog_of catalog.now)) places.now }
+        ensures { IfOk result (λ ready. ready ≡ record {
+          places = places.now;
+          count = count_after before.entry.records (records_at (catalog_of catalog.now) places.now)
+              before.entry.count;
+        }) }
+    {
+        let count = before.count_after(places, catalog.entries());
+        let places = Vec::from_slice(alloc, places)?;
         Ok(Ready { places, count })
     }
 
@@ -69,15 +107,18 @@ fn count_from(before: Option<ShownRecords<'_>>, places: &[usize], catalog: &[Ent
     }
 }
 
-// The places of the records that a configuration shows to a host.
-fn shown_places(alloc: Global, catalog: &Catalog<'_>, host: &[u8]) -> Result<Vec<usize>, AllocError>
-    ensures { IfOk result (λ places. places.items ≡ places_of catalog.now host.now) }
+// The places of the records that one is shown whom the subsystems of these names allow.
+fn shown_places(
+    alloc: Global,
+    catalog: &Catalog<'_>,
+    names: &[&[u8]],
+) -> Result<Vec<usize>, AllocError>
+    ensures { IfOk result (λ places. places.items ≡ places_by catalog.now names.now) }
 {
-    let viewer = Viewer::new(alloc, catalog.config(), host)?;
     let (entries, for_all) = (catalog.entries(), catalog.for_all());
     let mut places = Vec::new(alloc);
     for (place, entry) in entries.iter().enumerate() {
-        if for_all[place] || viewer.is_allowed(entry.nqn()) {
+        if for_all[place] || is_among(names, entry.nqn()) {
             places.push(place)?;
         }
     }

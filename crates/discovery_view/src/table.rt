@@ -1,16 +1,18 @@
 //! What a view has ready for each host.
-ghost use Rattle.std.specs.Prelude.{◌≡◌, ◌∷◌, ◌++◌, [], IfOk, IfSome, IsFalse, IsOk, OnOk, map};
+ghost use Rattle.std.specs.Prelude.{◌≡◌, ◌∷◌, ◌++◌, [], false, IfOk, IsFalse, MatchOption, OnOk};
+ghost use Rattle.std.specs.Prelude.{map};
 ghost use Rattle.std.specs.Option.{option_copied};
 ghost use Rattle.config_rules.specs.Configuration.{has_host};
 ghost use Rattle.config_rules.specs.Valid.{IsValid};
 ghost use Rattle.discovery_view.specs.Plan.{IsPlaceOf, row_set, rows_after};
-ghost use Rattle.discovery_view.specs.Ready.{Follows, has_row, names_before, next_places};
+ghost use Rattle.discovery_view.specs.Ready.{AreFound, Follows, has_row, names_before, next_places};
 ghost use Rattle.discovery_view.specs.Ready.{places_after};
 ghost use Rattle.discovery_view.specs.Ready.{row_before, shown_before, stranger, strangers_before};
 ghost use Rattle.discovery_view.specs.Ready.{with_row, with_rows};
-ghost use Rattle.discovery_view.specs.View.{row_in};
+ghost use Rattle.discovery_view.specs.View.{row_among, row_in};
 
 use crate::catalog::Catalog;
+use crate::finding::Finding;
 use crate::lists::Lists;
 use crate::ready::Ready;
 use crate::rows_plan::RowsPlan;
@@ -49,8 +51,10 @@ impl Table {
     pub(crate) fn following(
         alloc: Global,
         before: Option<&Lists>,
+        finding: Finding,
         catalog: &Catalog<'_>,
     ) -> Result<Table, AllocError>
+        requires { AreFound finding (option_copied before) catalog.now }
         ensures rows { IfOk result (λ table. Follows
             (next_places (shown_before (option_copied before.entry)) catalog.now) table) }
         ensures strangers { IfOk result (λ table. table.strangers ≡ places_after
@@ -62,8 +66,8 @@ impl Table {
             hosts: IndexMap::new(alloc),
             strangers,
         };
-        table.add_known(alloc, before, catalog)?;
-        table.add_hosts(alloc, before, catalog)?;
+        table.add_known(alloc, before, finding, catalog)?;
+        table.add_hosts(alloc, before, finding, catalog)?;
         Ok(table)
     }
 
@@ -77,6 +81,34 @@ impl Table {
         }
     }
 
+    /// What is ready for the host of this name once a plan is followed.
+    pub(crate) fn row_after<'a>(&'a self, plan: &'a RowsPlan, host: &[u8]) -> &'a Ready
+        ensures { result.now ≡ row_in (rows_after self.now plan.now) host.now }
+    {
+        match plan {
+            RowsPlan::Stay => self.row(host),
+            RowsPlan::One(place, ready) => self.row_beside(*place, ready, host),
+            RowsPlan::All(table) => table.row(host),
+        }
+    }
+
+    // What is ready for the host of this name where this row comes to a place.
+    fn row_beside<'a>(&'a self, place: usize, ready: &'a Ready, host: &[u8]) -> &'a Ready
+        ensures { result.now
+            ≡ row_among (row_set self.now.hosts place ready.now) self.now.strangers host.now }
+    {
+        match self.place_of(host) {
+            Some(there) => {
+                if there == place {
+                    ready
+                } else {
+                    self.row(host)
+                }
+            }
+            None => self.row(host),
+        }
+    }
+
     /// What is ready for the strangers.
     pub(crate) fn strangers(&self) -> &Ready
         ensures { result.now ≡ self.now.strangers }
@@ -86,7 +118,8 @@ impl Table {
 
     /// The place of the row of that name among those of hosts, where it has one.
     pub(crate) fn place_of(&self, host: &[u8]) -> Option<usize>
-        ensures { IfSome result (IsPlaceOf host.now self.now.hosts) }
+        ensures { MatchOption result (has_row self.now.hosts host.now ≡ false)
+            (IsPlaceOf host.now self.now.hosts) }
     {
         self.hosts.get_index_of(host)
     }
@@ -124,8 +157,10 @@ impl Table {
         &mut self,
         alloc: Global,
         before: Option<&Lists>,
+        finding: Finding,
         catalog: &Catalog<'_>,
     ) -> Result<(), AllocError>
+        requires { AreFound finding (option_copied before) catalog.now }
         ensures { let shown = shown_before (option_copied before.entry) in OnOk result (self.new
             ≡ with_rows (next_places shown catalog.now) self.old (names_before shown)) }
     {
@@ -133,7 +168,7 @@ impl Table {
             return Ok(());
         };
         for (name, _) in known.table().hosts.iter() {
-            self.add(alloc, before, catalog, name)?;
+            self.add(alloc, before, finding, catalog, name)?;
         }
         Ok(())
     }
@@ -143,8 +178,10 @@ impl Table {
         &mut self,
         alloc: Global,
         before: Option<&Lists>,
+        finding: Finding,
         catalog: &Catalog<'_>,
     ) -> Result<(), AllocError>
+        requires { AreFound finding (option_copied before) catalog.now }
         ensures rows { let shown = shown_before (option_copied before.entry) in OnOk result (self.new
             ≡ with_rows (next_places shown catalog.now) self.old
             (map (λ host. host.nqn) catalog.now.hosts)) }
@@ -154,7 +191,7 @@ impl Table {
         for host in catalog.config().hosts() {
             // A name has at most 223 bytes.
             let _ = host.nqn.len();
-            self.add(alloc, before, catalog, host.nqn.as_bytes())?;
+            self.add(alloc, before, finding, catalog, host.nqn.as_bytes())?;
         }
         Ok(())
     }
@@ -164,17 +201,18 @@ impl Table {
         &mut self,
         alloc: Global,
         before: Option<&Lists>,
+        finding: Finding,
         catalog: &Catalog<'_>,
         name: &[u8],
     ) -> Result<(), AllocError>
+        requires { AreFound finding (option_copied before) catalog.now }
         ensures { let shown = shown_before (option_copied before.entry) in OnOk result (self.new
             ≡ with_row (next_places shown catalog.now) self.old name.now) }
     {
         if self.has(name) {
             return Ok(());
         }
-        let last = row_of(before, name);
-        let ready = Ready::following(alloc, last, catalog, name)?;
+        let ready = next_ready(alloc, before, finding, catalog, name)?;
         self.put(Vec::from_slice(alloc, name)?, ready)
     }
 
@@ -188,6 +226,27 @@ impl Table {
     {
         self.hosts.insert(name, ready)?;
         Ok(())
+    }
+}
+
+// What a configuration of this catalog shows to the host of this name.
+fn next_ready(
+    alloc: Global,
+    before: Option<&Lists>,
+    finding: Finding,
+    catalog: &Catalog<'_>,
+    name: &[u8],
+) -> Result<Ready, AllocError>
+    requires { AreFound finding (option_copied before) catalog.now }
+    ensures { IfOk result (λ ready. ready
+        ≡ next_places (shown_before (option_copied before.entry)) catalog.now name.now) }
+{
+    match (before, finding) {
+        (Some(lists), Finding::Kept) => {
+            let places = lists.row(name).places();
+            Ready::staying(alloc, lists.shown(name), places, catalog)
+        }
+        _ => Ready::following(alloc, row_of(before, name), catalog, name),
     }
 }
 

@@ -2,6 +2,7 @@
 ghost use Rattle.std.specs.Prelude.{◌≡◌, ◌≤◌, ◌+◌, IsOk, IfOk, MatchOption, OnErr, length, nat_lt};
 ghost use Rattle.std.specs.Prelude.{slice_index_or};
 ghost use Rattle.config_rules.specs.Accept.{accept};
+ghost use Rattle.config_rules.specs.Configuration.{Configuration};
 ghost use Rattle.nvt_fields.specs.Window.{window};
 ghost use Rattle.discovery_view.specs.Plan.{IsPlannedFor, LeadsTo, rows_after, shown_after};
 ghost use Rattle.discovery_view.specs.Plan.{slots_after};
@@ -9,7 +10,8 @@ ghost use Rattle.discovery_view.specs.Ready.{AreOf};
 ghost use Rattle.discovery_view.specs.Catalog.{catalog_of, no_parts};
 ghost use Rattle.discovery_view.specs.Forming.{reach};
 ghost use Rattle.discovery_view.specs.Record.{record_of};
-ghost use Rattle.discovery_view.specs.View.{ShowsFirst, ShowsNext, count_in, page_in};
+ghost use Rattle.discovery_view.specs.View.{ShowsFirst, changes_discovery, count_in};
+ghost use Rattle.discovery_view.specs.View.{page_in};
 ghost use Rattle.discovery_view.specs.View.{records_in, row_in};
 
 use crate::formed::FormedRecords;
@@ -125,6 +127,17 @@ impl<F: Former + Drop> DiscoveryView<F> {
         let Plan { fresh, lists } = plan;
         splice(&mut self.formed, lists.first(), fresh, lists.last());
         self.lists.commit(lists);
+    }
+
+    /// Whether a plan, the last that was prepared, changes the records of the host of this name: as the
+    /// host is told by a Discovery Log Page Change event (Base 2.0, section 5.2.1), and as its generation
+    /// counter counts.
+    pub fn changes(&self, plan: &Plan<F>, host: &[u8]) -> bool
+        ensures { (c d : Configuration) → AreOf c self.now.slots self.now.rows
+            → LeadsTo d self.now.shown self.now.slots self.now.rows plan.now
+            → result ≡ changes_discovery c d host.now }
+    {
+        self.lists.changes(&plan.lists, host)
     }
 
     // What the host of this name is shown.

@@ -6,11 +6,11 @@
 mod act;
 mod answer;
 mod fault;
+mod output;
 mod pending;
 mod queue;
 mod session;
 mod state;
-mod stream;
 
 pub use answer::{Answer, HostStep};
 pub use fault::HostFault;

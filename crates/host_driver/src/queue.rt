@@ -6,9 +6,9 @@ ghost use Rattle.host_driver.specs.Queue.{IsOpened, ReceiveAgrees, StepsBy, Step
 use crate::answer::{HostStep, Told};
 use crate::fault::HostFault;
 use crate::session::Session;
-use crate::stream::Stream;
 use host_wire::{HostCommand, HostParams};
 use pdu_cut::Cut;
+use pdu_stream::{OfHost, Stream};
 use std::alloc::{AllocError, Global};
 use std::marker::Model;
 
@@ -16,7 +16,7 @@ use std::marker::Model;
 #[derive(Debug, Drop)]
 pub struct HostQueue {
     session: Session,
-    stream: Stream,
+    stream: Stream<OfHost>,
 }
 
 impl Model for HostQueue {
@@ -124,7 +124,7 @@ impl HostQueue {
     }
 
     // Takes what stands at the front of what came.
-    #[tactic(auto, using(crate::proofs::Taking::taking))]
+    #[tactic(auto, using(crate::proofs::Taking::taking, crate::proofs::Fronts::fronts))]
     fn take(&mut self) -> Taken
         ensures { TakesFront self.old result self.new }
     {

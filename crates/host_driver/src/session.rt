@@ -9,6 +9,7 @@ ghost use Rattle.host_driver.specs.Session.{AreParams, IsFirst, NeedsRoom, Submi
 use crate::act::{act, owed, room_of};
 use crate::answer::Told;
 use crate::fault::HostFault;
+use crate::output::{make_room, take_away};
 use crate::pending::Pending;
 use crate::state::State;
 use bytes::BytesMut;
@@ -87,7 +88,7 @@ impl Session {
         requires { len ≤ length self.old.output }
         ensures { self.new ≡ record self.old { output = drop len self.old.output } }
     {
-        self.output.advance(len);
+        take_away(&mut self.output, len);
     }
 
     /// Sends a command under the least identifier that is free, and returns that. After a refusal the
@@ -130,8 +131,7 @@ impl Session {
     {
         let in_capsule = self.params.in_capsule;
         let room = capsule_room(command.data(in_capsule));
-        // As much again as waits, so that what waits is seldom moved.
-        self.output.reserve(room.max(self.output.len()))?;
+        make_room(&mut self.output, room)?;
         let pending = Pending::new(self.alloc, command, in_capsule)?;
         write_capsule(
             command,
@@ -153,10 +153,7 @@ impl Session {
         ensures needs { OnErr result (NeedsRoom self.old.state (front_shown front.now)) }
     {
         let decision = owed(&self.state, front);
-        let room = room_of(&decision);
-        if room > 0 {
-            self.output.reserve(room.max(self.output.len()))?;
-        }
+        make_room(&mut self.output, room_of(&decision))?;
         Ok(act(
             &self.params,
             &mut self.state,

@@ -1,4 +1,8 @@
 //! Processes that were started: what they print, and their end.
+ghost use Rattle.std.specs.Prelude.{◌≡◌, IsSome, OnOk};
+ghost use Rattle.std.specs.Process.{child_status};
+ghost use Rattle.host_lab.specs.Watched.{HasSucceeded};
+
 use crate::course::LabFault;
 use crate::lines::{echo, echo_rest, next_line};
 use std::io::{self, Eprint, Write};
@@ -17,7 +21,9 @@ pub fn end<R: Eprint + AllocGlobal, P: OpenProcess + Drop>(
     rt: &R,
     name: &str,
     child: &mut Child<P>,
-) -> Result<(), LabFault> {
+) -> Result<(), LabFault>
+    ensures { OnOk result (IsSome (child_status child.new)) }
+{
     // One that was waited for is not killed: it is gone.
     let killed = child.kill();
     let waited = child.wait();
@@ -33,7 +39,9 @@ fn echo_child<R: Eprint + AllocGlobal, P: OpenProcess + Drop>(
     rt: &R,
     name: &str,
     child: &mut Child<P>,
-) {
+)
+    ensures { child_status child.new ≡ child_status child.old }
+{
     if let Some(stdout) = &mut child.stdout {
         echo_rest(rt, name, stdout);
     }
@@ -87,7 +95,9 @@ pub fn give_line<P: OpenProcess + Drop>(child: &mut Child<P>) -> Result<(), LabF
 }
 
 /// Waits for the end of a process, which is to be of status 0.
-pub fn await_success<P: OpenProcess + Drop>(child: &mut Child<P>) -> Result<(), LabFault> {
+pub fn await_success<P: OpenProcess + Drop>(child: &mut Child<P>) -> Result<(), LabFault>
+    ensures { OnOk result (HasSucceeded child.new) }
+{
     match child.wait() {
         Ok(status) if status.success() => Ok(()),
         _ => Err(LabFault),

@@ -1,4 +1,7 @@
 //! The edits that the target is given.
+ghost use Rattle.std.specs.Prelude.{◌++◌, ◌∷◌, [], OnOk};
+ghost use Rattle.std.specs.Io.KnownBytes.{Appends};
+
 use crate::course::{LabFault, Plan};
 use crate::lines::{echo, next_line};
 use std::io::{self, Eprint, Read, Write};
@@ -95,7 +98,9 @@ fn make_edit<R: Eprint + AllocGlobal, S: Read + Write>(
 }
 
 // In one piece, since the end of a line that is sent on its own waits until what came before it is confirmed.
-fn send_line<R: AllocGlobal, S: Write>(rt: &R, stream: &mut S, line: &str) -> io::Result<()> {
+fn send_line<R: AllocGlobal, S: Write>(rt: &R, stream: &mut S, line: &str) -> io::Result<()>
+    ensures { OnOk result (Appends (S.contents stream.old) (S.contents stream.new) (line.now ++ 10 ∷ [])) }
+{
     let line = format!(in rt.alloc(); "{line}\n")?;
     stream.write_all(line.as_bytes())
 }

@@ -1,10 +1,11 @@
 //! The lab.
 use crate::children::{end, started};
+use crate::commands::target_command;
 use crate::control::configure;
 use crate::hosts::run_hosts;
 use std::io::{self, Eprint};
 use std::net::Net;
-use std::process::{Child, Command, Processes, Stdio};
+use std::process::{Child, Processes};
 use std::rt::Clock;
 use thiserror::Error;
 
@@ -41,18 +42,7 @@ fn start_target<R: Processes + AllocGlobal>(
     rt: &R,
     plan: &Plan<'_>,
 ) -> io::Result<Child<R::Started>> {
-    let (control, turns) = (plan.control, plan.turns);
-    let mut command = Command::new(rt.alloc(), plan.target)?;
-    command.arg("run")?;
-    command.arg("/dev/null")?;
-    command.arg("--control")?;
-    command.arg(format!(in rt.alloc(); "{control}")?.as_str())?;
-    command.arg("--turns")?;
-    command.arg(format!(in rt.alloc(); "{turns}")?.as_str())?;
-    command.stdin(Stdio::null());
-    command.stdout(Stdio::piped());
-    command.stderr(Stdio::piped());
-    command.spawn(rt)
+    target_command(rt.alloc(), plan)?.spawn(rt)
 }
 
 fn with_target<R: Processes + Net + Clock + Eprint + AllocGlobal>(

@@ -1,12 +1,12 @@
 //! The two hosts.
+ghost use Rattle.std.specs.Prelude.{◌≡◌, ◌↔◌, All, IsTrue, OnOk};
+ghost use Rattle.host_lab.specs.Watched.{HasSucceeded, IsZeros};
+
 use crate::children::{await_success, end, expect_line, give_line, line_of, started};
+use crate::commands::{reader_command, writer_command};
 use crate::course::{LabFault, Plan};
 use std::io::{self, Eprint};
-use std::process::{Child, Command, OpenProcess, Processes, Stdio};
-
-const SUBSYSTEM: &str = "nqn.2026-01.test:a";
-
-const HOST: &str = "nqn.2026-01.test:h1";
+use std::process::{Child, OpenProcess, Processes};
 
 /// The digits of a block.
 const DIGITS: usize = 1024;
@@ -26,7 +26,9 @@ fn with_writer<R: Processes + Eprint + AllocGlobal>(
     rt: &R,
     plan: &Plan<'_>,
     writer: &mut Child<R::Started>,
-) -> Result<(), LabFault> {
+) -> Result<(), LabFault>
+    ensures { OnOk result (HasSucceeded writer.new) }
+{
     expect_line(rt, "host 1", writer, b"held")?;
     read_zeros(rt, plan)?;
     give_line(writer)?;
@@ -47,7 +49,9 @@ fn read_zeros<R: Processes + Eprint + AllocGlobal>(
 fn with_reader<R: Eprint + AllocGlobal, P: OpenProcess + Drop>(
     rt: &R,
     reader: &mut Child<P>,
-) -> Result<(), LabFault> {
+) -> Result<(), LabFault>
+    ensures { OnOk result (HasSucceeded reader.new) }
+{
     let line = line_of(rt, "host 2", reader)?;
     if !is_zeros(&line) {
         return Err(LabFault);
@@ -56,46 +60,28 @@ fn with_reader<R: Eprint + AllocGlobal, P: OpenProcess + Drop>(
 }
 
 // Whether a line is that of a block of zeros.
-fn is_zeros(line: &[u8]) -> bool {
-    line.len() == DIGITS && line.iter().all(|digit| *digit == b'0')
+fn is_zeros(line: &[u8]) -> bool
+    ensures { IsTrue result ↔ IsZeros line.now }
+{
+    line.len() == DIGITS && are_zeros(line)
+}
+
+fn are_zeros(digits: &[u8]) -> bool
+    ensures { IsTrue result ↔ All (λ digit. digit ≡ 48) digits.now }
+{
+    digits.iter().all(|digit| *digit == b'0')
 }
 
 fn start_writer<R: Processes + AllocGlobal>(
     rt: &R,
     plan: &Plan<'_>,
 ) -> io::Result<Child<R::Started>> {
-    let mut command = command_of(rt, plan, "write")?;
-    command.arg("16")?;
-    command.arg("5")?;
-    command.arg("--hold")?;
-    command.stdin(Stdio::piped());
-    command.spawn(rt)
+    writer_command(rt.alloc(), plan)?.spawn(rt)
 }
 
 fn start_reader<R: Processes + AllocGlobal>(
     rt: &R,
     plan: &Plan<'_>,
 ) -> io::Result<Child<R::Started>> {
-    let mut command = command_of(rt, plan, "read")?;
-    command.arg("1")?;
-    command.stdin(Stdio::null());
-    command.spawn(rt)
-}
-
-// A command of a host, on namespace 1 from block 0 on.
-fn command_of<R: AllocGlobal>(rt: &R, plan: &Plan<'_>, verb: &str) -> io::Result<Command> {
-    let (port, turns) = (plan.port, plan.turns);
-    let mut command = Command::new(rt.alloc(), plan.host)?;
-    command.arg(verb)?;
-    command.arg("--turns")?;
-    command.arg(format!(in rt.alloc(); "{turns}")?.as_str())?;
-    command.arg("127.0.0.1")?;
-    command.arg(format!(in rt.alloc(); "{port}")?.as_str())?;
-    command.arg(SUBSYSTEM)?;
-    command.arg(HOST)?;
-    command.arg("1")?;
-    command.arg("0")?;
-    command.stdout(Stdio::piped());
-    command.stderr(Stdio::piped());
-    Ok(command)
+    reader_command(rt.alloc(), plan)?.spawn(rt)
 }

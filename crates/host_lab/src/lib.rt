@@ -6,6 +6,7 @@
 #![tactic(auto)]
 
 mod children;
+mod commands;
 mod control;
 mod course;
 mod hosts;

@@ -1,4 +1,8 @@
 //! Lines that processes print.
+ghost use Rattle.std.specs.Prelude.{◌∷◌, [], IfOk, MatchOption};
+ghost use Rattle.std.specs.Io.KnownBytes.{Consumes};
+ghost use Rattle.host_lab.specs.Lines.{TakesLine, TakesNone};
+
 use std::alloc::Global;
 use std::io::{self, Eprint, Read};
 
@@ -9,19 +13,33 @@ const LINES_MAX: usize = 65_536;
 
 /// The next line of a stream, without its end, which is taken too; the last one may have none. None at the end of the
 /// stream.
-pub fn next_line<S: Read>(alloc: Global, stream: &mut S) -> io::Result<Option<Vec<u8>>> {
+pub fn next_line<S: Read>(alloc: Global, stream: &mut S) -> io::Result<Option<Vec<u8>>>
+    ensures { IfOk result (λ found. MatchOption found
+        (TakesNone (S.remaining stream.old) (S.remaining stream.new))
+        (λ line. TakesLine line.items (S.remaining stream.old) (S.remaining stream.new))) }
+{
     let mut line = Vec::new(alloc);
-    let mut byte = [0];
     for _ in 0..LINE_MAX {
-        if stream.read(&mut byte)? == 0 {
-            return Ok(if line.is_empty() { None } else { Some(line) });
+        match next_byte(stream)? {
+            None => return Ok(if line.is_empty() { None } else { Some(line) }),
+            Some(b'\n') => return Ok(Some(line)),
+            Some(byte) => line.push(byte)?,
         }
-        if byte[0] == b'\n' {
-            break;
-        }
-        line.push(byte[0])?;
     }
     Ok(Some(line))
+}
+
+fn next_byte<S: Read>(stream: &mut S) -> io::Result<Option<u8>>
+    ensures { IfOk result (λ found. MatchOption found
+        (TakesNone (S.remaining stream.old) (S.remaining stream.new))
+        (λ byte. Consumes (S.remaining stream.old) (S.remaining stream.new) (byte ∷ []))) }
+{
+    let mut byte = [0];
+    Ok(if stream.read(&mut byte)? == 0 {
+        None
+    } else {
+        Some(byte[0])
+    })
 }
 
 /// Prints a line after the name of its process.

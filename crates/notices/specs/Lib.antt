@@ -1,5 +1,6 @@
 pub mod Laws
 pub mod Notices
+pub mod Planned
 pub mod Told
 pub mod Update
 pub mod Viewer

@@ -5,10 +5,12 @@
 
 pub mod laws;
 pub mod notices;
+pub mod planned;
 pub mod update;
 pub mod viewer;
 
 pub use laws::notices_look_back;
 pub use notices::Notices;
+pub use planned::PlannedEdit;
 pub use update::NoticeUpdate;
 pub use viewer::Viewer;

@@ -2,11 +2,11 @@
 ghost use Rattle.std.specs.Prelude.{◌≡◌};
 ghost use Rattle.notices.specs.Viewer.{changes_seen, views_of};
 
+use crate::planned::PlannedEdit;
 use crate::update::NoticeUpdate;
 use crate::viewer::Viewer;
-use ana_view::{AnaCounts, Plan};
+use ana_view::AnaCounts;
 use change_lists::ChangedSet;
-use discovery_view::changes_for;
 use event_queue::{Completing, EventKind, Events, ViewChanges};
 use std::marker::Model;
 
@@ -69,7 +69,7 @@ impl Notices {
     /// controller the namespaces that it changes join the set, and what it changes of the ANA groups
     /// is counted; of a discovery controller both stay. Answers the event requests to complete, in
     /// order.
-    pub fn tell(&mut self, plan: &Plan, viewer: &Viewer<'_>) -> Completing
+    pub fn tell(&mut self, plan: &PlannedEdit<'_>, viewer: &Viewer<'_>) -> Completing
         ensures result { result ≡ tell_answers plan.now.old plan.now.new (views_of viewer.now) self.old }
         ensures after { self.new ≡ told plan.now.old plan.now.new (views_of viewer.now) self.old }
     {
@@ -78,7 +78,7 @@ impl Notices {
     }
 
     // Notes what an edit changes of what is shown, but for the events; what it changes.
-    fn note(&mut self, plan: &Plan, viewer: &Viewer<'_>) -> ViewChanges
+    fn note(&mut self, plan: &PlannedEdit<'_>, viewer: &Viewer<'_>) -> ViewChanges
         ensures changes { result ≡ changes_seen plan.now.old plan.now.new (views_of viewer.now) }
         ensures after { self.new ≡ noted plan.now.old plan.now.new (views_of viewer.now) self.old }
     {
@@ -86,13 +86,16 @@ impl Notices {
             Viewer::Discovery { host } => ViewChanges {
                 namespace: false,
                 ana: false,
-                discovery: changes_for(plan.old(), plan.new(), host),
+                discovery: plan.changes_discovery(host),
             },
-            Viewer::Io { subsystem, port } => ViewChanges {
-                namespace: self.changed.note_changes(plan.old(), plan.new(), subsystem),
-                ana: self.counts.note(plan, subsystem, port),
-                discovery: false,
-            },
+            Viewer::Io { subsystem, port } => {
+                let ana = plan.ana();
+                ViewChanges {
+                    namespace: self.changed.note_changes(ana.old(), ana.new(), subsystem),
+                    ana: self.counts.note(ana, subsystem, port),
+                    discovery: false,
+                }
+            }
         }
     }
 

@@ -1,23 +1,24 @@
 //! Measures the edit language: how many lines of edits a second are read, written back and checked
-//! against a configuration. `nvt_bench SETUP LINES SERVED CHANGES` takes four files of edits: SETUP makes
-//! the configuration, over 256 disks, and the edits of LINES are measured. Then it measures I/O commands
-//! on a target over a disk in memory, against bare copies of as many bytes, and on a host that is joined
-//! to such a target. Then SERVED makes the configuration of a target with hosts, and the edits of CHANGES
-//! are measured, each told to the hosts, and what the hosts read.
+//! against a configuration. `nvt_bench SETUP LINES SERVED CHANGES ONE ALL` takes six files of edits: SETUP
+//! makes the configuration, over 256 disks, and the edits of LINES are measured. Then it measures I/O
+//! commands on a target over a disk in memory, against bare copies of as many bytes, and on a host that is
+//! joined to such a target. Then SERVED makes the configuration of a target with hosts, and the edits of
+//! CHANGES are measured, each told to the hosts, and what the hosts read; and that of a target with one
+//! host, which the edits of ONE change for one host, and those of ALL for all, and what that host reads.
 #![tactic(auto)]
 
 mod clock;
 mod commands;
 mod edits;
 mod fault;
+mod files;
+mod limits;
 mod pairs;
 mod told;
 
 use fault::BenchFault;
-use std::alloc::Global;
+use files::read_file;
 use std::env;
-use std::fs::File;
-use std::io::Read;
 use std::process::ExitCode;
 use std::rt::{Clock, Env, Files};
 
@@ -29,7 +30,7 @@ fn main(rt: HostRuntime) -> ExitCode {
     match read_paths(&rt) {
         Some(paths) => finish(&rt, run(&rt, &paths)),
         None => {
-            let _ = eprintln!(rt; "usage: nvt_bench SETUP LINES SERVED CHANGES");
+            let _ = eprintln!(rt; "usage: nvt_bench SETUP LINES SERVED CHANGES ONE ALL");
             ExitCode::from(BAD_ARGUMENTS)
         }
     }
@@ -52,6 +53,8 @@ struct Paths {
     lines: String,
     served: String,
     changes: String,
+    one: String,
+    all: String,
 }
 
 fn read_paths<R: Env + AllocGlobal>(rt: &R) -> Option<Paths> {
@@ -61,6 +64,8 @@ fn read_paths<R: Env + AllocGlobal>(rt: &R) -> Option<Paths> {
     let lines = words.next()?;
     let served = words.next()?;
     let changes = words.next()?;
+    let one = words.next()?;
+    let all = words.next()?;
     if words.next().is_some() {
         return None;
     }
@@ -69,6 +74,8 @@ fn read_paths<R: Env + AllocGlobal>(rt: &R) -> Option<Paths> {
         lines,
         served,
         changes,
+        one,
+        all,
     })
 }
 
@@ -76,7 +83,8 @@ fn run<R: Files + Clock + Print + AllocGlobal>(rt: &R, paths: &Paths) -> Result<
     measure_edits(rt, paths)?;
     commands::measure(rt)?;
     pairs::measure(rt)?;
-    measure_told(rt, paths)
+    measure_told(rt, paths)?;
+    measure_limits(rt, paths)
 }
 
 fn measure_edits<R: Files + Clock + Print + AllocGlobal>(
@@ -97,13 +105,12 @@ fn measure_told<R: Files + Clock + Print + AllocGlobal>(
     told::measure(rt, &served, &changes)
 }
 
-fn read_file<R: Files>(rt: &R, alloc: Global, path: &str) -> Result<Vec<u8>, BenchFault> {
-    let mut bytes = Vec::new(alloc);
-    let Ok(mut file) = File::open(rt, path) else {
-        return Err(BenchFault::Io);
-    };
-    match file.read_to_end(&mut bytes) {
-        Ok(_) => Ok(bytes),
-        Err(_) => Err(BenchFault::Io),
-    }
+fn measure_limits<R: Files + Clock + Print + AllocGlobal>(
+    rt: &R,
+    paths: &Paths,
+) -> Result<(), BenchFault> {
+    let served = read_file(rt, rt.alloc(), &paths.served)?;
+    let one = read_file(rt, rt.alloc(), &paths.one)?;
+    let all = read_file(rt, rt.alloc(), &paths.all)?;
+    limits::measure(rt, &served, &one, &all)
 }

@@ -13,13 +13,12 @@ ghost use Rattle.target_decision.specs.Session.{is_ended};
 ghost use Rattle.target_decision.specs.World.{world_in};
 ghost use Rattle.target_history.specs.Occurrence.{views_of};
 
-use ana_view::Plan;
 use block_store::{Disk, Store};
 use bytes::BytesMut;
 use controller_tables::ControllerTables;
 use data_transfer::Transfers;
 use fabrics_connect::Row;
-use notices::Viewer;
+use notices::{PlannedEdit, Viewer};
 use pdu_cut::Cut;
 use std::alloc::{AllocError, Global};
 use std::marker::Model;
@@ -77,7 +76,7 @@ impl Connection {
         self.output.as_slice()
     }
 
-    /// Takes the first `len` bytes of the output away.
+    /// Takes the first `len` bytes of the output away. Where none is left, all its room is there again.
     pub(crate) fn taken(&mut self, len: usize)
         requires { len ≤ length self.old.output }
         ensures { self.new ≡ record {
@@ -85,7 +84,11 @@ impl Connection {
           output = drop len self.old.output;
         } }
     {
-        self.output.advance(len);
+        if len == self.output.len() {
+            self.output.clear();
+        } else {
+            self.output.advance(len);
+        }
     }
 
     /// Does what was decided on this front, with these disks and its own transfers, of those of all. All
@@ -136,7 +139,7 @@ impl Connection {
 
     /// Tells the host of the controller whose admin queue it is what an edit changes of what the
     /// controller shows, where that lives. It takes no memory.
-    pub(crate) fn tell(&mut self, tables: &ControllerTables, plan: &Plan)
+    pub(crate) fn tell(&mut self, tables: &ControllerTables, plan: &PlannedEdit<'_>)
         ensures { self.new ≡ told_known plan.now.old plan.now.new (λ c. place tables.now.rows c) self.old }
     {
         let Session::Connected {

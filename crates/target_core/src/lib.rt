@@ -22,7 +22,6 @@ mod connection;
 mod disks;
 mod fault;
 mod settle;
-mod stream;
 mod target;
 
 pub use fault::{NoConn, OpenFault, StepFault, Stepped};

@@ -9,9 +9,9 @@ ghost use Rattle.target_core.specs.Connection.{ends_known, settled, told_known};
 ghost use Rattle.target_history.specs.Occurrence.{row_kept};
 
 use crate::connection::Connection;
-use ana_view::Plan;
 use controller_tables::ControllerTables;
 use data_transfer::Transfers;
+use notices::PlannedEdit;
 use number_table::NumberTable;
 use nvt_config::Config;
 use target_decision::WaitingCommand;
@@ -53,7 +53,7 @@ pub(crate) fn settle(
 pub(crate) fn tell(
     connections: &mut NumberTable<Connection>,
     tables: &ControllerTables,
-    plan: &Plan,
+    plan: &PlannedEdit<'_>,
 )
     ensures { let row = (λ (c : ℕ). place tables.now.rows c) in
         connections.new ≡ map (option_map (told_known plan.now.old plan.now.new row)) connections.old }

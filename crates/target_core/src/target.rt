@@ -23,13 +23,13 @@ use crate::connection::Connection;
 use crate::disks::{are_disks, stores_over, units_of};
 use crate::fault::{NoConn, OpenFault, StepFault, Stepped};
 use crate::settle::{settle, tell};
-use crate::stream::Stream;
 use block_store::{Disk, Store};
 use controller_tables::{ControllerTables, consequence_of};
 use data_transfer::Transfers;
 use number_table::NumberTable;
 use nvt_config::{Config, Edit, EditFault, NewFault};
 use pdu_cut::Cut;
+use pdu_stream::{OfTarget, Stream};
 use std::alloc::{AllocError, Global};
 use std::marker::Model;
 use target_decision::{
@@ -46,7 +46,7 @@ pub struct Target<D: Disk> {
     config: Config,
     views: Views,
     clock: u64,
-    streams: NumberTable<Stream>,
+    streams: NumberTable<Stream<OfTarget>>,
     connections: NumberTable<Connection>,
     transfers: Transfers<WaitingCommand>,
     controllers: ControllerTables,
@@ -292,7 +292,8 @@ impl<D: Disk + Drop> Target<D> {
             &self.config,
             &EndCause::of_edit(edit),
         );
-        tell(&mut self.connections, &self.controllers, plans.edit());
+        let planned = self.views.planned(&plans);
+        tell(&mut self.connections, &self.controllers, &planned);
         self.views.commit(plans);
         Ok(())
     }
@@ -349,6 +350,7 @@ impl<D: Disk + Drop> Target<D> {
         Ok(stream.receive(piece))
     }
 
+    #[tactic(auto, using(crate::proofs::Fronts::head_bound, crate::proofs::Fronts::front_within))]
     fn step_on(&mut self, k: usize) -> Result<Stepped, StepFault>
         ensures { StepsAt k (place self.old.streams k) (place self.old.connections k)
             self.old result self.new }
@@ -451,7 +453,7 @@ impl<D: Disk + Drop> Target<D> {
 
 // What a target makes beside its configuration and its disks.
 struct Parts {
-    streams: NumberTable<Stream>,
+    streams: NumberTable<Stream<OfTarget>>,
     connections: NumberTable<Connection>,
     transfers: Transfers<WaitingCommand>,
     controllers: ControllerTables,
@@ -481,7 +483,7 @@ impl Parts {
     }
 }
 
-fn room_of(stream: Option<&Stream>, connection: Option<&Connection>) -> usize
+fn room_of(stream: Option<&Stream<OfTarget>>, connection: Option<&Connection>) -> usize
     ensures { result ≡ room_at (option_copied stream.entry) (option_copied connection.entry) }
 {
     match (stream, connection) {
@@ -527,7 +529,7 @@ fn act<D: Disk>(
 }
 
 // Takes the first `len` bytes of its own stream, where that is known.
-fn consume(streams: &mut NumberTable<Stream>, k: usize, len: usize)
+fn consume(streams: &mut NumberTable<Stream<OfTarget>>, k: usize, len: usize)
     requires { CanConsume len (place streams.old k) }
     ensures { ActedAt k (drop len) (place streams.old k) streams.old streams.new }
 {

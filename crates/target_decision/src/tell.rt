@@ -5,10 +5,9 @@ ghost use Rattle.target_decision.specs.Tell.{completed_in, completion_pdu, compl
 ghost use Rattle.target_decision.specs.Tell.{told_after, told_pdus};
 
 use crate::session::{ConnectionState, Session};
-use ana_view::Plan;
 use bytes::BytesMut;
 use event_queue::Completion;
-use notices::Viewer;
+use notices::{PlannedEdit, Viewer};
 use nvt_fields::Status;
 use pdu_codec::CapsuleResp;
 
@@ -19,7 +18,7 @@ pub const TOLD_ROOM: usize = 4 * 24;
 impl ConnectionState {
     /// Tells the host of a controller that shows this what an edit changes, before its plan is committed:
     /// the requests that it completes are answered. The connection is the controller's admin queue.
-    pub fn tell(&mut self, plan: &Plan, viewer: &Viewer<'_>, output: &mut BytesMut)
+    pub fn tell(&mut self, plan: &PlannedEdit<'_>, viewer: &Viewer<'_>, output: &mut BytesMut)
         requires room { 24 * length self.old.notices.events.waiting ≤ output.old.spare }
         ensures state { self.new ≡ told_after plan.now.old plan.now.new (views_of viewer.now) self.old }
         ensures items { output.new.items

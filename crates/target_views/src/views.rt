@@ -9,6 +9,7 @@ use admin_queue::Pages;
 use ana_view::{AnaView, Plan as AnaPlan};
 use change_lists::{ActiveView, Plan as ActivePlan};
 use discovery_view::{DiscoveryView, Plan as DiscoveryPlan, RecordFormer};
+use notices::PlannedEdit;
 use nvt_config::{Config, Edit};
 use std::alloc::{AllocError, Global};
 use std::marker::Model;
@@ -56,16 +57,6 @@ impl Model for Plans {
     } };
 }
 
-impl Plans {
-    /// The edit: the configuration before it and the one after it.
-    pub fn edit(&self) -> &AnaPlan
-        ensures old { result.now.old ≡ self.now.old }
-        ensures new { result.now.new ≡ self.now.new }
-    {
-        &self.ana
-    }
-}
-
 impl Views {
     /// The views of a configuration that no edit has changed yet.
     pub fn new(alloc: Global, config: &Config) -> Result<Views, AllocError>
@@ -101,6 +92,16 @@ impl Views {
             active,
             ana,
         })
+    }
+
+    /// The edit that was prepared last, as it is told.
+    pub fn planned<'a>(&'a self, plans: &'a Plans) -> PlannedEdit<'a>
+        requires of { AreViewsOf plans.now.old self.now }
+        requires planned { ArePlannedFor self.now plans.now }
+        ensures old { result.old ≡ plans.now.old }
+        ensures new { result.new ≡ plans.now.new }
+    {
+        PlannedEdit::new(&self.discovery, &plans.discovery, &plans.ana)
     }
 
     /// Goes over to what was prepared last. Takes no memory.

@@ -2,7 +2,7 @@
 use ana_view::{AnaView, Plan};
 use nvt_config::{Config, Edit};
 use std::alloc::{AllocError, Global};
-use testkit_edits::{Line, config_over, edit, is_same};
+use testkit_edits::{Line, config_over, edit, has_same_groups, is_same};
 
 // More disks than a test has namespaces at a time.
 const UNITS: &[u64] = &[64; 12];
@@ -28,11 +28,13 @@ pub fn plan(followed: &mut Followed, edit: &Edit) -> Result<Option<Plan>, AllocE
     Ok(Some(followed.view.prepare(&followed.config, edit)?))
 }
 
-/// Whether a plan goes from the configuration to the one that the edit makes of it.
+/// Whether a plan goes from the configuration to the one that the edit makes of it, by its namespaces and its
+/// ANA states.
 pub fn is_planned(followed: &Followed, edit: &Edit, plan: &Plan) -> Result<bool, AllocError> {
     let mut next = followed.config.try_clone()?;
     let applied = next.apply(edit).is_ok();
-    Ok(applied && is_same(plan.old(), &followed.config) && is_same(plan.new(), &next))
+    let is_from = is_same(plan.old(), &followed.config);
+    Ok(applied && is_from && has_same_groups(plan.new(), &next))
 }
 
 /// Makes an edit that was planned; whether the configuration makes it too.

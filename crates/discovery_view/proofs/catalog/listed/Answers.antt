@@ -3,13 +3,12 @@ use Rattle.std.proofs.lemmas.List.Elements.{All-nil}
 use Rattle.config_lists.specs.declared.port.Port.{Port}
 use Rattle.config_lists.specs.declared.subsystem.Subsystem.{Subsystem}
 use Rattle.config_lists.specs.Port.{is_port}
-use Rattle.discovery_view.specs.Order.{name_below}
+use Rattle.discovery_view.specs.Order.{entries_of, name_below}
 use Rattle.discovery_view.specs.Record.{record_of}
 use Rattle.discovery_view.specs.Records.{ports_in_order, referrals_in_order, subsystems_in_order}
-use Rattle.discovery_view.specs.Walk.{entries_of}
 use Rattle.discovery_view.proofs.Catalogs.{AreWhole, catalog_bound, in_turn}
 use Rattle.discovery_view.proofs.Orders.{All-in_order, length-in_order}
-use Rattle.discovery_view.proofs.Walks.{entries_from}
+use Rattle.discovery_view.proofs.Slots.{entries_from}
 use Rattle.discovery_view.proofs.catalog.listed.Goals as goal
 
 pub push_ports-requires : goal.push_ports-requires

@@ -1,11 +1,17 @@
 use Rattle.std.proofs.Common.{◌≡◌, ◌<◌, ◌≤◌, List, Bool, ℕ, refl, ap, sym, ◌∙◌, arith}
 use Rattle.config_rules.specs.Configuration.{Configuration}
-use Rattle.ana_view.specs.Group.{any_group, changes_ana, changes_group, descriptor}
+use Rattle.ana_view.specs.Group.{any_group, changes_ana, changes_group, descriptor, members}
 use Rattle.ana_view.specs.Counts.{Counts, count_after, count_in, counts_after, for_each_group}
 use Rattle.ana_view.specs.declared.groups.Groups.{Groups}
 use Rattle.ana_view.specs.Tables.{descriptor_of, group_differs}
 use Rattle.ana_view.proofs.Counting.{any_alike, each_alike}
 use Rattle.ana_view.proofs.counts.AnaCounts.note.Goals as goal
+
+-- a descriptor is that of the namespaces and the states
+same_lists : (c d : Configuration) (subsystem : List ℕ) (port group : ℕ) → c.namespaces ≡ d.namespaces → c.states ≡ d.states → descriptor c subsystem port group ≡ descriptor d subsystem port group
+unfolding members
+same_lists c d subsystem port group namespaces states =
+    λ i. descriptor (record c { namespaces = namespaces i; states = states i }) subsystem port group
 
 -- a group differs where its descriptor changes
 changes : (old new : Configuration) (subsystem : List ℕ) (port : ℕ) (t u : Groups)
@@ -41,13 +47,13 @@ pub returns-then-changed-clause-changed : goal.returns-then-changed-clause-chang
 returns-then-changed-clause-changed c =
     let plan = c.args.plan.now in
     c.count_changes-changed.ensures.changed
-    ∙ any_changes plan.old plan.new c.args.subsystem.now c.args.port c.of-old.result c.of-new.result (λ group few. rw c.old.ensures at (c.of-old.ensures group few)) (λ group few. rw c.new.ensures at (c.of-new.ensures group few))
+    ∙ any_changes plan.old plan.new c.args.subsystem.now c.args.port c.of-old.result c.of-new.result (λ group few. rw c.old.ensures at (c.of-old.ensures group few)) (λ group few. c.of-new.ensures group few ∙ same_lists c.new.result.now plan.new c.args.subsystem.now c.args.port group c.new.ensures.namespaces c.new.ensures.states)
 
 pub returns-then-changed-clause-counts : goal.returns-then-changed-clause-counts
 returns-then-changed-clause-counts c =
     let plan = c.args.plan.now in
     let before = λ (group : ℕ) (few : group < 33). rw c.old.ensures at (c.of-old.ensures group few) in
-    let after = λ (group : ℕ) (few : group < 33). rw c.new.ensures at (c.of-new.ensures group few) in
+    let after = λ (group : ℕ) (few : group < 33). c.of-new.ensures group few ∙ same_lists c.new.result.now plan.new c.args.subsystem.now c.args.port group c.new.ensures.namespaces c.new.ensures.states in
     let any = any_changes plan.old plan.new c.args.subsystem.now c.args.port c.of-old.result c.of-new.result before after in
     let groups = c.count_changes-changed.ensures.counts ∙ all_counts plan.old plan.new c.args.subsystem.now c.args.port c.of-old.result c.of-new.result c.self.inside.groups before after in
     rw (← c.self.view_is)
@@ -57,13 +63,13 @@ pub returns-else-changed-clause-changed : goal.returns-else-changed-clause-chang
 returns-else-changed-clause-changed c =
     let plan = c.args.plan.now in
     c.count_changes-changed.ensures.changed
-    ∙ any_changes plan.old plan.new c.args.subsystem.now c.args.port c.of-old.result c.of-new.result (λ group few. rw c.old.ensures at (c.of-old.ensures group few)) (λ group few. rw c.new.ensures at (c.of-new.ensures group few))
+    ∙ any_changes plan.old plan.new c.args.subsystem.now c.args.port c.of-old.result c.of-new.result (λ group few. rw c.old.ensures at (c.of-old.ensures group few)) (λ group few. c.of-new.ensures group few ∙ same_lists c.new.result.now plan.new c.args.subsystem.now c.args.port group c.new.ensures.namespaces c.new.ensures.states)
 
 pub returns-else-changed-clause-counts : goal.returns-else-changed-clause-counts
 returns-else-changed-clause-counts c =
     let plan = c.args.plan.now in
     let before = λ (group : ℕ) (few : group < 33). rw c.old.ensures at (c.of-old.ensures group few) in
-    let after = λ (group : ℕ) (few : group < 33). rw c.new.ensures at (c.of-new.ensures group few) in
+    let after = λ (group : ℕ) (few : group < 33). c.of-new.ensures group few ∙ same_lists c.new.result.now plan.new c.args.subsystem.now c.args.port group c.new.ensures.namespaces c.new.ensures.states in
     let any = any_changes plan.old plan.new c.args.subsystem.now c.args.port c.of-old.result c.of-new.result before after in
     let groups = c.count_changes-changed.ensures.counts ∙ all_counts plan.old plan.new c.args.subsystem.now c.args.port c.of-old.result c.of-new.result c.self.inside.groups before after in
     rw (← c.self.view_is)

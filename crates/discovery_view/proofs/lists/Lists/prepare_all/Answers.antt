@@ -5,7 +5,7 @@ use Rattle.discovery_view.specs.Plan.{spliced}
 use Rattle.discovery_view.specs.Ready.{Places}
 use Rattle.discovery_view.proofs.Catalogs.{spliced_is}
 use Rattle.discovery_view.proofs.Strangers.{rows_within, shows_next}
-use Rattle.discovery_view.proofs.Walks.{rest_of}
+use Rattle.discovery_view.proofs.Slots.{rest_of}
 use Rattle.discovery_view.proofs.lists.Lists.prepare_all.Goals as goal
 
 pub returns-clause-planned : goal.returns-clause-planned

@@ -1,4 +1,5 @@
-use Rattle.std.proofs.Common.{◌≡◌, Result, Ok, Err, OnErr, refl, ap, sym, ◌∙◌}
+use Rattle.std.proofs.Common.{Result, Ok, Err, OnErr, refl, ap, sym, ◌∙◌}
+use Rattle.std.proofs.lemmas.Result.{err_from_is_err_and}
 use Rattle.target_core.proofs.Moving.{edit_moves, made_same}
 use Rattle.target_core.proofs.Places.{map_is_target}
 use Rattle.target_views.proofs.Shows.{planned_next}
@@ -25,6 +26,18 @@ invariant_of-self-in_err-change g c = record {
   shows = c.prepare.ensures.stays c.self.inside.config c.self.invariant.shows;
 }
 
+pub returns-in_err-change-clause-ok : goal.returns-in_err-change-clause-ok
+returns-in_err-change-clause-ok g c =
+    let r = c.from_residual-in_err-change in
+    let p = err_from_is_err_and r.result r.ensures.1 in
+    rw p.1 tt
+
+pub returns-in_err-change-clause-transition : goal.returns-in_err-change-clause-transition
+returns-in_err-change-clause-transition g c =
+    let r = c.from_residual-in_err-change in
+    let p = err_from_is_err_and r.result r.ensures.1 in
+    rw p.1 tt
+
 pub returns-in_err-change-clause-err : goal.returns-in_err-change-clause-err
 returns-in_err-change-clause-err g c = rw (← c.self.view_is, c.prepare.ensures.kept) (on_err _ _ refl)
 
@@ -34,10 +47,14 @@ returns-clause-ok g c = rw (← c.self.view_is) (c.in_ok-change.ensures.makes �
 pub returns-clause-transition : goal.returns-clause-transition
 returns-clause-transition g c =
     let accepted = c.in_ok-change.ensures.makes ∙ ap Ok (sym c.commit.ensures) in
-    let first = c.edit.ensures.old ∙ c.in_ok-plans.ensures.old in
-    let last = c.edit.ensures.new ∙ made_same _ _ _ c.in_ok-plans.ensures.new accepted in
+    let first = c.planned-planned.ensures.old ∙ c.in_ok-plans.ensures.old in
+    let last = c.planned-planned.ensures.new ∙ made_same _ _ _ c.in_ok-plans.ensures.new accepted in
     rw (← c.self.view_is)
     (edit_moves _ _ c.args.edit.now _ _ accepted first last refl
     (planned_next _ _ _ _ _ c.in_ok-plans.ensures.new accepted (rw c.prepare.ensures.kept at c.commit-2.ensures.shown)) refl
     c.settle.new.connections (rw c.of_edit.ensures at c.settle.ensures.connections) c.tell.ensures (λ n. rw c.of_edit.ensures at (c.settle.ensures.rows n))
     (λ n. rw c.of_edit.ensures at (c.settle.ensures.own n)) (λ k t. rw c.of_edit.ensures at (c.settle.ensures.parts k t)) refl)
+
+-- the views are those of the configuration that the edit changes
+pub planned-planned-requires-clause-of : goal.planned-planned-requires-clause-of
+planned-planned-requires-clause-of g c = rw c.in_ok-plans.ensures.old (c.prepare.ensures.stays c.self.inside.config c.self.invariant.shows)

@@ -1,0 +1,127 @@
+//! What is measured at the limits of a configuration: edits that change the records of one host, and of all,
+//! and reads of the discovery log page, against a bare copy of as many bytes.
+use crate::clock::{micros_since, now, rate};
+use crate::edits::read_all;
+use crate::fault::BenchFault;
+use crate::files::read_file;
+use bench_queues::{Limits, Work, copies};
+use nvt_config::Edit;
+use std::rt::{Clock, Files};
+
+// How often the edits that change the records of one host are made, and those of all.
+const ROUNDS: u32 = 100;
+
+const READS: u32 = 100_000;
+
+// Of a page of memory.
+const PAGE_KIB: u64 = 4;
+
+/// Makes the configuration of the set-up, and prints a figure for the edits of each kind and the memory, at
+/// first and after many, and a figure for the reads.
+pub fn measure<R: Files + Clock + Print + AllocGlobal>(
+    rt: &R,
+    setup: &[u8],
+    of_one: &[u8],
+    of_all: &[u8],
+) -> Result<(), BenchFault> {
+    let alloc = rt.alloc();
+    let setup = read_all(alloc, setup)?;
+    let of_one = read_all(alloc, of_one)?;
+    let of_all = read_all(alloc, of_all)?;
+    match Limits::configured(alloc, &setup) {
+        Some(mut limits) => measure_on(rt, &mut limits, &of_one, &of_all),
+        None => Err(BenchFault::OtherAnswer),
+    }
+}
+
+fn measure_on<R: Files + Clock + Print + AllocGlobal>(
+    rt: &R,
+    limits: &mut Limits,
+    of_one: &[Edit],
+    of_all: &[Edit],
+) -> Result<(), BenchFault> {
+    measure_edits(rt, limits, of_one, "one host's records, at first")?;
+    measure_edits(rt, limits, of_all, "all hosts' records, at first")?;
+    report_memory(rt)?;
+    for _ in 1..ROUNDS {
+        make(limits, of_one)?;
+    }
+    measure_edits(rt, limits, of_one, "one host's records, after many")?;
+    measure_edits(rt, limits, of_all, "all hosts' records, after many")?;
+    report_memory(rt)?;
+    measure_reads(rt, limits)
+}
+
+fn measure_edits<R: Clock + Print>(
+    rt: &R,
+    limits: &mut Limits,
+    edits: &[Edit],
+    what: &str,
+) -> Result<(), BenchFault> {
+    let begun = now(rt)?;
+    make(limits, edits)?;
+    let micros = micros_since(rt, begun)?;
+    let (count, rate) = (edits.len(), rate(edits.len() as u64, micros));
+    let text = format_args!("{count} edits of {what}, in {micros} microseconds: {rate} a second\n");
+    match rt.print(text) {
+        Ok(()) => Ok(()),
+        Err(_) => Err(BenchFault::Io),
+    }
+}
+
+fn make(limits: &mut Limits, edits: &[Edit]) -> Result<(), BenchFault> {
+    if limits.makes_all(edits) {
+        Ok(())
+    } else {
+        Err(BenchFault::OtherAnswer)
+    }
+}
+
+// Prints how much memory the program has, as the system says it.
+fn report_memory<R: Files + Print + AllocGlobal>(rt: &R) -> Result<(), BenchFault> {
+    let pages = second_number(&read_file(rt, rt.alloc(), "/proc/self/statm")?);
+    let kib = pages.saturating_mul(PAGE_KIB);
+    match rt.print(format_args!("resident memory: {kib} KiB\n")) {
+        Ok(()) => Ok(()),
+        Err(_) => Err(BenchFault::Io),
+    }
+}
+
+// The second of some decimal numbers, with a space between one and the next.
+fn second_number(text: &[u8]) -> u64 {
+    let mut spaces: u32 = 0;
+    let mut number: u64 = 0;
+    for byte in text {
+        if *byte == b' ' {
+            spaces = spaces.saturating_add(1);
+        } else if spaces == 1 && byte.is_ascii_digit() {
+            let digit = u64::from(byte.wrapping_sub(b'0'));
+            number = number.saturating_mul(10).saturating_add(digit);
+        }
+    }
+    number
+}
+
+fn measure_reads<R: Clock + Print + AllocGlobal>(
+    rt: &R,
+    limits: &mut Limits,
+) -> Result<(), BenchFault> {
+    let begun = now(rt)?;
+    copies(rt.alloc(), Work::LongRead, READS)?;
+    let copies = micros_since(rt, begun)?;
+    let begun = now(rt)?;
+    if !limits.reads(READS) {
+        return Err(BenchFault::OtherAnswer);
+    }
+    let micros = micros_since(rt, begun)?;
+    let rate = rate(u64::from(READS), micros);
+    let tenths = micros.saturating_mul(10) / copies.max(1);
+    let (whole, tenth) = (tenths / 10, tenths % 10);
+    let text = format_args!(
+        "{READS} reads of 32 KiB of a discovery log page in {micros} microseconds: {rate} a second, each in {whole}.{tenth} copies' time\n"
+    );
+    match rt.print(text) {
+        Ok(()) => Ok(()),
+        Err(_) => Err(BenchFault::Io),
+    }
+}
