@@ -60,7 +60,7 @@ impl AnaCounts {
             ≡ counts_after plan.now.old plan.now.new subsystem.now port self.old }
     {
         let old = Groups::of(plan.old(), subsystem, port);
-        let new = Groups::of(plan.new(), subsystem, port);
+        let new = Groups::of(plan.groups_after(), subsystem, port);
         let changed = count_changes(&mut self.groups, &old, &new);
         if changed {
             self.changes = self.changes.wrapping_add(1);

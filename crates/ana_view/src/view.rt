@@ -64,8 +64,9 @@ impl Plan {
         &self.before
     }
 
-    /// A configuration with the namespaces and the ANA states of the one after it.
-    pub fn new(&self) -> &Config
+    /// A configuration whose namespaces and ANA states, and so its groups, are those after the edit; what
+    /// else it has may be as before.
+    pub fn groups_after(&self) -> &Config
         ensures namespaces { result.now.namespaces ≡ self.now.new.namespaces }
         ensures states { result.now.states ≡ self.now.new.states }
     {

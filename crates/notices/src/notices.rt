@@ -91,7 +91,7 @@ impl Notices {
             Viewer::Io { subsystem, port } => {
                 let ana = plan.ana();
                 ViewChanges {
-                    namespace: self.changed.note_changes(ana.old(), ana.new(), subsystem),
+                    namespace: self.changed.note_changes(ana.old(), ana.groups_after(), subsystem),
                     ana: self.counts.note(ana, subsystem, port),
                     discovery: false,
                 }

@@ -34,7 +34,7 @@ pub fn is_planned(followed: &Followed, edit: &Edit, plan: &Plan) -> Result<bool,
     let mut next = followed.config.try_clone()?;
     let applied = next.apply(edit).is_ok();
     let is_from = is_same(plan.old(), &followed.config);
-    Ok(applied && is_from && has_same_groups(plan.new(), &next))
+    Ok(applied && is_from && has_same_groups(plan.groups_after(), &next))
 }
 
 /// Makes an edit that was planned; whether the configuration makes it too.
