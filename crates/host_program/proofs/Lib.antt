@@ -1,6 +1,7 @@
 mod Cutting
 mod Held
 mod Joined
+mod LineTaken
 mod Listed
 mod Padding
 mod Pages

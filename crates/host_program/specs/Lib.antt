@@ -1,5 +1,6 @@
 pub mod Asked
 pub mod Asking
+pub mod AwaitedLine
 pub mod Blocks
 pub mod Discovering
 pub mod Holding

@@ -4,6 +4,7 @@
 
 mod access;
 mod asked;
+mod awaited_line;
 mod changes;
 mod discovery;
 mod identified;

@@ -1,10 +1,11 @@
 //! The command `write`.
-ghost use Rattle.std.specs.Prelude.{◌≡◌, ◌≤◌, ◌*◌, ◌⊎◌, IfErr, IfOk, replicate};
+ghost use Rattle.std.specs.Prelude.{◌≡◌, ◌≤◌, ◌*◌, ◌⊎◌, IfOk, replicate};
 ghost use Rattle.host_link.specs.Commands.{write};
 ghost use Rattle.host_program.specs.Blocks.{IsStarved, Writes, WritesBeside, WritesBlocks};
 ghost use Rattle.host_program.specs.Holding.{Holds, HoldsBeside, HoldsBlocks, HoldsData, IsAnswered, IsRequested, WritesHeld};
 
 use crate::asked::ask_result;
+use crate::awaited_line::pass_line;
 use crate::identified::ask_block_len;
 use crate::links::Links;
 use crate::opened::{open_admin, open_io};
@@ -13,10 +14,7 @@ use crate::printed::{print_text, written};
 use host_driver::HostCommand;
 use host_link::{Blocks, Link, Session, SessionFault, commands};
 use std::alloc::{AllocError, Global};
-use std::io::{ErrorKind, Read, Write};
-
-/// The most bytes of the line that is waited for.
-const LINE_MAX: usize = 1024;
+use std::io::{Read, Write};
 
 /// Blocks, each byte of which is to be this one.
 #[derive(Clone, Copy, Debug, PartialEq, Eq)]
@@ -84,7 +82,7 @@ pub fn write_held<A: Link + Drop, L: Link + Drop, R: Read, W: Write>(
     out: &mut W,
 ) -> Result<(), SessionFault>
     ensures { WritesHeld peers.now fill turns (A.state links.admin) (L.state links.io) result
-        (W.contents out.old) (W.contents out.new) }
+        (R.remaining lines.old) (R.remaining lines.new) (W.contents out.old) (W.contents out.new) }
 {
     let mut admin = open_admin(alloc, links.admin, peers, turns)?;
     hold_beside(alloc, &mut admin, links.io, peers, fill, lines, out)
@@ -99,7 +97,8 @@ fn hold_beside<A: Link + Drop, L: Link + Drop, R: Read, W: Write>(
     lines: &mut R,
     out: &mut W,
 ) -> Result<(), SessionFault>
-    ensures { HoldsBeside peers.now fill (L.state link) admin.old result (W.contents out.old) (W.contents out.new) }
+    ensures { HoldsBeside peers.now fill (L.state link) admin.old result
+        (R.remaining lines.old) (R.remaining lines.new) (W.contents out.old) (W.contents out.new) }
 {
     let block_len = ask_block_len(alloc, admin, fill.blocks.nsid)?;
     let mut io = open_io(alloc, link, peers, admin, 0)?;
@@ -116,7 +115,8 @@ fn hold_over<L: Link + Drop, R: Read, W: Write>(
 ) -> Result<(), SessionFault>
     requires { block_len ≤ 4096 }
     ensures { IsStarved result (W.contents out.old) (W.contents out.new)
-        ⊎ HoldsBlocks fill block_len io.old result (W.contents out.old) (W.contents out.new) }
+        ⊎ HoldsBlocks fill block_len io.old result (R.remaining lines.old) (R.remaining lines.new)
+        (W.contents out.old) (W.contents out.new) }
 {
     let command = filled(alloc, fill, block_len)?;
     io.submit(&command)?;
@@ -129,7 +129,8 @@ fn hold<L: Link + Drop, R: Read, W: Write>(
     lines: &mut R,
     out: &mut W,
 ) -> Result<(), SessionFault>
-    ensures { Holds io.old result (W.contents out.old) (W.contents out.new) }
+    ensures { Holds io.old result (R.remaining lines.old) (R.remaining lines.new)
+        (W.contents out.old) (W.contents out.new) }
 {
     if is_requested(io)? {
         hold_data(io, lines, out)
@@ -143,7 +144,8 @@ fn hold_data<L: Link + Drop, R: Read, W: Write>(
     lines: &mut R,
     out: &mut W,
 ) -> Result<(), SessionFault>
-    ensures { HoldsData io.old result (W.contents out.old) (W.contents out.new) }
+    ensures { HoldsData io.old result (R.remaining lines.old) (R.remaining lines.new)
+        (W.contents out.old) (W.contents out.new) }
 {
     print_text(out, b"held\n")?;
     written(out.flush())?;
@@ -187,21 +189,4 @@ fn len_of(blocks: Blocks, block_len: u32) -> usize
     ensures { result ≡ blocks.count * block_len }
 {
     usize::from(blocks.count) * block_len as usize
-}
-
-// Reads up to the end of a line.
-fn pass_line<R: Read>(lines: &mut R) -> Result<(), SessionFault>
-    ensures { IfErr result (λ fault. fault ≡ SessionFault.Io) }
-{
-    let mut byte = [0];
-    for _ in 0..LINE_MAX {
-        match lines.read(&mut byte) {
-            Ok(0) => return Ok(()),
-            Ok(_) if byte[0] == b'\n' => return Ok(()),
-            Ok(_) => {}
-            Err(error) if error.kind() == ErrorKind::Interrupted => {}
-            Err(_) => return Err(SessionFault::Io),
-        }
-    }
-    Ok(())
 }

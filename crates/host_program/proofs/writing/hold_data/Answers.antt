@@ -14,7 +14,7 @@ returns-in_err-await_answer g c =
       awaits = record {
         shown = g.W.Write.contents c.flush.new.self;
         keeps = c.flush.ensures.bytes;
-        ends = inr (awaits_err _ c.args.io.now c.await_answer.new.io _ c.in_err-await_answer.ensures);
+        ends = inr (c.in_ok-pass_line.ensures.passes, awaits_err _ c.args.io.now c.await_answer.new.io _ c.in_err-await_answer.ensures);
       };
     })
 
@@ -26,6 +26,6 @@ returns g c = record {
   awaits = record {
     shown = g.W.Write.contents c.flush.new.self;
     keeps = c.flush.ensures.bytes;
-    ends = inr (awaits_ok c.in_ok-await_answer.field-0 c.args.io.now c.await_answer.new.io _ _ _ c.in_ok-await_answer.ensures c.«print_text-2».ensures);
+    ends = inr (c.in_ok-pass_line.ensures.passes, awaits_ok c.in_ok-await_answer.field-0 c.args.io.now c.await_answer.new.io _ _ _ c.in_ok-await_answer.ensures c.«print_text-2».ensures);
   };
 }
