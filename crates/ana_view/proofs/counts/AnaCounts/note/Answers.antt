@@ -47,13 +47,13 @@ pub returns-then-changed-clause-changed : goal.returns-then-changed-clause-chang
 returns-then-changed-clause-changed c =
     let plan = c.args.plan.now in
     c.count_changes-changed.ensures.changed
-    ∙ any_changes plan.old plan.new c.args.subsystem.now c.args.port c.of-old.result c.of-new.result (λ group few. rw c.old.ensures at (c.of-old.ensures group few)) (λ group few. c.of-new.ensures group few ∙ same_lists c.new.result.now plan.new c.args.subsystem.now c.args.port group c.new.ensures.namespaces c.new.ensures.states)
+    ∙ any_changes plan.old plan.new c.args.subsystem.now c.args.port c.of-old.result c.of-new.result (λ group few. rw c.old.ensures at (c.of-old.ensures group few)) (λ group few. c.of-new.ensures group few ∙ same_lists c.groups_after.result.now plan.new c.args.subsystem.now c.args.port group c.groups_after.ensures.namespaces c.groups_after.ensures.states)
 
 pub returns-then-changed-clause-counts : goal.returns-then-changed-clause-counts
 returns-then-changed-clause-counts c =
     let plan = c.args.plan.now in
     let before = λ (group : ℕ) (few : group < 33). rw c.old.ensures at (c.of-old.ensures group few) in
-    let after = λ (group : ℕ) (few : group < 33). c.of-new.ensures group few ∙ same_lists c.new.result.now plan.new c.args.subsystem.now c.args.port group c.new.ensures.namespaces c.new.ensures.states in
+    let after = λ (group : ℕ) (few : group < 33). c.of-new.ensures group few ∙ same_lists c.groups_after.result.now plan.new c.args.subsystem.now c.args.port group c.groups_after.ensures.namespaces c.groups_after.ensures.states in
     let any = any_changes plan.old plan.new c.args.subsystem.now c.args.port c.of-old.result c.of-new.result before after in
     let groups = c.count_changes-changed.ensures.counts ∙ all_counts plan.old plan.new c.args.subsystem.now c.args.port c.of-old.result c.of-new.result c.self.inside.groups before after in
     rw (← c.self.view_is)
@@ -63,13 +63,13 @@ pub returns-else-changed-clause-changed : goal.returns-else-changed-clause-chang
 returns-else-changed-clause-changed c =
     let plan = c.args.plan.now in
     c.count_changes-changed.ensures.changed
-    ∙ any_changes plan.old plan.new c.args.subsystem.now c.args.port c.of-old.result c.of-new.result (λ group few. rw c.old.ensures at (c.of-old.ensures group few)) (λ group few. c.of-new.ensures group few ∙ same_lists c.new.result.now plan.new c.args.subsystem.now c.args.port group c.new.ensures.namespaces c.new.ensures.states)
+    ∙ any_changes plan.old plan.new c.args.subsystem.now c.args.port c.of-old.result c.of-new.result (λ group few. rw c.old.ensures at (c.of-old.ensures group few)) (λ group few. c.of-new.ensures group few ∙ same_lists c.groups_after.result.now plan.new c.args.subsystem.now c.args.port group c.groups_after.ensures.namespaces c.groups_after.ensures.states)
 
 pub returns-else-changed-clause-counts : goal.returns-else-changed-clause-counts
 returns-else-changed-clause-counts c =
     let plan = c.args.plan.now in
     let before = λ (group : ℕ) (few : group < 33). rw c.old.ensures at (c.of-old.ensures group few) in
-    let after = λ (group : ℕ) (few : group < 33). c.of-new.ensures group few ∙ same_lists c.new.result.now plan.new c.args.subsystem.now c.args.port group c.new.ensures.namespaces c.new.ensures.states in
+    let after = λ (group : ℕ) (few : group < 33). c.of-new.ensures group few ∙ same_lists c.groups_after.result.now plan.new c.args.subsystem.now c.args.port group c.groups_after.ensures.namespaces c.groups_after.ensures.states in
     let any = any_changes plan.old plan.new c.args.subsystem.now c.args.port c.of-old.result c.of-new.result before after in
     let groups = c.count_changes-changed.ensures.counts ∙ all_counts plan.old plan.new c.args.subsystem.now c.args.port c.of-old.result c.of-new.result c.self.inside.groups before after in
     rw (← c.self.view_is)
