@@ -90,8 +90,9 @@ impl Notices {
             },
             Viewer::Io { subsystem, port } => {
                 let ana = plan.ana();
+                let (old, new) = (ana.old(), ana.groups_after());
                 ViewChanges {
-                    namespace: self.changed.note_changes(ana.old(), ana.groups_after(), subsystem),
+                    namespace: self.changed.note_changes(old, new, subsystem),
                     ana: self.counts.note(ana, subsystem, port),
                     discovery: false,
                 }
