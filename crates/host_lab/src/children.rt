@@ -1,5 +1,5 @@
 //! Processes that were started: what they print, and their end.
-ghost use Rattle.std.specs.Prelude.{◌≡◌, IsSome, OnOk};
+ghost use Rattle.std.specs.Prelude.{◌≡◌, IfOk, IsErr, IsSome, Ok, OnErr, OnOk};
 ghost use Rattle.std.specs.Process.{child_status};
 ghost use Rattle.host_lab.specs.Watched.{HasSucceeded};
 
@@ -9,7 +9,10 @@ use std::io::{self, Eprint, Write};
 use std::process::{Child, OpenProcess};
 
 /// A process, where it could be started.
-pub fn started<P: OpenProcess + Drop>(child: io::Result<Child<P>>) -> Result<Child<P>, LabFault> {
+pub fn started<P: OpenProcess + Drop>(child: io::Result<Child<P>>) -> Result<Child<P>, LabFault>
+    ensures ok { IfOk result (λ it. child ≡ Ok it) }
+    ensures err { OnErr result (IsErr child) }
+{
     match child {
         Ok(child) => Ok(child),
         Err(_) => Err(LabFault),
