@@ -39,7 +39,7 @@ const EDITS: &[Line<'static>] = &[
 ];
 
 /// Does a command so many times, on a target and a host of its own; whether each time it is answered with success.
-// `drop` is written out here and below: what is dropped at the end of a scope is proved field by field, on each way out.
+// `drop` is written out here and below, since what is dropped at the end of a scope is proved there field by field.
 pub(crate) fn does_times(alloc: Global, command: &HostCommand, times: u32) -> bool {
     let Ok(disks) = memory_disks(alloc, &[UNITS]) else {
         return false;
