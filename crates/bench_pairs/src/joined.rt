@@ -23,17 +23,14 @@ pub(crate) struct JoinedQueue {
 }
 
 impl JoinedQueue {
-    /// A queue over a new connection to port 1.
-    pub(crate) fn open(
-        alloc: Global,
-        target: &mut Target<MemoryDisk>,
-        params: HostParams,
-    ) -> Option<JoinedQueue>
+    /// A queue over a connection that was opened for it.
+    pub(crate) fn over(alloc: Global, params: HostParams, k: usize) -> Option<JoinedQueue>
         requires { AreParams params }
     {
-        let queue = HostQueue::start(alloc, params).ok()?;
-        let k = target.open(1).ok()?;
-        Some(JoinedQueue { queue, k })
+        match HostQueue::start(alloc, params) {
+            Ok(queue) => Some(JoinedQueue { queue, k }),
+            Err(_) => None,
+        }
     }
 
     /// The identifier of the controller, once the queue is connected.
@@ -42,11 +39,19 @@ impl JoinedQueue {
             if !self.exchange(target) {
                 return None;
             }
-            if let Ok(HostStep::Connected { cntlid }) = self.queue.step() {
+            if let Some(cntlid) = self.given() {
                 return Some(cntlid);
             }
         }
         None
+    }
+
+    // The identifier of the controller, where the next step gives it.
+    fn given(&mut self) -> Option<u16> {
+        match self.queue.step() {
+            Ok(HostStep::Connected { cntlid }) => Some(cntlid),
+            Ok(HostStep::Idle | HostStep::Done(_)) | Err(_) => None,
+        }
     }
 
     /// Whether a command is answered with success, where no other is outstanding.
@@ -82,6 +87,16 @@ impl JoinedQueue {
     /// Sends all that there is to send, lets the target take it, and receives what it sends; whether the connection
     /// stands.
     pub(crate) fn exchange(&mut self, target: &mut Target<MemoryDisk>) -> bool {
+        if !self.sends_all(target) {
+            return false;
+        }
+        let received = self.queue.receive(target.output(self.k));
+        target.taken(self.k, received);
+        true
+    }
+
+    // Sends until nothing is left to send.
+    fn sends_all(&mut self, target: &mut Target<MemoryDisk>) -> bool {
         for _ in 0..SENDS_MAX {
             if self.queue.output().is_empty() {
                 break;
@@ -90,8 +105,6 @@ impl JoinedQueue {
                 return false;
             }
         }
-        let received = self.queue.receive(target.output(self.k));
-        target.taken(self.k, received);
         true
     }
 

@@ -39,13 +39,17 @@ const EDITS: &[Line<'static>] = &[
 ];
 
 /// Does a command so many times, on a target and a host of its own; whether each time it is answered with success.
-// A target is owned here alone: each way out of a function is proved with all that is owned there.
+// `drop` is written out here and below, since what is dropped at the end of a scope is proved there field by field.
 pub(crate) fn does_times(alloc: Global, command: &HostCommand, times: u32) -> bool {
     let Ok(disks) = memory_disks(alloc, &[UNITS]) else {
         return false;
     };
     match Target::new(alloc, disks) {
-        Ok(mut target) => does_on(alloc, &mut target, command, times),
+        Ok(mut target) => {
+            let does = does_on(alloc, &mut target, command, times);
+            drop(target);
+            does
+        }
         Err(_) => false,
     }
 }
@@ -59,18 +63,54 @@ fn does_on(
     if !is_edited(alloc, target) {
         return false;
     }
-    let Some(mut admin) = queue(alloc, target, 0, 0xFFFF) else {
-        return false;
-    };
-    match admin.connected(target) {
-        Some(cntlid) if admin.does(target, &enable(alloc)) => {
-            does_beside(alloc, target, cntlid, command, times)
-        }
-        _ => false,
+    match controller(alloc, target) {
+        Some(cntlid) => does_beside(alloc, target, cntlid, command, times),
+        None => false,
     }
 }
 
-// The same, on an I/O queue of this controller.
+fn is_edited(alloc: Global, target: &mut Target<MemoryDisk>) -> bool {
+    for line in EDITS {
+        if !accepts(alloc, target, *line) {
+            return false;
+        }
+    }
+    true
+}
+
+fn accepts(alloc: Global, target: &mut Target<MemoryDisk>, line: Line<'static>) -> bool {
+    match edit(alloc, line) {
+        Ok(edit) => {
+            let accepts = target.edit(&edit).is_ok();
+            drop(edit);
+            accepts
+        }
+        Err(_) => false,
+    }
+}
+
+// The identifier of a controller that is ready. Its admin queue sends nothing more.
+fn controller(alloc: Global, target: &mut Target<MemoryDisk>) -> Option<u16> {
+    match queue(alloc, target, 0, 0xFFFF) {
+        Some(mut admin) => {
+            let cntlid = enabled(alloc, target, &mut admin);
+            drop(admin);
+            cntlid
+        }
+        None => None,
+    }
+}
+
+fn enabled(alloc: Global, target: &mut Target<MemoryDisk>, admin: &mut JoinedQueue) -> Option<u16> {
+    let cntlid = admin.connected(target)?;
+    if admin.does(target, &enable(alloc)) {
+        Some(cntlid)
+    } else {
+        None
+    }
+}
+
+// Does the command on an I/O queue of this controller.
 fn does_beside(
     alloc: Global,
     target: &mut Target<MemoryDisk>,
@@ -79,30 +119,32 @@ fn does_beside(
     times: u32,
 ) -> bool {
     match queue(alloc, target, 1, cntlid) {
-        Some(mut io) => io.connected(target).is_some()
-            && keeps_full(&mut io, target, command, times),
+        Some(mut io) => {
+            let does = io.connected(target).is_some()
+                && keeps_full(&mut io, target, command, times);
+            drop(io);
+            does
+        }
         None => false,
     }
 }
 
-fn is_edited(alloc: Global, target: &mut Target<MemoryDisk>) -> bool {
-    for line in EDITS {
-        match edit(alloc, *line) {
-            Ok(edit) if target.edit(&edit).is_ok() => {}
-            _ => return false,
-        }
-    }
-    true
-}
-
+// A queue over a new connection to port 1.
 fn queue(
     alloc: Global,
     target: &mut Target<MemoryDisk>,
     qid: u16,
     cntlid: u16,
 ) -> Option<JoinedQueue> {
+    match target.open(1) {
+        Ok(k) => queue_over(alloc, qid, cntlid, k),
+        Err(_) => None,
+    }
+}
+
+fn queue_over(alloc: Global, qid: u16, cntlid: u16, k: usize) -> Option<JoinedQueue> {
     match params(alloc, qid, cntlid) {
-        Ok(params) => JoinedQueue::open(alloc, target, params),
+        Ok(params) => JoinedQueue::over(alloc, params, k),
         Err(_) => None,
     }
 }
@@ -135,21 +177,33 @@ fn keeps_full(
             break;
         }
         let room = u32::from(DEPTH).saturating_sub(begun.saturating_sub(done));
-        for _ in 0..room.min(times.saturating_sub(begun)) {
-            if !io.submits(command) {
-                return false;
-            }
-            begun = begun.saturating_add(1);
-        }
-        if !io.exchange(target) {
-            return false;
-        }
-        match answers(io, command) {
+        let more = room.min(times.saturating_sub(begun));
+        begun = begun.saturating_add(more);
+        match answered(io, target, command, more) {
             Some(count) => done = done.saturating_add(count),
             None => return false,
         }
     }
     done == times
+}
+
+// Submits so many commands more: how many answers come then, where each is of success.
+fn answered(
+    io: &mut JoinedQueue,
+    target: &mut Target<MemoryDisk>,
+    command: &HostCommand,
+    more: u32,
+) -> Option<u32> {
+    for _ in 0..more {
+        if !io.submits(command) {
+            return None;
+        }
+    }
+    if io.exchange(target) {
+        answers(io, command)
+    } else {
+        None
+    }
 }
 
 // How many answers came, where each is of success.

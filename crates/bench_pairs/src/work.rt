@@ -5,7 +5,7 @@ use std::alloc::Global;
 use std::fmt;
 
 /// A command that a host does again and again, 31 at a time.
-#[derive(Clone, Copy, Debug, PartialEq, Eq)]
+#[derive(Clone, Copy)]
 pub enum PairWork {
     /// A Read of 4 KiB.
     Read,

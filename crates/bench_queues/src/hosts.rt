@@ -75,11 +75,23 @@ impl Capsules {
 
 /// A target over disks in memory, and hosts on it, each with the admin queue of an I/O controller on
 /// which four event requests wait.
-#[derive(Drop)]
 pub struct Hosts {
     target: TestTarget<MemoryDisk>,
     capsules: Capsules,
     count: usize,
+}
+
+// It is not derived: that would be proved again wherever one is dropped, down to the last field.
+impl Drop for Hosts {
+    fn drop(self) {
+        let Hosts {
+            target,
+            capsules,
+            count: _,
+        } = self;
+        drop(target);
+        drop(capsules);
+    }
 }
 
 impl Hosts {

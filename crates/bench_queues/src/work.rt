@@ -28,7 +28,7 @@ const BLOCKS: Blocks = Blocks {
 };
 
 /// A command that is done again and again.
-#[derive(Clone, Copy, Debug, PartialEq, Eq)]
+#[derive(Clone, Copy, PartialEq, Eq)]
 pub enum Work {
     /// A Read of 4 KiB.
     Read,

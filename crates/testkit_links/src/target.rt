@@ -48,11 +48,8 @@ impl SharedTarget {
     }
 
     fn edits(&self, line: Line<'_>) -> bool {
-        let Ok(edit) = edit(self.alloc, line) else {
-            return false;
-        };
         match self.target.try_borrow_mut() {
-            Ok(mut target) => target.edit(&edit).is_ok(),
+            Ok(mut target) => accepts(self.alloc, &mut target, line),
             Err(_) => false,
         }
     }
@@ -71,5 +68,17 @@ impl SharedTarget {
             Ok(mut target) => target.open(1).ok(),
             Err(_) => None,
         }
+    }
+}
+
+fn accepts(alloc: Global, target: &mut Target<MemoryDisk>, line: Line<'_>) -> bool {
+    match edit(alloc, line) {
+        Ok(edit) => {
+            let accepts = target.edit(&edit).is_ok();
+            // What is dropped at the end of a scope is proved there field by field.
+            drop(edit);
+            accepts
+        }
+        Err(_) => false,
     }
 }

@@ -11,14 +11,19 @@ pub trait Script<D: Disk> {
 }
 
 /// Makes a target over these disks, and lends its driver to a script: all is as it has to be.
-// A driver is owned here alone: each way out of a function is proved with all that is owned there.
+// A driver is owned here alone, since each way out of a function is proved with all that is owned there. `drop` is
+// written out, since what is dropped at the end of a scope is proved there field by field.
 pub fn holds_over<D: Disk + Drop, S: Script<D>>(
     alloc: Global,
     disks: Vec<D>,
     script: &S,
 ) -> Outcome {
     match Driver::new(alloc, disks) {
-        Some(mut driver) => script.holds(&mut driver),
+        Some(mut driver) => {
+            let outcome = script.holds(&mut driver);
+            drop(driver);
+            outcome
+        }
         None => check(false, "a target over these disks"),
     }
 }

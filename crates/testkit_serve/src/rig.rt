@@ -23,7 +23,11 @@ impl Rig {
         let ports = MemoryPorts::new(alloc, port_steps(alloc, steps)?)?;
         match configure(alloc, PORT_1, &[8]) {
             Ok(target) => Ok(Rig { ports, target }),
-            Err(_) => Err(AllocError),
+            Err(_) => {
+                // What is dropped at the end of a scope is proved there field by field.
+                drop(ports);
+                Err(AllocError)
+            }
         }
     }
 

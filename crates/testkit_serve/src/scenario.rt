@@ -11,10 +11,15 @@ pub trait Scenario {
 }
 
 /// Makes a rig whose ports go through these steps, and lends it to a scenario: all is as it has to be.
-// A rig is owned here alone: each way out of a function is proved with all that is owned there.
+// A rig is owned here alone, since each way out of a function is proved with all that is owned there. `drop` is written
+// out, since what is dropped at the end of a scope is proved there field by field.
 pub fn holds_over<S: Scenario>(alloc: Global, steps: &[Step<'_>], scenario: &S) -> Outcome {
     match Rig::new(alloc, steps) {
-        Ok(mut rig) => scenario.holds(&mut rig),
+        Ok(mut rig) => {
+            let outcome = scenario.holds(&mut rig);
+            drop(rig);
+            outcome
+        }
         Err(_) => check(false, "memory for a rig"),
     }
 }

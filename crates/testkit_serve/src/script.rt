@@ -41,8 +41,17 @@ fn port_step(alloc: Global, step: &Step<'_>) -> Result<PortStep, AllocError> {
 /// The steps, with bytes of their own.
 pub(crate) fn port_steps(alloc: Global, steps: &[Step<'_>]) -> Result<Vec<PortStep>, AllocError> {
     let mut script = Vec::with_capacity(alloc, steps.len())?;
+    push_steps(alloc, &mut script, steps)?;
+    Ok(script)
+}
+
+fn push_steps(
+    alloc: Global,
+    script: &mut Vec<PortStep>,
+    steps: &[Step<'_>],
+) -> Result<(), AllocError> {
     for step in steps {
         script.push(port_step(alloc, step)?)?;
     }
-    Ok(script)
+    Ok(())
 }
