@@ -21,10 +21,19 @@ pub fn measure<R: Clock + Print + AllocGlobal>(
     setup: &[u8],
     lines: &[u8],
 ) -> Result<(), BenchFault> {
-    let alloc = rt.alloc();
-    let mut config = Config::new(alloc, &[UNITS; DISKS])?;
-    configure(alloc, &mut config, setup)?;
-    measure_all(rt, &config, lines)
+    let mut config = Config::new(rt.alloc(), &[UNITS; DISKS])?;
+    measure_from(rt, &mut config, setup, lines)
+}
+
+// Makes the set-up's configuration of one that is empty.
+fn measure_from<R: Clock + Print + AllocGlobal>(
+    rt: &R,
+    config: &mut Config,
+    setup: &[u8],
+    lines: &[u8],
+) -> Result<(), BenchFault> {
+    configure(rt.alloc(), config, setup)?;
+    measure_all(rt, config, lines)
 }
 
 fn configure(alloc: Global, config: &mut Config, setup: &[u8]) -> Result<(), BenchFault> {
@@ -36,8 +45,10 @@ fn configure(alloc: Global, config: &mut Config, setup: &[u8]) -> Result<(), Ben
 
 fn apply(alloc: Global, config: &mut Config, line: &[u8]) -> Result<(), BenchFault> {
     let edit = read_edit(alloc, line)?;
-    config.apply(&edit)?;
-    Ok(())
+    let applied = config.apply(&edit);
+    // What is dropped at the end of a scope is proved there field by field.
+    drop(edit);
+    Ok(applied?)
 }
 
 fn measure_all<R: Clock + Print + AllocGlobal>(
@@ -47,10 +58,21 @@ fn measure_all<R: Clock + Print + AllocGlobal>(
 ) -> Result<(), BenchFault> {
     let begun = now(rt)?;
     let edits = read_all(rt.alloc(), lines)?;
+    measure_read(rt, config, &edits, lines, begun)
+}
+
+// The reading of the edits began at this time.
+fn measure_read<R: Clock + Print + AllocGlobal>(
+    rt: &R,
+    config: &Config,
+    edits: &[Edit],
+    lines: &[u8],
+    begun: Instant,
+) -> Result<(), BenchFault> {
     report(rt, "read", edits.len(), begun)?;
-    write_all(rt, &edits, lines)?;
+    write_all(rt, edits, lines)?;
     let begun = now(rt)?;
-    let accepted = check_all(config, &edits);
+    let accepted = check_all(config, edits);
     report(rt, "checked", edits.len(), begun)?;
     print(rt, "accepted by the configuration", accepted)
 }
@@ -58,13 +80,26 @@ fn measure_all<R: Clock + Print + AllocGlobal>(
 /// Reads each line of a file.
 pub fn read_all(alloc: Global, lines: &[u8]) -> Result<Vec<Edit>, BenchFault> {
     let mut edits = Vec::new(alloc);
+    read_behind(alloc, &mut edits, lines)?;
+    Ok(edits)
+}
+
+fn read_behind(alloc: Global, edits: &mut Vec<Edit>, lines: &[u8]) -> Result<(), BenchFault> {
     for line in Lines::of(lines) {
-        let edit = read_edit(alloc, line)?;
-        if edits.push(edit).is_err() {
-            return Err(BenchFault::Memory);
+        read_one(alloc, edits, line)?;
+    }
+    Ok(())
+}
+
+fn read_one(alloc: Global, edits: &mut Vec<Edit>, line: &[u8]) -> Result<(), BenchFault> {
+    let edit = read_edit(alloc, line)?;
+    match edits.push(edit) {
+        Ok(()) => Ok(()),
+        Err(refused) => {
+            drop(refused);
+            Err(BenchFault::Memory)
         }
     }
-    Ok(edits)
 }
 
 // Writes the lines of the edits, each with its end, and compares them afterwards.
@@ -74,19 +109,33 @@ fn write_all<R: Clock + Print + AllocGlobal>(
     lines: &[u8],
 ) -> Result<(), BenchFault> {
     let mut written = BytesMut::with_capacity(rt.alloc(), lines.len() + LINE_MAX)?;
+    write_to(rt, &mut written, edits, lines)
+}
+
+fn write_to<R: Clock + Print>(
+    rt: &R,
+    written: &mut BytesMut,
+    edits: &[Edit],
+    lines: &[u8],
+) -> Result<(), BenchFault> {
     let begun = now(rt)?;
-    for edit in edits {
-        if write_edit(edit, &mut written).is_err() {
-            return Err(BenchFault::OtherLine);
-        }
-        written.extend_from_slice(b"\n")?;
-    }
+    write_lines(written, edits)?;
     report(rt, "written", edits.len(), begun)?;
     if &written[..] == lines {
         Ok(())
     } else {
         Err(BenchFault::OtherLine)
     }
+}
+
+fn write_lines(written: &mut BytesMut, edits: &[Edit]) -> Result<(), BenchFault> {
+    for edit in edits {
+        if write_edit(edit, written).is_err() {
+            return Err(BenchFault::OtherLine);
+        }
+        written.extend_from_slice(b"\n")?;
+    }
+    Ok(())
 }
 
 // How many of the edits the configuration would accept.

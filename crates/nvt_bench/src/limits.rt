@@ -43,13 +43,19 @@ fn measure_on<R: Files + Clock + Print + AllocGlobal>(
     measure_edits(rt, limits, of_one, "one host's records, at first")?;
     measure_edits(rt, limits, of_all, "all hosts' records, at first")?;
     report_memory(rt)?;
-    for _ in 1..ROUNDS {
-        make(limits, of_one)?;
-    }
+    make_more(limits, of_one)?;
     measure_edits(rt, limits, of_one, "one host's records, after many")?;
     measure_edits(rt, limits, of_all, "all hosts' records, after many")?;
     report_memory(rt)?;
     measure_reads(rt, limits)
+}
+
+// All rounds but the one that was measured.
+fn make_more(limits: &mut Limits, edits: &[Edit]) -> Result<(), BenchFault> {
+    for _ in 1..ROUNDS {
+        make(limits, edits)?;
+    }
+    Ok(())
 }
 
 fn measure_edits<R: Clock + Print>(
@@ -60,8 +66,11 @@ fn measure_edits<R: Clock + Print>(
 ) -> Result<(), BenchFault> {
     let begun = now(rt)?;
     make(limits, edits)?;
-    let micros = micros_since(rt, begun)?;
-    let (count, rate) = (edits.len(), rate(edits.len() as u64, micros));
+    report_edits(rt, edits.len(), what, micros_since(rt, begun)?)
+}
+
+fn report_edits<R: Print>(rt: &R, count: usize, what: &str, micros: u64) -> Result<(), BenchFault> {
+    let rate = rate(count as u64, micros);
     let text = format_args!("{count} edits of {what}, in {micros} microseconds: {rate} a second\n");
     match rt.print(text) {
         Ok(()) => Ok(()),
@@ -79,12 +88,16 @@ fn make(limits: &mut Limits, edits: &[Edit]) -> Result<(), BenchFault> {
 
 // Prints how much memory the program has, as the system says it.
 fn report_memory<R: Files + Print + AllocGlobal>(rt: &R) -> Result<(), BenchFault> {
-    let pages = second_number(&read_file(rt, rt.alloc(), "/proc/self/statm")?);
-    let kib = pages.saturating_mul(PAGE_KIB);
+    let kib = resident_pages(rt)?.saturating_mul(PAGE_KIB);
     match rt.print(format_args!("resident memory: {kib} KiB\n")) {
         Ok(()) => Ok(()),
         Err(_) => Err(BenchFault::Io),
     }
+}
+
+fn resident_pages<R: Files + AllocGlobal>(rt: &R) -> Result<u64, BenchFault> {
+    let text = read_file(rt, rt.alloc(), "/proc/self/statm")?;
+    Ok(second_number(&text))
 }
 
 // The second of some decimal numbers, with a space between one and the next.
@@ -113,7 +126,10 @@ fn measure_reads<R: Clock + Print + AllocGlobal>(
     if !limits.reads(READS) {
         return Err(BenchFault::OtherAnswer);
     }
-    let micros = micros_since(rt, begun)?;
+    report_reads(rt, micros_since(rt, begun)?, copies)
+}
+
+fn report_reads<R: Print>(rt: &R, micros: u64, copies: u64) -> Result<(), BenchFault> {
     let rate = rate(u64::from(READS), micros);
     let tenths = micros.saturating_mul(10) / copies.max(1);
     let (whole, tenth) = (tenths / 10, tenths % 10);

@@ -27,8 +27,16 @@ const FAULT: u8 = 1;
 const BAD_ARGUMENTS: u8 = 2;
 
 fn main(rt: HostRuntime) -> ExitCode {
-    match read_paths(&rt) {
-        Some(paths) => finish(&rt, run(&rt, &paths)),
+    let mut words = Vec::new(rt.alloc());
+    run_on(&rt, &mut words)
+}
+
+fn run_on<R: Env + Files + Clock + Print + Eprint + AllocGlobal>(
+    rt: &R,
+    words: &mut Vec<String>,
+) -> ExitCode {
+    match read_paths(rt, words) {
+        Some(paths) => finish(rt, run(rt, paths)),
         None => {
             let _ = eprintln!(rt; "usage: nvt_bench SETUP LINES SERVED CHANGES ONE ALL");
             ExitCode::from(BAD_ARGUMENTS)
@@ -47,39 +55,39 @@ fn finish(rt: &impl Eprint, outcome: Result<(), BenchFault>) -> ExitCode {
 }
 
 // The files that the arguments name.
-#[derive(Drop)]
-struct Paths {
-    setup: String,
-    lines: String,
-    served: String,
-    changes: String,
-    one: String,
-    all: String,
+#[derive(Clone, Copy)]
+struct Paths<'a> {
+    setup: &'a str,
+    lines: &'a str,
+    served: &'a str,
+    changes: &'a str,
+    one: &'a str,
+    all: &'a str,
 }
 
-fn read_paths<R: Env + AllocGlobal>(rt: &R) -> Option<Paths> {
-    let mut words = env::args(rt).ok()?;
-    let _ = words.next()?;
-    let setup = words.next()?;
-    let lines = words.next()?;
-    let served = words.next()?;
-    let changes = words.next()?;
-    let one = words.next()?;
-    let all = words.next()?;
-    if words.next().is_some() {
-        return None;
+// The paths lie in the words, of which there are none at first.
+fn read_paths<'a, R: Env + AllocGlobal>(rt: &R, words: &'a mut Vec<String>) -> Option<Paths<'a>> {
+    for word in env::args(rt).ok()? {
+        words.push(word).ok()?;
     }
-    Some(Paths {
-        setup,
-        lines,
-        served,
-        changes,
-        one,
-        all,
-    })
+    paths_of(words)
 }
 
-fn run<R: Files + Clock + Print + AllocGlobal>(rt: &R, paths: &Paths) -> Result<(), BenchFault> {
+fn paths_of(words: &[String]) -> Option<Paths<'_>> {
+    match words {
+        [_, setup, lines, served, changes, one, all] => Some(Paths {
+            setup,
+            lines,
+            served,
+            changes,
+            one,
+            all,
+        }),
+        _ => None,
+    }
+}
+
+fn run<R: Files + Clock + Print + AllocGlobal>(rt: &R, paths: Paths<'_>) -> Result<(), BenchFault> {
     measure_edits(rt, paths)?;
     commands::measure(rt)?;
     pairs::measure(rt)?;
@@ -89,28 +97,28 @@ fn run<R: Files + Clock + Print + AllocGlobal>(rt: &R, paths: &Paths) -> Result<
 
 fn measure_edits<R: Files + Clock + Print + AllocGlobal>(
     rt: &R,
-    paths: &Paths,
+    paths: Paths<'_>,
 ) -> Result<(), BenchFault> {
-    let setup = read_file(rt, rt.alloc(), &paths.setup)?;
-    let lines = read_file(rt, rt.alloc(), &paths.lines)?;
+    let setup = read_file(rt, rt.alloc(), paths.setup)?;
+    let lines = read_file(rt, rt.alloc(), paths.lines)?;
     edits::measure(rt, &setup, &lines)
 }
 
 fn measure_told<R: Files + Clock + Print + AllocGlobal>(
     rt: &R,
-    paths: &Paths,
+    paths: Paths<'_>,
 ) -> Result<(), BenchFault> {
-    let served = read_file(rt, rt.alloc(), &paths.served)?;
-    let changes = read_file(rt, rt.alloc(), &paths.changes)?;
+    let served = read_file(rt, rt.alloc(), paths.served)?;
+    let changes = read_file(rt, rt.alloc(), paths.changes)?;
     told::measure(rt, &served, &changes)
 }
 
 fn measure_limits<R: Files + Clock + Print + AllocGlobal>(
     rt: &R,
-    paths: &Paths,
+    paths: Paths<'_>,
 ) -> Result<(), BenchFault> {
-    let served = read_file(rt, rt.alloc(), &paths.served)?;
-    let one = read_file(rt, rt.alloc(), &paths.one)?;
-    let all = read_file(rt, rt.alloc(), &paths.all)?;
+    let served = read_file(rt, rt.alloc(), paths.served)?;
+    let one = read_file(rt, rt.alloc(), paths.one)?;
+    let all = read_file(rt, rt.alloc(), paths.all)?;
     limits::measure(rt, &served, &one, &all)
 }

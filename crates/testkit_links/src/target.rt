@@ -7,12 +7,18 @@ use std::cell::RefCell;
 use target_core::Target;
 use testkit_edits::{Line, edit, memory_disks};
 
-/// A target over two disks of zeros, of 2,048 units and of 16,384. It has no type parameter, so what drops it is proved
-/// here, once.
-#[derive(Drop)]
+/// A target over two disks of zeros, of 2,048 units and of 16,384. What drops it is proved here, once.
 pub struct SharedTarget {
     alloc: Global,
     pub(crate) target: RefCell<Target<MemoryDisk>>,
+}
+
+// It is not derived: that would be proved again wherever one is dropped, down to the last field.
+impl Drop for SharedTarget {
+    fn drop(self) {
+        let SharedTarget { alloc: _, target } = self;
+        drop(target);
+    }
 }
 
 impl SharedTarget {
