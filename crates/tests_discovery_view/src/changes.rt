@@ -12,7 +12,7 @@ use testkit_tables::{Outcome, Placed, check, pass};
 
 const SCRIPTS: u64 = 60;
 
-const STEPS: usize = 80;
+const STEPS: usize = 40;
 
 const SEED: u64 = 0x6368_616E;
 
@@ -88,7 +88,7 @@ fn check_edit(alloc: Global, followed: &mut Followed, edit: &Edit, seen: &mut Se
     check_hosts(alloc, &before, &followed.config, &told, seen)
 }
 
-fn check_step(
+fn check_next(
     alloc: Global,
     random: &mut Pcg32,
     followed: &mut Followed,
@@ -99,6 +99,19 @@ fn check_step(
         Ok(edit) => check_edit(alloc, followed, &edit, seen),
         Err(_) => Ok(()),
     }
+}
+
+// Makes one to three edits, some of which are refused.
+fn check_step(
+    alloc: Global,
+    random: &mut Pcg32,
+    followed: &mut Followed,
+    seen: &mut Seen,
+) -> Outcome {
+    for _ in 0..=random.next_word() % 3 {
+        pass!(check_next(alloc, random, followed, seen));
+    }
+    Ok(())
 }
 
 fn check_steps(alloc: Global, followed: &mut Followed, number: u64, seen: &mut Seen) -> Outcome {
