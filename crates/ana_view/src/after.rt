@@ -40,7 +40,7 @@ impl After {
                 host: host.try_clone()?,
             })),
             _ => {
-                let next = edited(config, edit)?;
+                let next = config.edited(edit)?;
                 let bodies = bodies_after(alloc, edit, &next)?;
                 Ok(After::Whole(next, bodies))
             }
@@ -62,17 +62,6 @@ impl After {
             }
         }
     }
-}
-
-// What an edit that is accepted makes of a configuration.
-fn edited(config: &Config, edit: &Edit) -> Result<Config, AllocError>
-    requires { IsOk (accept config.now edit.now) }
-    ensures { IfOk result (λ next. accept config.now edit.now ≡ Ok next) }
-{
-    let mut next = config.try_clone()?;
-    let change = next.prepare(edit)?;
-    next.commit(change);
-    Ok(next)
 }
 
 // What is ready after an edit that made this configuration: nothing else than before where the edit

@@ -64,7 +64,7 @@ impl ActiveView {
         if subsystem_reached(edit).is_none() {
             return Ok(Plan { lists: None });
         }
-        let next = edited(config, edit)?;
+        let next = config.edited(edit)?;
         let lists = ActiveLists::of(self.alloc, &next)?;
         Ok(Plan { lists: Some(lists) })
     }
@@ -93,15 +93,4 @@ impl ActiveView {
     {
         write_list(out, self.nsids(subsystem), above);
     }
-}
-
-// What an edit that is accepted makes of a configuration.
-fn edited(config: &Config, edit: &Edit) -> Result<Config, AllocError>
-    requires { IsOk (accept config.now edit.now) }
-    ensures { IfOk result (λ next. accept config.now edit.now ≡ Ok next) }
-{
-    let mut next = config.try_clone()?;
-    let change = next.prepare(edit)?;
-    next.commit(change);
-    Ok(next)
 }

@@ -14,7 +14,7 @@ use crate::allowed::{Allowance, allowed_after};
 use crate::catalog::{Catalog, kept, same_at_first, same_at_last};
 use crate::finding::Finding;
 use crate::kept::KeptRecord;
-use crate::reach::{Reach, edited, reach_of};
+use crate::reach::{Reach, reach_of};
 use crate::ready::Ready;
 use crate::rows_plan::RowsPlan;
 use crate::shown::ShownRecords;
@@ -126,8 +126,8 @@ impl Lists {
         match reach_of(edit) {
             Reach::Nobody => Ok(self.staying(alloc, RowsPlan::Stay)),
             Reach::Host(allowance) => self.prepare_host(alloc, config, edit, allowance),
-            Reach::Records => self.prepare_all(alloc, &edited(config, edit)?, Finding::Kept),
-            Reach::Anybody => self.prepare_all(alloc, &edited(config, edit)?, Finding::Sought),
+            Reach::Records => self.prepare_all(alloc, &config.edited(edit)?, Finding::Kept),
+            Reach::Anybody => self.prepare_all(alloc, &config.edited(edit)?, Finding::Sought),
         }
     }
 
@@ -170,7 +170,7 @@ impl Lists {
                 let ready = self.next_row(alloc, config, allowance)?;
                 Ok(self.staying(alloc, RowsPlan::One(place, ready)))
             }
-            None => self.prepare_all(alloc, &edited(config, edit)?, Finding::Sought),
+            None => self.prepare_all(alloc, &config.edited(edit)?, Finding::Sought),
         }
     }
 

@@ -1,11 +1,8 @@
 //! Whose records an edit can change.
-ghost use Rattle.std.specs.Prelude.{◌≡◌, IfOk, IsOk, Ok};
-ghost use Rattle.config_rules.specs.Accept.{accept};
 ghost use Rattle.discovery_view.specs.Reach.{Reaches};
 
 use crate::allowed::Allowance;
-use nvt_config::{Config, Edit};
-use std::alloc::AllocError;
+use nvt_config::Edit;
 
 /// Whose records an edit can change.
 #[derive(Clone, Copy)]
@@ -34,15 +31,4 @@ pub(crate) fn reach_of(edit: &Edit) -> Reach<'_>
         Edit::PortSet(_) | Edit::HostAdd { .. } | Edit::ReferralSet(_) => Reach::Records,
         _ => Reach::Anybody,
     }
-}
-
-/// What an edit that is accepted makes of a configuration.
-pub(crate) fn edited(config: &Config, edit: &Edit) -> Result<Config, AllocError>
-    requires { IsOk (accept config.now edit.now) }
-    ensures { IfOk result (λ next. accept config.now edit.now ≡ Ok next) }
-{
-    let mut next = config.try_clone()?;
-    let change = next.prepare(edit)?;
-    next.commit(change);
-    Ok(next)
 }

@@ -318,6 +318,18 @@ impl Config {
         Ok(())
     }
 
+    /// The configuration after an edit that is accepted, with as many allocations as a copy. This one
+    /// stays as it is.
+    pub fn edited(&self, edit: &Edit) -> Result<Config, AllocError>
+        requires { IsOk (accept self.now edit.now) }
+        ensures { IfOk result (λ next. accept self.now edit.now ≡ Ok next) }
+    {
+        let mut next = self.try_clone()?;
+        let plan = next.prepare(edit)?;
+        next.commit(plan);
+        Ok(next)
+    }
+
     /// An equal configuration, with an allocation for each list, each name and each text.
     pub fn try_clone(&self) -> Result<Config, AllocError>
         ensures { IfOk result (λ copy. copy ≡ self.now) }

@@ -40,7 +40,6 @@ use target_views::Views;
 
 /// A target. It serves up to 64 connections, each by the least number that was free when it was
 /// opened, and up to 32 controllers.
-#[derive(Drop)]
 pub struct Target<D: Disk> {
     alloc: Global,
     config: Config,
@@ -51,6 +50,30 @@ pub struct Target<D: Disk> {
     transfers: Transfers<WaitingCommand>,
     controllers: ControllerTables,
     stores: Vec<Store<D>>,
+}
+
+// Written out, and not derived, so that whoever lets a target fall proves one call.
+impl<D: Disk + Drop> Drop for Target<D> {
+    fn drop(self) {
+        let Target {
+            alloc: _,
+            config,
+            views,
+            clock: _,
+            streams,
+            connections,
+            transfers,
+            controllers,
+            stores,
+        } = self;
+        drop(config);
+        drop(views);
+        drop(streams);
+        drop(connections);
+        drop(transfers);
+        drop(controllers);
+        drop(stores);
+    }
 }
 
 impl<D: Disk> Model for Target<D> {

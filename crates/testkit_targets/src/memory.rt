@@ -5,9 +5,16 @@ use std::alloc::Global;
 use testkit_edits::{Line, memory_disks};
 
 /// A target over disks in memory whose calls are to go well, each as `TestTarget`'s of that name.
-#[derive(Drop)]
 pub struct MemoryTarget {
     target: TestTarget<MemoryDisk>,
+}
+
+// Written out, so that whoever lets one fall proves one call.
+impl Drop for MemoryTarget {
+    fn drop(self) {
+        let MemoryTarget { target } = self;
+        drop(target);
+    }
 }
 
 impl MemoryTarget {
