@@ -1,3 +1,4 @@
 pub mod Fronts
 pub mod Headers
+pub mod Ranges
 pub mod Streams

@@ -1,5 +1,5 @@
 //! The bytes that came to one side of a connection and are not consumed yet.
-ghost use Rattle.std.specs.Prelude.{◌≡◌, ◌+◌, ◌-◌, ◌≤◌, [], ◌++◌, length, take, drop, min, vec_len, vec_capacity, IfOk};
+ghost use Rattle.std.specs.Prelude.{◌≡◌, ◌+◌, ◌-◌, ◌≤◌, [], ◌++◌, length, slice_range, take, drop, min, IfOk};
 ghost use Rattle.pdu_cut.specs.Side.{capacity_of};
 
 use crate::cut::Cut;
@@ -9,26 +9,27 @@ use crate::view::PduView;
 use std::alloc::{AllocError, Global};
 use std::marker::Model;
 
-/// A receive buffer. It allocates when it is made, and never again. It holds the bytes from `start`
-/// on; those before are consumed, and go where the room behind runs short.
+/// A receive buffer. It allocates when it is made, and never again. It holds the bytes from `start` to `end`;
+/// those before are consumed, and go where the room behind runs short.
 #[derive(Debug, Drop)]
 pub struct RxBuf {
     side: Side,
     bytes: Vec<u8>,
     start: usize,
+    end: usize,
 }
 
 impl Model for RxBuf {
-    ghost use Rattle.std.specs.Prelude.{◌≤◌, drop, vec_len, vec_capacity};
+    ghost use Rattle.std.specs.Prelude.{◌≡◌, ◌≤◌, length, slice_range};
     ghost use Rattle.pdu_cut.specs.Side.{capacity_of};
     ghost use Rattle.pdu_cut.specs.Received.{Received};
 
     ghost Value = { Received };
 
-    ghost view = { λ b. record { side = b.side; held = drop b.start b.bytes.items } };
+    ghost view = { λ b. record { side = b.side; held = slice_range b.bytes.items b.start b.end } };
 
-    ghost invariant = { λ b. (b.start ≤ vec_len b.bytes) × (vec_len b.bytes ≤ capacity_of b.side)
-        × (capacity_of b.side ≤ vec_capacity b.bytes) };
+    ghost invariant = { λ b. (b.start ≤ b.end) × (b.end ≤ length b.bytes.items)
+        × (length b.bytes.items ≡ capacity_of b.side) };
 }
 
 impl RxBuf {
@@ -41,8 +42,9 @@ impl RxBuf {
     {
         Ok(RxBuf {
             side,
-            bytes: Vec::with_capacity(alloc, side.capacity())?,
+            bytes: vec![in alloc; 0; side.capacity()]?,
             start: 0,
+            end: 0,
         })
     }
 
@@ -50,7 +52,7 @@ impl RxBuf {
     pub fn room(&self) -> usize
         ensures { result + length self.now.held ≡ capacity_of self.now.side }
     {
-        self.side.capacity() - (self.bytes.len() - self.start)
+        self.side.capacity() - (self.end - self.start)
     }
 
     /// Takes as many of the piece's first bytes as it has room for, and returns their number.
@@ -61,11 +63,11 @@ impl RxBuf {
             self.new ≡ record self.old { held = held } }
     {
         let taken = self.room().min(piece.len());
-        if self.side.capacity() - self.bytes.len() < taken {
-            move_to_front(&mut self.bytes, self.start);
-            self.start = 0;
-        }
-        self.bytes.extend_from_slice(&piece[..taken]).unwrap();
+        let held = self.end - self.start;
+        let start = make_way(self.bytes.as_mut_slice(), self.start, self.end, taken);
+        append(self.bytes.as_mut_slice(), start + held, &piece[..taken]);
+        self.start = start;
+        self.end = start + held + taken;
         taken
     }
 
@@ -99,36 +101,58 @@ impl RxBuf {
     fn held(&self) -> &[u8]
         ensures { result.now ≡ self.now.held }
     {
-        &self.bytes.as_slice()[self.start..]
+        &self.bytes.as_slice()[self.start..self.end]
     }
 
     /// Removes the first `len` bytes held.
+    #[tactic(auto, using(crate::proofs::Ranges::shorter))]
     pub fn consume(&mut self, len: usize)
         requires { len ≤ length self.old.held }
         ensures { self.new ≡ record self.old { held = drop len self.old.held } }
     {
         self.start += len;
-        if self.start == self.bytes.len() {
-            self.bytes.clear();
+        if self.start == self.end {
             self.start = 0;
+            self.end = 0;
         }
     }
 }
 
-/// Moves the bytes from `start` on to the front, so that all the room is behind them.
-fn move_to_front(bytes: &mut Vec<u8>, start: usize)
-    requires { start ≤ vec_len bytes.old }
-    ensures items { bytes.new.items ≡ drop start bytes.old.items }
-    ensures len { vec_len bytes.new + start ≡ vec_len bytes.old }
-    ensures capacity { vec_capacity bytes.new ≡ vec_capacity bytes.old }
+/// Makes room for `len` bytes behind those from `start` to `end`, and returns where these begin then.
+fn make_way(bytes: &mut [u8], start: usize, end: usize, len: usize) -> usize
+    requires { (start ≤ end) × (end ≤ length bytes.old) × (end - start + len ≤ length bytes.old) }
+    ensures held { slice_range bytes.new result (result + (end - start)) ≡ slice_range bytes.old start end }
+    ensures room { result + (end - start) + len ≤ length bytes.new }
+    ensures len { length bytes.new ≡ length bytes.old }
 {
-    let held = bytes.len() - start;
+    if len <= bytes.len() - end {
+        return start;
+    }
+    move_to_front(bytes, start, end);
+    0
+}
+
+/// Moves the bytes from `start` to `end` to the front, so that all the room is behind them.
+fn move_to_front(bytes: &mut [u8], start: usize, end: usize)
+    requires { (start ≤ end) × (end ≤ length bytes.old) }
+    ensures items { slice_range bytes.new 0 (end - start) ≡ slice_range bytes.old start end }
+    ensures len { length bytes.new ≡ length bytes.old }
+{
+    let held = end - start;
     if held <= start {
         // They do not overlap, so that they are copied at once.
-        let (front, back) = bytes.as_mut_slice().split_at_mut(start);
-        front[..held].copy_from_slice(back);
+        let (front, back) = bytes.split_at_mut(start);
+        front[..held].copy_from_slice(&back[..held]);
     } else {
-        bytes.copy_within(start.., 0);
+        bytes.copy_within(start..end, 0);
     }
-    bytes.truncate(held);
+}
+
+/// Writes a piece behind the first `end` bytes.
+fn append(bytes: &mut [u8], end: usize, piece: &[u8])
+    requires { end + length piece.now ≤ length bytes.old }
+    ensures items { take (end + length piece.now) bytes.new ≡ take end bytes.old ++ piece.now }
+    ensures len { length bytes.new ≡ length bytes.old }
+{
+    bytes[end..end + piece.len()].copy_from_slice(piece);
 }
