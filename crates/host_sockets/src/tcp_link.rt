@@ -3,11 +3,12 @@ ghost use Rattle.std.specs.Prelude.{◌≡◌, ◌≢◌, ◌≤◌, IfOk, lengt
 
 use host_link::{Link, LinkFault};
 use mio::net::TcpStream;
-use nvt_sockets::Pause;
+use socket_rules::{Pause, Timer};
 use std::io::{self, ErrorKind, Read, Write};
 use std::net::{Net, SocketAddr};
 use std::rt::Clock;
 use std::thread;
+use std::time::Duration;
 
 /// A link over a TCP socket, which sends without delay. Where nothing was sent or received for some milliseconds, a
 /// call of `receive` in which nothing comes sleeps, from 50 microseconds up to a millisecond.
@@ -16,6 +17,7 @@ pub struct TcpLink<R> {
     rt: R,
     stream: TcpStream,
     pause: Pause,
+    timer: Timer,
     // Whether something was sent since the last call of `receive`.
     has_sent: bool,
     // How many calls failed.
@@ -27,10 +29,12 @@ impl<R: Net + Clock + Drop> TcpLink<R> {
     pub fn connect(rt: R, address: SocketAddr) -> io::Result<TcpLink<R>> {
         let stream = TcpStream::connect(&rt, address)?;
         stream.set_nodelay(true)?;
+        let timer = Timer::new(&rt)?;
         Ok(TcpLink {
             rt,
             stream,
             pause: Pause::new(),
+            timer,
             has_sent: false,
             faults: 0,
         })
@@ -50,8 +54,15 @@ impl<R: Net + Clock + Drop> TcpLink<R> {
     {
         if self.has_sent {
             self.wake();
-        } else if let Some(pause) = self.pause.after_vain(&self.rt) {
-            thread::sleep(&self.rt, pause);
+            return;
+        }
+        let now = if self.pause.is_timed() {
+            self.timer.micros(&self.rt)
+        } else {
+            0
+        };
+        if let Some(micros) = self.pause.after_vain(now) {
+            thread::sleep(&self.rt, Duration::from_micros(micros));
         }
     }
 

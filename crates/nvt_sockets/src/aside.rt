@@ -1,16 +1,14 @@
 //! Hosts whose slot was closed before all that was taken for them was sent.
 ghost use Rattle.std.specs.Prelude.{◌≡◌, ◌<◌, length};
 
-use crate::host::{Host, Sending};
+use crate::host::Host;
 use crate::hosts::Hosts;
-use crate::stream::Received;
+use crate::network::{Network, Received};
 use nvt_ports::SLOTS;
 use std::alloc::{AllocError, Global};
-use std::rt::Clock;
-use std::time::{Duration, Instant};
 
 // For how long a socket is kept aside.
-const SECONDS: u64 = 2;
+const MICROS: u64 = 2_000_000;
 
 #[derive(Clone, Copy, PartialEq, Eq)]
 enum Phase {
@@ -22,43 +20,41 @@ enum Phase {
 
 /// A host that was put aside, or none.
 #[derive(Drop)]
-struct Aside {
-    host: Host,
+struct Aside<S> {
+    host: Host<S>,
     phase: Phase,
-    until: Option<Instant>,
+    until: u64,
 }
 
-impl Aside {
-    // Whether it is over at this time; it is where the time is not known.
-    fn is_over(&self, now: Option<Instant>) -> bool {
-        match (self.until, now) {
-            (Some(until), Some(now)) => now > until,
-            _ => true,
-        }
-    }
-
-    fn go_on(&mut self, now: Option<Instant>, scratch: &mut [u8]) -> Sending {
-        if self.is_over(now) || !self.host.has_socket() {
+impl<S: Drop> Aside<S> {
+    // Answers whether something went to it.
+    fn go_on<N: Network<Stream = S>>(
+        &mut self,
+        network: &mut N,
+        now: u64,
+        scratch: &mut [u8],
+    ) -> bool {
+        if now >= self.until || !self.host.has_socket() {
             self.host.forget();
-            return Sending::Done;
+            return false;
         }
-        if self.host.flush() != Sending::Done {
-            return Sending::Waits;
+        if self.host.keeps() {
+            return self.host.call(network, true).is_moving;
         }
         if self.host.is_ended() {
             self.host.forget();
-            return Sending::Done;
+            return false;
         }
-        self.drain(scratch);
-        Sending::Done
+        self.drain(network, scratch);
+        false
     }
 
-    fn drain(&mut self, scratch: &mut [u8]) {
+    fn drain<N: Network<Stream = S>>(&mut self, network: &mut N, scratch: &mut [u8]) {
         if self.phase == Phase::Sending {
-            self.host.shut();
+            self.host.shut(network);
             self.phase = Phase::Draining;
         }
-        match self.host.receive(scratch) {
+        match self.host.receive(network, scratch) {
             Received::Nothing | Received::Bytes(_) => {}
             Received::End | Received::Reset => self.host.forget(),
         }
@@ -68,80 +64,79 @@ impl Aside {
 /// The hosts that were put aside, at most as many as there are slots. One after another is closed: when all is sent and
 /// it has closed its side, after two seconds, or when there is no room for another.
 #[derive(Drop)]
-pub struct Asides {
-    asides: Vec<Aside>,
+pub struct Asides<S> {
+    asides: Vec<Aside<S>>,
     // Whose place is taken where all are.
     oldest: usize,
-    // How many there are.
-    count: usize,
+    // A bit for each place that is taken.
+    taken: u64,
+    // Whose turn it is.
+    turn: usize,
     ghost whole: { length asides.items ≡ 64 },
     ghost within: { oldest < 64 },
+    ghost turning: { turn < 64 },
 }
 
-impl Asides {
+impl<S: Drop> Asides<S> {
     /// None yet.
-    pub fn new(alloc: Global) -> Result<Asides, AllocError> {
+    pub fn new(alloc: Global) -> Result<Asides<S>, AllocError> {
         let mut asides = Vec::with_capacity(alloc, SLOTS)?;
         for _ in 0..SLOTS {
             asides.push(Aside {
                 host: Host::new(alloc)?,
                 phase: Phase::Sending,
-                until: None,
+                until: 0,
             })?;
         }
         Ok(Asides {
             asides,
             oldest: 0,
-            count: 0,
+            taken: 0,
+            turn: 0,
         })
     }
 
     /// Puts the host of a slot aside, so that the slot is free.
-    pub fn put(&mut self, hosts: &mut Hosts, slot: usize, clock: &impl Clock)
+    pub fn put(&mut self, hosts: &mut Hosts<S>, slot: usize, now: u64)
         requires { slot < 64 }
     {
-        let place = self.free_place();
+        let free = (!self.taken).trailing_zeros() as usize;
+        let place = if free < SLOTS { free } else { self.oldest };
         let aside = &mut self.asides[place];
         hosts.swap_out(slot, &mut aside.host);
         aside.phase = Phase::Sending;
-        aside.until = deadline(clock);
+        aside.until = now.saturating_add(MICROS);
         self.oldest = (place + 1) % SLOTS;
-        self.count = self.count.saturating_add(1);
+        self.taken |= 1 << place;
     }
 
-    fn free_place(&self) -> usize
+    /// Whether there is none.
+    pub fn is_empty(&self) -> bool {
+        self.taken == 0
+    }
+
+    /// Goes on with the one whose turn it is, and answers whether something went to it. The buffer is used, and holds nothing
+    /// then. So each has its turn in 64 calls.
+    pub fn go_on<N: Network<Stream = S>>(&mut self, network: &mut N, scratch: &mut [u8]) -> bool {
+        if self.taken == 0 {
+            return false;
+        }
+        let place = self.next_place();
+        let now = network.micros();
+        let is_moving = self.asides[place].go_on(network, now, scratch);
+        if self.asides[place].host.is_absent() {
+            self.taken &= !(1 << place);
+        }
+        is_moving
+    }
+
+    // The next place that is taken.
+    fn next_place(&mut self) -> usize
         ensures { result < 64 }
     {
-        for place in 0..SLOTS {
-            if self.asides[place].host.is_absent() {
-                return place;
-            }
-        }
-        self.oldest
+        let ahead = self.taken.rotate_right(self.turn as u32).trailing_zeros() as usize;
+        let place = (self.turn + ahead) % SLOTS;
+        self.turn = (place + 1) % SLOTS;
+        place
     }
-
-    /// Goes on with each, and answers whether something waits to be sent. The buffer is used, and holds nothing then.
-    pub fn go_on(&mut self, clock: &impl Clock, scratch: &mut [u8]) -> Sending {
-        if self.count == 0 {
-            return Sending::Done;
-        }
-        let now = Instant::now(clock).ok();
-        let mut all = Sending::Done;
-        self.count = 0;
-        for place in 0..SLOTS {
-            if !self.asides[place].host.is_absent() {
-                self.count = self.count.saturating_add(1);
-                if self.asides[place].go_on(now, scratch) != Sending::Done {
-                    all = Sending::Waits;
-                }
-            }
-        }
-        all
-    }
-}
-
-fn deadline(clock: &impl Clock) -> Option<Instant> {
-    Instant::now(clock)
-        .ok()?
-        .checked_add(Duration::from_secs(SECONDS))
 }

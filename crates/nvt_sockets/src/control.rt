@@ -1,21 +1,23 @@
 //! The control port: its listener, and the connections that lines of edits come from.
-ghost use Rattle.std.specs.Prelude.{◌<◌, ◌≤◌, IfSome, length, vec_len};
+ghost use Rattle.std.specs.Prelude.{◌<◌, ◌≤◌, ◌≡◌, IfOk, IfSome, length};
+ghost use Rattle.nvt_sockets.specs.HandsOut.{FitsLine};
 
-use crate::editor::Editor;
-use crate::listeners::accept_from;
-use crate::speaker::EDITORS_MAX;
-use mio::net::TcpListener;
+use crate::editor::{Editor, Heard};
+use crate::network::Network;
+use socket_rules::{EDITORS_MAX, Seats};
 use std::alloc::{AllocError, Global};
 use std::io;
-use std::net::{IpAddr, Ipv4Addr, Net, SocketAddr};
+use std::net::{IpAddr, Ipv4Addr, SocketAddr};
 
 /// The control port, on this machine alone.
 #[derive(Drop)]
-pub struct Control {
-    socket: TcpListener,
-    editors: Vec<Editor>,
+pub struct Control<L, S> {
+    socket: L,
+    editors: Vec<Editor<S>>,
+    seats: Seats,
     // Whose line was handed out last, until it is answered.
     asking: Option<usize>,
+    ghost whole: { length editors.items ≡ 16 },
 }
 
 /// The address of a control port.
@@ -23,30 +25,65 @@ pub fn control_address(port: u16) -> SocketAddr {
     SocketAddr::new(IpAddr::V4(Ipv4Addr::LOCALHOST), port)
 }
 
-impl Control {
+impl<L: Drop, S: Drop> Control<L, S> {
     /// Listens. Fails where the port cannot be listened to, or memory is wanted.
-    pub fn open<R: Net>(rt: &R, alloc: Global, port: u16) -> io::Result<Control> {
-        let socket = TcpListener::bind(rt, control_address(port))?;
+    pub fn open<N: Network<Listener = L, Stream = S>>(
+        network: &mut N,
+        alloc: Global,
+        port: u16,
+    ) -> io::Result<Control<L, S>> {
+        let socket = network.listen(control_address(port))?;
         Ok(Control {
             socket,
             editors: make_editors(alloc)?,
+            seats: Seats::new(),
             asking: None,
         })
     }
 
-    /// The next connection gets a place; it is closed where there is none.
-    pub fn accept(&mut self) {
-        if let Some(stream) = accept_from(&self.socket) {
-            if let Some(place) = self.free_place() {
-                self.editors[place].open(stream);
+    /// The next connection gets a place, where one waits; answers whether one did. Where all places are taken, those who
+    /// closed theirs leave them, and if none did, the one that was silent longest is closed. The buffer is used, and holds
+    /// nothing then.
+    pub fn accept<N: Network<Listener = L, Stream = S>>(
+        &mut self,
+        network: &mut N,
+        buf: &mut [u8],
+    ) -> bool
+        requires { 1025 ≤ length buf.old }
+    {
+        let Some(stream) = network.accept(&self.socket) else {
+            return false;
+        };
+        if self.free_place().is_none() {
+            self.hear_all(network, buf);
+        }
+        let place = match self.free_place() {
+            Some(place) => place,
+            None => self.seats.silent_longest(),
+        };
+        self.editors[place].open(stream);
+        self.seats.heard(place);
+        if self.asking == Some(place) {
+            self.asking = None;
+        }
+        true
+    }
+
+    // Reads what each sent of which nothing waits, its end too.
+    fn hear_all<N: Network<Listener = L, Stream = S>>(&mut self, network: &mut N, buf: &mut [u8])
+        requires { 1025 ≤ length buf.old }
+    {
+        for place in 0..EDITORS_MAX {
+            if self.editors[place].hear(network, buf) {
+                self.seats.heard(place);
             }
         }
     }
 
     fn free_place(&self) -> Option<usize>
-        ensures { IfSome result (λ place. place < vec_len self.now.editors) }
+        ensures { IfSome result (λ place. place < 16) }
     {
-        for place in 0..self.editors.len() {
+        for place in 0..EDITORS_MAX {
             if self.editors[place].is_absent() {
                 return Some(place);
             }
@@ -54,30 +91,44 @@ impl Control {
         None
     }
 
-    /// The length of the next line of the connection in this place, which stands at the front of the buffer.
-    pub fn take_line(&mut self, place: usize, buf: &mut [u8]) -> Option<usize>
+    /// Takes the next line of the connection in this place.
+    pub fn take_line<N: Network<Listener = L, Stream = S>>(
+        &mut self,
+        network: &mut N,
+        place: usize,
+        buf: &mut [u8],
+    ) -> Heard
         requires { 1025 ≤ length buf.old }
-        ensures { IfSome result (λ n. n ≤ length buf.new) }
+        ensures { FitsLine (length buf.new) result }
     {
-        if place >= self.editors.len() {
-            return None;
+        if place >= EDITORS_MAX {
+            return Heard::Nothing;
         }
-        let line = self.editors[place].take_line(buf)?;
-        self.asking = Some(place);
-        Some(line)
+        let heard = self.editors[place].take_line(network, buf);
+        match heard {
+            Heard::Nothing => {}
+            Heard::Something => self.seats.heard(place),
+            Heard::Line(_) => {
+                self.seats.heard(place);
+                self.asking = Some(place);
+            }
+        }
+        heard
     }
 
     /// Answers the line that was taken last, on its own connection.
-    pub fn reply(&mut self, text: &[u8]) {
+    pub fn reply<N: Network<Listener = L, Stream = S>>(&mut self, network: &mut N, text: &[u8]) {
         if let Some(place) = self.asking.take() {
-            if place < self.editors.len() {
-                self.editors[place].reply(text);
+            if place < EDITORS_MAX {
+                self.editors[place].reply(network, text);
             }
         }
     }
 }
 
-fn make_editors(alloc: Global) -> Result<Vec<Editor>, AllocError> {
+fn make_editors<S: Drop>(alloc: Global) -> Result<Vec<Editor<S>>, AllocError>
+    ensures { IfOk result (λ editors. length editors.items ≡ 16) }
+{
     let mut editors = Vec::with_capacity(alloc, EDITORS_MAX)?;
     for _ in 0..EDITORS_MAX {
         editors.push(Editor::new(alloc)?)?;

@@ -1,27 +1,36 @@
 //! A connection for lines of edits.
-ghost use Rattle.std.specs.Prelude.{◌≤◌, IfSome, length};
+ghost use Rattle.std.specs.Prelude.{◌≤◌, length};
+ghost use Rattle.nvt_sockets.specs.HandsOut.{FitsLine};
 
-use crate::line_splitter::LineSplitter;
-use crate::send_buffer::SendBuffer;
-use crate::stream::{Received, read_some, write_some};
-use mio::net::TcpStream;
+use crate::network::{Network, Received};
 use nvt_ports::PortFault;
+use socket_rules::{LINE_LIMIT, LineSplitter, SendBuffer};
 use std::alloc::{AllocError, Global};
 
 // Longer than any reply, of which one is kept at most.
 const REPLY_MAX: usize = 2_048;
 
+/// What comes of a try to take a line.
+#[derive(Clone, Copy)]
+pub enum Heard {
+    Nothing,
+    /// Bytes came, or it is closed.
+    Something,
+    /// A line of so many bytes, which stands at the front of the buffer.
+    Line(usize),
+}
+
 /// A connection for lines of edits, or none.
 #[derive(Drop)]
-pub struct Editor {
-    peer: Option<TcpStream>,
+pub struct Editor<S> {
+    peer: Option<S>,
     lines: LineSplitter,
     replies: SendBuffer,
 }
 
-impl Editor {
+impl<S: Drop> Editor<S> {
     /// None yet.
-    pub fn new(alloc: Global) -> Result<Editor, AllocError> {
+    pub fn new(alloc: Global) -> Result<Editor<S>, AllocError> {
         Ok(Editor {
             peer: None,
             lines: LineSplitter::new(alloc)?,
@@ -33,8 +42,8 @@ impl Editor {
         self.peer.is_none()
     }
 
-    /// One has connected.
-    pub fn open(&mut self, stream: TcpStream) {
+    /// One has connected; the one that was there is closed.
+    pub fn open(&mut self, stream: S) {
         self.close();
         self.peer = Some(stream);
     }
@@ -46,62 +55,70 @@ impl Editor {
         self.replies.clear();
     }
 
-    /// The length of its next line, which stands at the front of the buffer. Where it does not read its replies, no
-    /// line is taken. It is closed once it sends no more and its lines are answered.
-    pub fn take_line(&mut self, buf: &mut [u8]) -> Option<usize>
+    /// Takes its next line. Where it does not read its replies, no line is taken. It is closed once it sends no more and its
+    /// lines are answered.
+    pub fn take_line<N: Network<Stream = S>>(&mut self, network: &mut N, buf: &mut [u8]) -> Heard
         requires { 1025 ≤ length buf.old }
-        ensures { IfSome result (λ n. n ≤ length buf.new) }
+        ensures { FitsLine (length buf.new) result }
     {
-        self.send();
+        self.send(network);
         if !self.replies.is_empty() {
-            return None;
+            return Heard::Nothing;
         }
         if let Some(n) = self.lines.next_line(buf) {
-            return Some(n);
+            return Heard::Line(n);
         }
-        if self.receive(buf) {
-            self.lines.next_line(buf)
-        } else {
-            None
+        if !self.receive(network, buf) {
+            return Heard::Nothing;
+        }
+        match self.lines.next_line(buf) {
+            Some(n) => Heard::Line(n),
+            None => Heard::Something,
         }
     }
 
-    // Reads what there is room for, and answers whether something came.
-    fn receive(&mut self, buf: &mut [u8]) -> bool
+    /// Reads what it sent, where nothing of it waits, and answers whether something came. It is closed where that is its
+    /// end. The buffer is used, and holds nothing then.
+    pub fn hear<N: Network<Stream = S>>(&mut self, network: &mut N, buf: &mut [u8]) -> bool
+        requires { 1025 ≤ length buf.old }
+    {
+        let waits = self.lines.room() < LINE_LIMIT || !self.replies.is_empty();
+        !waits && self.receive(network, buf)
+    }
+
+    // Reads what there is room for, and answers whether something came, its end too.
+    fn receive<N: Network<Stream = S>>(&mut self, network: &mut N, buf: &mut [u8]) -> bool
         requires { 1025 ≤ length buf.old }
     {
         let room = self.lines.room();
         let received = match &self.peer {
-            Some(stream) => read_some(stream, &mut buf[..room]),
+            Some(stream) => network.read(stream, &mut buf[..room]),
             None => Received::Nothing,
         };
         match received {
-            Received::Nothing => false,
+            Received::Nothing => return false,
             Received::Bytes(n) => {
                 self.lines.receive(&buf[..n]);
-                true
             }
-            Received::End | Received::Reset => {
-                self.close();
-                false
-            }
+            Received::End | Received::Reset => self.close(),
         }
+        true
     }
 
     /// Answers the line that was taken last; LF follows.
-    pub fn reply(&mut self, text: &[u8]) {
+    pub fn reply<N: Network<Stream = S>>(&mut self, network: &mut N, text: &[u8]) {
         self.replies.keep(text);
         self.replies.keep(b"\n");
-        self.send();
+        self.send(network);
     }
 
     // Sends what is kept, as far as it goes.
-    fn send(&mut self) {
+    fn send<N: Network<Stream = S>>(&mut self, network: &mut N) {
         if self.replies.is_empty() {
             return;
         }
         let sent = match &self.peer {
-            Some(stream) => write_some(stream, self.replies.waiting()),
+            Some(stream) => network.write(stream, self.replies.waiting()),
             None => Err(PortFault),
         };
         match sent {

@@ -1,72 +1,72 @@
 //! The host of a slot: its socket, and what it is to be sent.
-ghost use Rattle.std.specs.Prelude.{◌≤◌, IfOk, length};
+ghost use Rattle.std.specs.Prelude.{◌≤◌, ◌≡◌, ◌≢◌, IfOk, length};
 ghost use Rattle.nvt_sockets.specs.HandsOut.{FitsPiece};
 
-use crate::backoff::Backoff;
-use crate::send_buffer::SendBuffer;
-use crate::stream::{Received, read_some, write_some};
-use mio::net::TcpStream;
+use crate::network::{Network, Received};
 use nvt_ports::PortFault;
+use socket_rules::{
+    ConnectWatch, GivenUp, Outbox, Portion, Sending, Taking, Tenure, TenureStanding, Walk,
+    piece_len,
+};
 use std::alloc::{AllocError, Global};
 use std::mem;
-use std::net::Shutdown;
-
-// The most bytes that are kept for a host.
-const KEPT_MAX: usize = 393_216;
-
-// So many bytes are sent although more may be given to the same host in the next turn.
-const MUCH: usize = 196_608;
-
-// So many bytes are sent at once where nothing is kept, rather than kept and joined with others.
-const LARGE: usize = 65_536;
 
 /// How far a host is.
 #[derive(Drop)]
-enum Peer {
+enum Peer<S> {
     /// There is none.
     Absent,
     /// It may send bytes, and is sent some.
-    Open(TcpStream),
+    Open(S),
     /// It sends no more, and may read what it is sent.
-    Ended(TcpStream),
+    Ended(S),
     /// Nothing goes to it or comes from it any more.
     Reset,
 }
 
-/// Whether more is to be sent.
-#[derive(Clone, Copy, PartialEq, Eq)]
-pub enum Sending {
-    /// Nothing is.
-    Done,
-    /// The socket takes no more now.
-    Waits,
-    /// It is kept for a call, since more may be given.
-    Joins,
+/// What came of a call for a host.
+#[derive(Clone, Copy)]
+pub struct Sent {
+    /// What became of the bytes that waited.
+    pub sending: Sending,
+    /// How many were taken since the call before.
+    pub taken: usize,
+    /// Whether its socket took some in this call.
+    pub is_moving: bool,
 }
 
 /// A host, or none, with the bytes that were taken for it.
 #[derive(Drop)]
-pub struct Host {
-    peer: Peer,
-    kept: SendBuffer,
-    // Whether it was given something since the last call of `send`.
-    is_given: bool,
-    backoff: Backoff,
+pub struct Host<S> {
+    peer: Peer<S>,
+    walk: Walk,
+    portion: Portion,
+    outbox: Outbox,
+    // Whether not all was taken that was offered last.
+    is_stuck: bool,
+    connects: ConnectWatch,
+    tenure: Tenure,
 }
 
-impl Host {
+impl<S: Drop> Host<S> {
+    ghost use Rattle.socket_rules.specs.Outbox.{standing_of};
+    ghost use Rattle.socket_rules.specs.Sending.{Decides};
+
     /// None yet.
-    pub fn new(alloc: Global) -> Result<Host, AllocError> {
+    pub fn new(alloc: Global) -> Result<Host<S>, AllocError> {
         Ok(Host {
             peer: Peer::Absent,
-            kept: SendBuffer::new(alloc, KEPT_MAX)?,
-            is_given: false,
-            backoff: Backoff::new(),
+            walk: Walk::new(),
+            portion: Portion::new(),
+            outbox: Outbox::new(alloc)?,
+            is_stuck: false,
+            connects: ConnectWatch::new(),
+            tenure: Tenure::new(),
         })
     }
 
     /// One that has connected.
-    pub fn open(&mut self, stream: TcpStream) {
+    pub fn open(&mut self, stream: S) {
         self.forget();
         self.peer = Peer::Open(stream);
     }
@@ -74,9 +74,12 @@ impl Host {
     /// Closes its socket, and forgets what is kept.
     pub fn forget(&mut self) {
         self.peer = Peer::Absent;
-        self.kept.clear();
-        self.is_given = false;
-        self.backoff = Backoff::new();
+        self.walk = Walk::new();
+        self.portion = Portion::new();
+        self.outbox.clear();
+        self.is_stuck = false;
+        self.connects = ConnectWatch::new();
+        self.tenure = Tenure::new();
     }
 
     pub fn is_absent(&self) -> bool {
@@ -90,7 +93,7 @@ impl Host {
 
     /// Whether something is kept for it.
     pub fn keeps(&self) -> bool {
-        !self.kept.is_empty()
+        !self.outbox.is_empty()
     }
 
     /// Whether it sends no more.
@@ -98,12 +101,31 @@ impl Host {
         matches!(self.peer, Peer::Ended(_))
     }
 
+    /// Reads some of what it sent, where there is so much room for it.
+    pub fn read<N: Network<Stream = S>>(
+        &mut self,
+        network: &mut N,
+        room: usize,
+        buf: &mut [u8],
+    ) -> Received
+        ensures room { FitsPiece room result }
+        ensures buf { FitsPiece (length buf.old) result }
+    {
+        let most = piece_len(room, self.portion.most, self.is_stuck).min(buf.len());
+        let received = self.receive(network, &mut buf[..most]);
+        if let Received::Bytes(n) = received {
+            let pdus = self.walk.read(&buf[..n]);
+            self.portion.read(n, pdus);
+        }
+        received
+    }
+
     /// Reads what it sent. Its end is told once, that it was reset each time.
-    pub fn receive(&mut self, piece: &mut [u8]) -> Received
+    pub fn receive<N: Network<Stream = S>>(&mut self, network: &mut N, piece: &mut [u8]) -> Received
         ensures { FitsPiece (length piece.new) result }
     {
         let received = match &self.peer {
-            Peer::Open(stream) => read_some(stream, piece),
+            Peer::Open(stream) => network.read(stream, piece),
             Peer::Reset => Received::Reset,
             Peer::Absent | Peer::Ended(_) => Received::Nothing,
         };
@@ -124,12 +146,16 @@ impl Host {
 
     fn reset(&mut self) {
         self.peer = Peer::Reset;
-        self.kept.clear();
+        self.outbox.clear();
     }
 
     /// Takes the first of these bytes, and answers how many: they are kept, or sent where they are many and nothing is
     /// kept. Fails where it was reset.
-    pub fn give(&mut self, bytes: &[u8]) -> Result<usize, PortFault>
+    pub fn give<N: Network<Stream = S>>(
+        &mut self,
+        network: &mut N,
+        bytes: &[u8],
+    ) -> Result<usize, PortFault>
         ensures { IfOk result (λ n. n ≤ length bytes.now) }
     {
         match &self.peer {
@@ -137,83 +163,120 @@ impl Host {
             Peer::Reset => return Err(PortFault),
             Peer::Open(_) | Peer::Ended(_) => {}
         }
-        if bytes.is_empty() {
-            return Ok(0);
+        let waited = self.waits();
+        let taken = self.take(network, bytes)?;
+        self.is_stuck = taken < bytes.len();
+        self.connects.given(&bytes[..taken]);
+        if !waited && self.waits() {
+            self.tenure.moved();
         }
-        if bytes.len() >= LARGE && self.kept.is_empty() {
-            return self.send_now(bytes);
-        }
-        self.is_given = true;
-        Ok(self.kept.keep(bytes))
+        Ok(taken)
     }
 
-    // Sends the first of these bytes, as far as they go.
-    fn send_now(&mut self, bytes: &[u8]) -> Result<usize, PortFault>
+    // Whether bytes wait that its socket did not take.
+    fn waits(&self) -> bool {
+        self.is_stuck || self.keeps()
+    }
+
+    fn take<N: Network<Stream = S>>(
+        &mut self,
+        network: &mut N,
+        bytes: &[u8],
+    ) -> Result<usize, PortFault>
         ensures { IfOk result (λ n. n ≤ length bytes.now) }
     {
-        if !self.backoff.is_due() {
-            return Ok(0);
-        }
-        let sent = write_to(&self.peer, bytes);
-        match sent {
-            Ok(n) => self.backoff.tried(n),
-            Err(PortFault) => self.reset(),
-        }
-        sent
-    }
-
-    /// Sends what is kept, unless little is, and the host was given something since the last call, and may be given more,
-    /// since not all that it sent is answered.
-    pub fn send(&mut self, is_answered: bool) -> Sending {
-        let is_given = mem::replace(&mut self.is_given, false);
-        let len = self.kept.waiting().len();
-        if len == 0 {
-            return Sending::Done;
-        }
-        if is_given && !is_answered && len < MUCH {
-            return Sending::Joins;
-        }
-        self.flush()
-    }
-
-    /// Sends what is kept, as far as it goes.
-    pub fn flush(&mut self) -> Sending {
-        if self.kept.is_empty() {
-            return Sending::Done;
-        }
-        if !self.backoff.is_due() {
-            return Sending::Waits;
-        }
-        match write_to(&self.peer, self.kept.waiting()) {
-            Ok(n) => {
-                self.kept.sent(n);
-                self.backoff.tried(n);
+        match self.outbox.taking(bytes.len()) {
+            Taking::Nothing => Ok(0),
+            Taking::Kept => Ok(self.outbox.keep(bytes)),
+            Taking::Directly => {
+                let sent = self.write(network, bytes);
+                if let Ok(n) = sent {
+                    self.outbox.sent_directly(n);
+                }
+                sent
             }
+        }
+    }
+
+    // Writes as many of the first bytes as go at once.
+    fn write<N: Network<Stream = S>>(
+        &mut self,
+        network: &mut N,
+        bytes: &[u8],
+    ) -> Result<usize, PortFault>
+        ensures { IfOk result (λ n. n ≤ length bytes.now) }
+    {
+        let written = match &self.peer {
+            Peer::Open(stream) | Peer::Ended(stream) => network.write(stream, bytes),
+            Peer::Absent | Peer::Reset => Err(PortFault),
+        };
+        match written {
+            Ok(0) => {}
+            Ok(_) => self.tenure.moved(),
             Err(PortFault) => self.reset(),
         }
-        if self.kept.is_empty() {
-            Sending::Done
-        } else {
-            Sending::Waits
+        written
+    }
+
+    /// A call begins: what is kept is sent, is joined with more, or waits.
+    pub fn call<N: Network<Stream = S>>(&mut self, network: &mut N, is_answered: bool) -> Sent
+        ensures sending { Decides result.sending (standing_of is_answered self.old.outbox) }
+        ensures taken { result.taken ≡ self.old.outbox.taken }
+        ensures stays { result.sending ≢ Sending.Now → self.new.outbox.kept ≡ self.old.outbox.kept }
+    {
+        let taken = self.outbox.taken;
+        let sending = self.outbox.call(is_answered);
+        let is_moving = sending == Sending::Now && self.send(network);
+        Sent {
+            sending,
+            taken,
+            is_moving,
         }
+    }
+
+    // Sends what is kept, as far as it goes, and answers whether some went.
+    fn send<N: Network<Stream = S>>(&mut self, network: &mut N) -> bool {
+        let written = match &self.peer {
+            Peer::Open(stream) | Peer::Ended(stream) => network.write(
+                stream,
+                self.outbox.waiting(),
+            ),
+            Peer::Absent | Peer::Reset => Err(PortFault),
+        };
+        match written {
+            Ok(n) => {
+                self.outbox.sent(n);
+                if n > 0 {
+                    self.tenure.moved();
+                }
+                n > 0
+            }
+            Err(PortFault) => {
+                self.reset();
+                false
+            }
+        }
+    }
+
+    /// The time is this, in ms: whether it is given up, its connection being ended by the target or not.
+    pub fn tick(&mut self, ms: u64, is_ended: bool) -> Option<GivenUp> {
+        if !self.has_socket() {
+            return None;
+        }
+        let standing = TenureStanding {
+            is_connected: self.connects.is_connected(),
+            waits: self.waits(),
+            is_ended,
+        };
+        self.tenure.tick(ms, standing)
     }
 
     /// Tells it that nothing more is sent.
-    pub fn shut(&mut self) {
+    pub fn shut<N: Network<Stream = S>>(&mut self, network: &mut N) {
         if let Peer::Open(stream) = &self.peer {
-            if stream.shutdown(Shutdown::Write).is_err() {
+            if network.shut(stream).is_err() {
                 self.reset();
             }
         }
-    }
-}
-
-// Writes as many of the first bytes as go at once.
-fn write_to(peer: &Peer, bytes: &[u8]) -> Result<usize, PortFault>
-    ensures { IfOk result (λ n. n ≤ length bytes.now) }
-{
-    match peer {
-        Peer::Open(stream) | Peer::Ended(stream) => write_some(stream, bytes),
-        Peer::Absent | Peer::Reset => Err(PortFault),
     }
 }

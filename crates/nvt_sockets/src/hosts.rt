@@ -2,24 +2,35 @@
 ghost use Rattle.std.specs.Prelude.{◌≡◌, ◌<◌, ◌≤◌, IfOk, length};
 ghost use Rattle.nvt_sockets.specs.HandsOut.{FitsPiece};
 
-use crate::host::{Host, Sending};
-use crate::stream::Received;
-use mio::net::TcpStream;
+use crate::host::{Host, Sent};
+use crate::network::{Network, Received};
 use nvt_ports::{PIECE_MAX, PortFault, SLOTS};
+use socket_rules::{GivenUp, Sending};
 use std::alloc::{AllocError, Global};
+
+/// What came of a call for all hosts.
+#[derive(Clone, Copy)]
+pub struct Calls {
+    /// Whether replies of some are joined.
+    pub joins: bool,
+    /// How many bytes were taken for these since the call before.
+    pub taken: usize,
+    /// Whether a socket took some in this call.
+    pub is_moving: bool,
+}
 
 /// A host, or none, in each slot.
 #[derive(Drop)]
-pub struct Hosts {
-    hosts: Vec<Host>,
+pub struct Hosts<S> {
+    hosts: Vec<Host<S>>,
     // A bit for each slot for whose host something is kept.
     kept: u64,
     ghost whole: { length hosts.items ≡ 64 },
 }
 
-impl Hosts {
+impl<S: Drop> Hosts<S> {
     /// None yet.
-    pub fn new(alloc: Global) -> Result<Hosts, AllocError> {
+    pub fn new(alloc: Global) -> Result<Hosts<S>, AllocError> {
         let mut hosts = Vec::with_capacity(alloc, SLOTS)?;
         for _ in 0..SLOTS {
             hosts.push(Host::new(alloc)?)?;
@@ -28,60 +39,100 @@ impl Hosts {
     }
 
     /// One has connected, in a slot that is free.
-    pub fn open(&mut self, slot: usize, stream: TcpStream)
+    pub fn open(&mut self, slot: usize, stream: S)
         requires { slot < 64 }
     {
         self.hosts[slot].open(stream);
     }
 
-    /// Reads what the host of a slot sent.
-    pub fn receive(&mut self, slot: usize, piece: &mut [u8]) -> Received
+    /// Whether something is kept for the host of a slot.
+    pub fn keeps(&self, slot: usize) -> bool
         requires { slot < 64 }
-        ensures { FitsPiece (length piece.new) result }
     {
-        self.hosts[slot].receive(piece)
+        self.hosts[slot].keeps()
+    }
+
+    /// Reads some of what the host of a slot sent, where there is so much room for it.
+    pub fn read<N: Network<Stream = S>>(
+        &mut self,
+        network: &mut N,
+        slot: usize,
+        room: usize,
+        buf: &mut [u8],
+    ) -> Received
+        requires { slot < 64 }
+        ensures room { FitsPiece room result }
+        ensures buf { FitsPiece (length buf.old) result }
+    {
+        self.hosts[slot].read(network, room, buf)
     }
 
     /// Takes the first of these bytes for the host of a slot.
-    pub fn give(&mut self, slot: usize, bytes: &[u8]) -> Result<usize, PortFault>
+    pub fn give<N: Network<Stream = S>>(
+        &mut self,
+        network: &mut N,
+        slot: usize,
+        bytes: &[u8],
+    ) -> Result<usize, PortFault>
         requires { slot < 64 }
         ensures { IfOk result (λ n. n ≤ length bytes.now) }
     {
-        let given = self.hosts[slot].give(bytes);
+        let given = self.hosts[slot].give(network, bytes);
         if self.hosts[slot].keeps() {
             self.kept |= bit(slot);
         }
         given
     }
 
-    /// Sends what is kept, but for hosts that were given something since the last call, may be given more, and have little
-    /// to be sent. A stream that there is all room for is answered as far as it came.
-    pub fn send_kept(&mut self, room: &[usize; SLOTS]) -> Sending {
-        let mut all = Sending::Done;
+    /// A call begins: what is kept for each host is sent, is joined with more, or waits. A stream that there is all room for
+    /// is answered as far as it came.
+    pub fn call<N: Network<Stream = S>>(
+        &mut self,
+        network: &mut N,
+        room: &[usize; SLOTS],
+    ) -> Calls {
+        let mut calls = Calls {
+            joins: false,
+            taken: 0,
+            is_moving: false,
+        };
         let mut left = self.kept;
         for _ in 0..SLOTS {
             let slot = left.trailing_zeros() as usize;
             if slot >= SLOTS {
-                return all;
+                return calls;
             }
             left &= !bit(slot);
-            all = more_of(all, self.send(slot, room[slot] >= PIECE_MAX));
+            calls = with(calls, self.call_one(network, slot, room[slot] >= PIECE_MAX));
         }
-        all
+        calls
     }
 
-    fn send(&mut self, slot: usize, is_answered: bool) -> Sending
+    fn call_one<N: Network<Stream = S>>(
+        &mut self,
+        network: &mut N,
+        slot: usize,
+        is_answered: bool,
+    ) -> Sent
         requires { slot < 64 }
     {
-        let sending = self.hosts[slot].send(is_answered);
-        if sending == Sending::Done {
+        let sent = self.hosts[slot].call(network, is_answered);
+        if !self.hosts[slot].keeps() {
             self.kept &= !bit(slot);
         }
-        sending
+        sent
+    }
+
+    /// The time is this, in ms: why the host of a slot is given up, if it is, its connection being ended by the target or
+    /// not.
+    pub fn tick(&mut self, slot: usize, ms: u64, is_ended: bool) -> Option<GivenUp>
+        requires { slot < 64 }
+    {
+        self.hosts[slot].tick(ms, is_ended)
     }
 
     /// Leaves the host of a slot in the place of another, which is none.
-    pub fn swap_out(&mut self, slot: usize, place: &mut Host)
+    pub fn swap_out(&mut self, slot: usize, place: &mut Host<S>)
         requires { slot < 64 }
     {
         place.forget();
@@ -96,11 +147,16 @@ fn bit(slot: usize) -> u64
     1 << slot
 }
 
-// What is to be waited for first.
-fn more_of(a: Sending, b: Sending) -> Sending {
-    match (a, b) {
-        (Sending::Joins, _) | (_, Sending::Joins) => Sending::Joins,
-        (Sending::Waits, _) | (_, Sending::Waits) => Sending::Waits,
-        (Sending::Done, Sending::Done) => Sending::Done,
+// With what came of the call for one host more.
+fn with(calls: Calls, sent: Sent) -> Calls {
+    let joins = sent.sending == Sending::Joins;
+    Calls {
+        joins: calls.joins || joins,
+        taken: if joins {
+            calls.taken.saturating_add(sent.taken)
+        } else {
+            calls.taken
+        },
+        is_moving: calls.is_moving || sent.is_moving,
     }
 }

@@ -1,86 +1,124 @@
 //! The listeners for hosts, one for each port of the configuration.
-use crate::speaker::PORTS_MAX;
-use mio::net::{TcpListener, TcpStream};
+use crate::network::{Channel, Network};
+use crate::speech::Speech;
+use arrayvec::ArrayString;
 use nvt_config::{Config, Port};
+use socket_rules::PORTS_MAX;
 use std::alloc::{AllocError, Global};
+use std::fmt::Write;
 use std::io;
-use std::net::{IpAddr, Net, SocketAddr};
+use std::net::{IpAddr, SocketAddr};
 
-/// A listener, for the port of this number at this address.
+// Room for the longest line, that of a listener at an address of IPv6.
+const LINE_MAX: usize = 128;
+
+/// A port at an address, if it has one, and the listener where it can be listened to.
 #[derive(Drop)]
-struct Listener {
+struct Listener<L> {
     port: u16,
-    address: SocketAddr,
-    socket: TcpListener,
+    address: Option<SocketAddr>,
+    socket: Option<L>,
 }
 
-/// The listeners of the ports that can be listened to.
+/// The listeners of the ports of a configuration, and the ports that cannot be listened to.
 #[derive(Drop)]
-pub struct Listeners {
-    listeners: Vec<Listener>,
+pub struct Listeners<L> {
+    listeners: Vec<Listener<L>>,
 }
 
-impl Listeners {
+impl<L: Drop> Listeners<L> {
     /// None yet.
-    pub fn new(alloc: Global) -> Result<Listeners, AllocError> {
+    pub fn new(alloc: Global) -> Result<Listeners<L>, AllocError> {
         Ok(Listeners {
             listeners: Vec::with_capacity(alloc, PORTS_MAX)?,
         })
     }
 
     /// Listens to the ports of this configuration, and to no other. One whose number, address and service stay is not
-    /// closed. One that cannot be listened to is named on standard output, each one that is on standard error.
-    pub fn refresh<R: Net + Print + Eprint>(&mut self, rt: &R, config: &Config) {
+    /// closed. One that cannot be listened to is named on standard output, once; each one that is on standard error.
+    pub fn refresh<N: Network<Listener = L>>(
+        &mut self,
+        network: &mut N,
+        speech: &mut Speech,
+        config: &Config,
+    ) {
         let ports = config.ports();
         self.listeners.retain(|listener| is_listed(ports, listener));
         for port in ports {
-            if self.listens_to(port.id) {
-                continue;
-            }
-            match self.listen(rt, port) {
-                Ok(address) => announce(rt, address, port.id),
-                Err(_) => complain(rt, port.id),
+            match self.place_of(port.id) {
+                Some(place) => self.try_again(network, speech, place),
+                None => self.add(network, speech, port),
             }
         }
     }
 
-    fn listens_to(&self, port: u16) -> bool {
-        self.listeners.iter().any(|listener| listener.port == port)
+    fn place_of(&self, port: u16) -> Option<usize> {
+        self.listeners
+            .iter()
+            .position(|listener| listener.port == port)
     }
 
-    fn listen<R: Net>(&mut self, rt: &R, port: &Port) -> io::Result<SocketAddr> {
-        let Some(address) = address_of(port) else {
-            return Err(io::Error::from(io::ErrorKind::InvalidInput));
+    // Tries to listen to a port that could not be listened to.
+    fn try_again<N: Network<Listener = L>>(
+        &mut self,
+        network: &mut N,
+        speech: &mut Speech,
+        place: usize,
+    ) {
+        let Some(listener) = self.listeners.get_mut(place) else {
+            return;
         };
-        let socket = TcpListener::bind(rt, address)?;
+        if listener.socket.is_some() {
+            return;
+        }
+        if let Ok(socket) = listen(network, listener.address) {
+            listener.socket = Some(socket);
+            announce(speech, listener.port, listener.address);
+        }
+    }
+
+    fn add<N: Network<Listener = L>>(&mut self, network: &mut N, speech: &mut Speech, port: &Port) {
+        let address = address_of(port);
+        let socket = listen(network, address).ok();
+        match &socket {
+            Some(_) => announce(speech, port.id, address),
+            None => complain(speech, port.id),
+        }
         let listener = Listener {
             port: port.id,
             address,
             socket,
         };
-        match self.listeners.push(listener) {
-            Ok(()) => Ok(address),
-            Err(_) => Err(io::Error::from(io::ErrorKind::OutOfMemory)),
-        }
+        // There are no more ports than there is room for.
+        let _ = self.listeners.push(listener);
     }
 
     /// The next host that connected to the listener of this place, with the number of its port.
-    pub fn accept(&self, place: usize) -> Option<(TcpStream, u16)> {
+    pub fn accept<N: Network<Listener = L>>(
+        &self,
+        network: &mut N,
+        place: usize,
+    ) -> Option<(N::Stream, u16)> {
         let listener = self.listeners.get(place)?;
-        let stream = accept_from(&listener.socket)?;
-        Some((stream, listener.port))
+        match &listener.socket {
+            Some(socket) => {
+                let stream = network.accept(socket)?;
+                Some((stream, listener.port))
+            }
+            None => None,
+        }
     }
 }
 
-/// The next connection of a listener, which sends without delay.
-pub fn accept_from(socket: &TcpListener) -> Option<TcpStream> {
-    let (stream, _) = socket.accept().ok()?;
-    stream.set_nodelay(true).ok()?;
-    Some(stream)
+fn listen<N: Network>(network: &mut N, address: Option<SocketAddr>) -> io::Result<N::Listener> {
+    match address {
+        Some(address) => network.listen(address),
+        None => Err(io::Error::from(io::ErrorKind::InvalidInput)),
+    }
 }
 
-fn is_listed(ports: &[Port], listener: &Listener) -> bool {
-    ports.iter().any(|port| port.id == listener.port && address_of(port) == Some(listener.address))
+fn is_listed<L>(ports: &[Port], listener: &Listener<L>) -> bool {
+    ports.iter().any(|port| port.id == listener.port && address_of(port) == listener.address)
 }
 
 // The address of a port; of its family nothing is asked.
@@ -89,11 +127,18 @@ fn address_of(port: &Port) -> Option<SocketAddr> {
     Some(SocketAddr::new(ip, port.service))
 }
 
-// There is nobody to tell where these cannot be written.
-fn announce<R: Eprint>(rt: &R, address: SocketAddr, port: u16) {
-    let _ = eprintln!(rt; "listening on {address}, port {port}");
+fn announce(speech: &mut Speech, port: u16, address: Option<SocketAddr>) {
+    if let Some(address) = address {
+        let mut line = ArrayString::<LINE_MAX>::new();
+        if writeln!(line, "listening on {address}, port {port}").is_ok() {
+            speech.say(Channel::Error, line.as_bytes());
+        }
+    }
 }
 
-fn complain<R: Print>(rt: &R, port: u16) {
-    let _ = println!(rt; "port {port}: cannot listen");
+fn complain(speech: &mut Speech, port: u16) {
+    let mut line = ArrayString::<LINE_MAX>::new();
+    if writeln!(line, "port {port}: cannot listen").is_ok() {
+        speech.say(Channel::Output, line.as_bytes());
+    }
 }

@@ -1,123 +1,300 @@
 //! Ports over sockets.
-ghost use Rattle.std.specs.Prelude.{◌≡◌, ◌≤◌, IfOk, length, replicate, false};
-ghost use Rattle.nvt_sockets.specs.HandsOut.{HandsOut};
+ghost use Rattle.std.specs.Prelude.{◌≡◌, ◌≤◌, ◌<◌, IfOk, IfSome, length, replicate, false};
+ghost use Rattle.nvt_sockets.specs.HandsOut.{HandsOut, Tries};
+ghost use Rattle.socket_rules.specs.Lately.{plan};
 
 use crate::control::control_address;
-use crate::host::Sending;
-use crate::pause::Pause;
-use crate::sockets::Sockets;
-use crate::speaker::SPEAKERS;
-use crate::timer::Timer;
-use crate::turn_order::TurnOrder;
+use crate::hosts::Calls;
+use crate::network::{Channel, Network};
+use crate::sockets::{Sockets, Tried};
+use crate::speech::Speech;
+use arrayvec::ArrayString;
 use nvt_config::Config;
-use nvt_ports::{PortEvent, PortFault, Ports};
+use nvt_ports::{PIECE_MAX, PortEvent, PortFault, Ports, SLOTS};
+use socket_rules::{EditPace, GivenUp, Looks, Outcome, Pause, Speaker, TurnOrder};
 use std::alloc::Global;
-use std::net::Net;
-use std::rt::Clock;
-use std::{io, thread};
+use std::fmt::Write;
+use std::io;
 
 // Each call of this number is a tick.
 const CALLS_PER_TICK: u64 = 256;
 
-/// Ports over the TCP sockets of this machine. They do not tell what they hand out and take.
+// For how long what is kept is sent at the end.
+const END_MICROS: u64 = 2_000_000;
+
+const END_PAUSE_MICROS: u64 = 500;
+
+const END_SCRATCH: usize = 4_096;
+
+/// How many hosts were given up.
+#[derive(Clone, Copy, PartialEq, Eq)]
+pub struct GivenUpHosts {
+    /// Those that did not connect to a controller in time.
+    pub without_connect: u64,
+    /// Those that took nothing for too long.
+    pub took_nothing: u64,
+}
+
+impl GivenUpHosts {
+    // One more.
+    fn add(&mut self, why: GivenUp) {
+        let count = match why {
+            GivenUp::WithoutConnect => &mut self.without_connect,
+            GivenUp::TookNothing => &mut self.took_nothing,
+        };
+        *count = count.saturating_add(1);
+    }
+}
+
+/// Ports over the sockets of a network. They do not tell what they hand out and take.
 ///
 /// Bytes that are given are kept, and sent when a turn gave the same host nothing more, or when much is kept; while
-/// replies are being joined so, no socket is read. Where nothing came for some milliseconds and nothing waits to be
-/// sent, a call sleeps, up to a millisecond. They allocate when they are opened, and never again.
+/// replies are being joined so, the other sockets are looked at now and then alone. Where nothing came or went for some
+/// milliseconds, a call sleeps, up to a millisecond. Hosts that do not connect, or take nothing, are given up. They
+/// allocate when they are opened, and never again.
 #[derive(Drop)]
-pub struct SocketPorts<R> {
-    rt: R,
-    sockets: Sockets,
+pub struct SocketPorts<N: Network> {
+    network: N,
+    sockets: Sockets<N::Listener, N::Stream>,
     order: TurnOrder,
+    looks: Looks,
+    pace: EditPace,
     pause: Pause,
-    timer: Timer,
+    speech: Speech,
+    given_up: GivenUpHosts,
+    // A bit for each slot whose host is given up, and was not handed out yet.
+    overdue: u64,
     calls: u64,
     faults: u64,
 }
 
-impl<R: Net + Clock + Print + Eprint + Drop> SocketPorts<R> {
+impl<N: Network + Drop> SocketPorts<N> {
     /// Opens the control port, at 127.0.0.1, and then the ports of this configuration, of which those that cannot be
-    /// listened to are named on standard output. Fails where the control port cannot be listened to, where the clock
-    /// cannot be read, and where memory is wanted.
-    pub fn open(rt: R, alloc: Global, control: u16, config: &Config) -> io::Result<SocketPorts<R>>
+    /// listened to are named on standard output. Fails where the control port cannot be listened to, where what is to be
+    /// printed cannot be, and where memory is wanted.
+    pub fn open(
+        mut network: N,
+        alloc: Global,
+        control: u16,
+        config: &Config,
+    ) -> io::Result<SocketPorts<N>>
         ensures { IfOk result (λ ports. ports.sockets.in_use ≡ replicate 64 false) }
     {
-        let mut sockets = Sockets::open(&rt, alloc, control)?;
+        let mut sockets = Sockets::open(&mut network, alloc, control)?;
         let order = TurnOrder::new(alloc)?;
-        let timer = Timer::new(&rt)?;
-        announce(&rt, control);
-        sockets.refresh(&rt, config);
+        let mut speech = Speech::new(alloc)?;
+        announce(&mut speech, control);
+        sockets.refresh(&mut network, &mut speech, config);
+        speech.go_on(&mut network)?;
         Ok(SocketPorts {
-            rt,
+            network,
             sockets,
             order,
+            looks: Looks::new(),
+            pace: EditPace::Free,
             pause: Pause::new(),
-            timer,
+            speech,
+            given_up: GivenUpHosts {
+                without_connect: 0,
+                took_nothing: 0,
+            },
+            overdue: 0,
             calls: 0,
             faults: 0,
         })
     }
 
-    // What comes of the sockets whose turn it is.
-    fn hand_out(&mut self, room: &[usize; 64], buf: &mut [u8]) -> Option<PortEvent>
-        requires { 1025 ≤ length buf.old }
-        ensures event { HandsOut self.old.sockets.in_use room.now (length buf.old) result self.new.sockets.in_use }
-        ensures faults { self.new.faults ≡ self.old.faults }
-    {
-        match self.try_silent(room, buf) {
-            Some(event) => Some(event),
-            None => self.try_lately(room, buf),
+    /// The network that they stand on.
+    pub fn network(&self) -> &N {
+        &self.network
+    }
+
+    /// Sends what is kept, for two seconds at most, and prints what waits to be printed. Answers how many hosts were given
+    /// up. Fails where something was to be printed that could not be.
+    pub fn finish(&mut self) -> io::Result<GivenUpHosts> {
+        let now = self.network.micros();
+        self.sockets.close_kept(now);
+        self.finish_asides(now.saturating_add(END_MICROS));
+        self.speech.go_on(&mut self.network)?;
+        if self.speech.is_whole() {
+            Ok(self.given_up)
+        } else {
+            Err(io::Error::from(io::ErrorKind::WriteZero))
         }
     }
 
-    // Tries the silent ones that are due.
-    fn try_silent(&mut self, room: &[usize; 64], buf: &mut [u8]) -> Option<PortEvent>
-        requires { 1025 ≤ length buf.old }
-        ensures event { HandsOut self.old.sockets.in_use room.now (length buf.old) result self.new.sockets.in_use }
+    // Goes on with the hosts that were put aside until this time, or none is left.
+    fn finish_asides(&mut self, until: u64) {
+        let mut scratch = [0; END_SCRATCH];
+        for _ in 0..END_MICROS / END_PAUSE_MICROS {
+            for _ in 0..SLOTS {
+                self.sockets.go_on(&mut self.network, &mut scratch);
+            }
+            if !self.sockets.has_asides() || self.network.micros() >= until {
+                return;
+            }
+            self.network.sleep(END_PAUSE_MICROS);
+        }
+    }
+
+    // Which hosts are given up is looked at. Answers the time, in ms.
+    fn tick(&mut self, room: &[usize; SLOTS]) -> u64
+        ensures in_use { self.new.sockets.in_use ≡ self.old.sockets.in_use }
         ensures faults { self.new.faults ≡ self.old.faults }
     {
-        for _ in 0..SPEAKERS {
-            let speaker = self.order.next_silent()?;
-            if !self.order.is_lately(speaker) {
-                if let Some(event) = self.sockets.try_speaker(speaker, room, buf) {
-                    self.order.welcome(speaker);
-                    return Some(event);
-                }
+        let ms = self.network.micros() / 1_000;
+        for slot in 0..SLOTS {
+            if let Some(why) = self.sockets.tick(slot, ms, room[slot]) {
+                self.give_up(slot, why);
             }
         }
-        None
+        let _ = self.speech.go_on(&mut self.network);
+        ms
     }
 
-    // Tries those who spoke lately.
-    fn try_lately(&mut self, room: &[usize; 64], buf: &mut [u8]) -> Option<PortEvent>
+    fn give_up(&mut self, slot: usize, why: GivenUp)
+        requires { slot < 64 }
+        ensures in_use { self.new.sockets.in_use ≡ self.old.sockets.in_use }
+        ensures faults { self.new.faults ≡ self.old.faults }
+    {
+        if self.overdue & (1 << slot) != 0 {
+            return;
+        }
+        self.overdue |= 1 << slot;
+        self.given_up.add(why);
+    }
+
+    // The least slot whose host is given up.
+    fn next_overdue(&self) -> Option<usize>
+        ensures { IfSome result (λ slot. slot < 64) }
+    {
+        let slot = self.overdue.trailing_zeros() as usize;
+        if slot < SLOTS { Some(slot) } else { None }
+    }
+
+    // Tries sockets in their order, until one has something.
+    fn look(&mut self, room: &[usize; SLOTS], buf: &mut [u8], calls: Calls) -> Option<PortEvent>
         requires { 1025 ≤ length buf.old }
         ensures event { HandsOut self.old.sockets.in_use room.now (length buf.old) result self.new.sockets.in_use }
         ensures faults { self.new.faults ≡ self.old.faults }
     {
         for place in 0..self.order.len() {
             let speaker = self.order.at(place)?;
-            if let Some(event) = self.sockets.try_speaker(speaker, room, buf) {
-                self.order.heard(place);
-                return Some(event);
+            match self.try_speaker(speaker, room, buf) {
+                Tried::Nothing => {}
+                Tried::Heard => {
+                    self.found(place + 1, calls);
+                    return None;
+                }
+                Tried::Event(event) => {
+                    self.found(place + 1, calls);
+                    return Some(event);
+                }
             }
-            self.order.in_vain(place);
         }
+        self.found_nothing(calls);
         None
     }
 
-    // Nothing came: sleeps, where that was so for long, and tries all sockets then.
-    fn rest(&mut self)
+    fn try_speaker(&mut self, speaker: Speaker, room: &[usize; SLOTS], buf: &mut [u8]) -> Tried
+        requires { 1025 ≤ length buf.old }
+        ensures event { Tries self.old.sockets.in_use room.now (length buf.old) result self.new.sockets.in_use }
+        ensures faults { self.new.faults ≡ self.old.faults }
+        ensures order { self.new.order ≡ self.old.order }
+    {
+        let Speaker::Editor(_) = speaker else {
+            return self
+                .sockets
+                .try_speaker(&mut self.network, speaker, room, buf);
+        };
+        if !self.may_take_line() {
+            return Tried::Nothing;
+        }
+        let tried = self
+            .sockets
+            .try_speaker(&mut self.network, speaker, room, buf);
+        if let Tried::Event(_) = tried {
+            let now = self.network.micros();
+            self.pace.handed_out(now);
+        }
+        tried
+    }
+
+    // Whether a line of edits may be taken now, beside the hosts.
+    fn may_take_line(&mut self) -> bool
+        ensures in_use { self.new.sockets.in_use ≡ self.old.sockets.in_use }
+        ensures faults { self.new.faults ≡ self.old.faults }
+        ensures order { self.new.order ≡ self.old.order }
+    {
+        if !self.pace.is_timed() {
+            return true;
+        }
+        let now = self.network.micros();
+        self.pace.may_take(now, self.order.has_host_lately())
+    }
+
+    // The last of so many that were tried had something.
+    fn found(&mut self, tried: usize, calls: Calls)
+        requires some { 0 < tried }
+        requires within { tried ≤ length (plan self.old.order) }
         ensures in_use { self.new.sockets.in_use ≡ self.old.sockets.in_use }
         ensures faults { self.new.faults ≡ self.old.faults }
     {
-        if let Some(pause) = self.pause.after_vain(&self.rt) {
-            thread::sleep(&self.rt, pause);
-            self.order.try_all();
+        self.order.looked(tried, Outcome::Found);
+        self.pause = Pause::new();
+        if calls.joins {
+            self.looks.looked(true);
+        }
+    }
+
+    // None had: sleeps, where that was so for long, and tries all sockets then.
+    fn found_nothing(&mut self, calls: Calls)
+        ensures in_use { self.new.sockets.in_use ≡ self.old.sockets.in_use }
+        ensures faults { self.new.faults ≡ self.old.faults }
+    {
+        let tried = self.order.len();
+        if calls.joins {
+            self.looks.looked(false);
+        }
+        if calls.joins || calls.is_moving {
+            self.order.looked(tried, Outcome::Vain);
+            return;
+        }
+        match self.next_pause() {
+            Some(micros) => {
+                self.network.sleep(micros);
+                self.order.looked(tried, Outcome::Rests);
+            }
+            None => self.order.looked(tried, Outcome::Vain),
+        }
+    }
+
+    fn next_pause(&mut self) -> Option<u64>
+        ensures in_use { self.new.sockets.in_use ≡ self.old.sockets.in_use }
+        ensures faults { self.new.faults ≡ self.old.faults }
+        ensures order { self.new.order ≡ self.old.order }
+    {
+        let now = if self.pause.is_timed() {
+            self.network.micros()
+        } else {
+            0
+        };
+        self.pause.after_vain(now)
+    }
+
+    // What the last line of edits asked for is done.
+    fn end_line(&mut self)
+        ensures in_use { self.new.sockets.in_use ≡ self.old.sockets.in_use }
+        ensures faults { self.new.faults ≡ self.old.faults }
+    {
+        if let EditPace::Busy { .. } = self.pace {
+            let now = self.network.micros();
+            self.pace.over(now);
         }
     }
 }
 
-impl<R: Net + Clock + Print + Eprint + Drop> Ports for SocketPorts<R> {
+impl<N: Network + Drop> Ports for SocketPorts<N> {
     ghost use Rattle.std.specs.Prelude.{◌≡◌, ◌<◌, ◌≤◌, IfOk, None, length, slice_set, false};
     ghost use Rattle.std.specs.Option.{option_map};
     ghost use Rattle.block_store.specs.Faults.{Counts};
@@ -132,37 +309,35 @@ impl<R: Net + Clock + Print + Eprint + Drop> Ports for SocketPorts<R> {
 
     fn next(&mut self, room: &[usize; 64], buf: &mut [u8]) -> PortEvent {
         self.calls = self.calls.wrapping_add(1);
-        self.order.call();
-        let kept = self.sockets.send_kept(room);
+        self.end_line();
+        let calls = self.sockets.call(&mut self.network, room);
         if self.calls % CALLS_PER_TICK == 0 {
-            return PortEvent::Tick {
-                ms: self.timer.ms(&self.rt),
-            };
+            let ms = self.tick(room);
+            return PortEvent::Tick { ms };
         }
-        if kept == Sending::Joins {
+        if let Some(slot) = self.next_overdue() {
+            self.overdue &= !(1 << slot);
+            return PortEvent::End { slot };
+        }
+        if self.looks.passes(calls.joins, calls.taken) {
             return PortEvent::Nothing;
         }
-        let aside = self.sockets.go_on(&self.rt, buf);
-        match self.hand_out(room, buf) {
-            Some(event) => {
-                self.pause = Pause::new();
-                event
-            }
-            None => {
-                if kept == Sending::Done && aside == Sending::Done {
-                    self.rest();
-                }
-                PortEvent::Nothing
-            }
+        let is_moving = self.sockets.go_on(&mut self.network, buf) || calls.is_moving;
+        let calls = Calls { is_moving, ..calls };
+        match self.look(room, buf, calls) {
+            Some(event) => event,
+            None => PortEvent::Nothing,
         }
     }
 
     fn give(&mut self, slot: usize, bytes: &[u8]) -> Result<usize, PortFault> {
-        if !bytes.is_empty() {
-            self.pause = Pause::new();
-        }
-        match self.sockets.give(slot, bytes) {
-            Ok(n) => Ok(n),
+        match self.sockets.give(&mut self.network, slot, bytes) {
+            Ok(n) => {
+                if n > 0 {
+                    self.pause = Pause::new();
+                }
+                Ok(n)
+            }
             Err(PortFault) => {
                 self.faults = self.faults.wrapping_add(1);
                 Err(PortFault)
@@ -171,20 +346,26 @@ impl<R: Net + Clock + Print + Eprint + Drop> Ports for SocketPorts<R> {
     }
 
     fn close(&mut self, slot: usize) {
-        self.sockets.close(slot, &self.rt);
+        let now = self.network.micros();
+        self.overdue &= !(1 << slot);
+        self.sockets.close(slot, now);
     }
 
     fn reply(&mut self, text: &[u8]) {
-        self.sockets.reply(text);
+        self.sockets.reply(&mut self.network, text);
     }
 
     fn refresh(&mut self, config: &Config) {
-        self.sockets.refresh(&self.rt, config);
+        self.sockets
+            .refresh(&mut self.network, &mut self.speech, config);
+        let _ = self.speech.go_on(&mut self.network);
     }
 }
 
-// There is nobody to tell where it cannot be written.
-fn announce<R: Eprint>(rt: &R, control: u16) {
+fn announce(speech: &mut Speech, control: u16) {
     let address = control_address(control);
-    let _ = eprintln!(rt; "listening on {address}, control");
+    let mut line = ArrayString::<64>::new();
+    if writeln!(line, "listening on {address}, control").is_ok() {
+        speech.say(Channel::Error, line.as_bytes());
+    }
 }

@@ -1,40 +1,52 @@
 //! All sockets, and the slots that are in use.
 ghost use Rattle.std.specs.Prelude.{◌≡◌, ◌<◌, ◌≤◌, IfOk, IfSome, length, replicate, slice_index_or, slice_set, false, true, ℕ, List};
-ghost use Rattle.nvt_sockets.specs.HandsOut.{HandsOut};
+ghost use Rattle.nvt_sockets.specs.HandsOut.{Tries};
 
 use crate::aside::Asides;
 use crate::control::Control;
-use crate::host::Sending;
-use crate::hosts::Hosts;
+use crate::editor::Heard;
+use crate::hosts::{Calls, Hosts};
 use crate::listeners::Listeners;
-use crate::speaker::Speaker;
-use crate::stream::Received;
+use crate::network::{Network, Received};
+use crate::speech::Speech;
 use nvt_config::Config;
 use nvt_ports::{PortEvent, PortFault, SLOTS};
+use socket_rules::{GivenUp, Speaker};
 use std::alloc::Global;
 use std::io;
-use std::net::Net;
-use std::rt::Clock;
+
+/// What came of a try of a socket.
+#[derive(Clone, Copy)]
+pub enum Tried {
+    Nothing,
+    /// A connection came or went that no event tells of.
+    Heard,
+    Event(PortEvent),
+}
 
 /// The sockets of the ports.
 #[derive(Drop)]
-pub struct Sockets {
+pub struct Sockets<L, S> {
     /// Whether each slot is in use: open, and not closed.
     pub in_use: [bool; SLOTS],
-    control: Control,
-    listeners: Listeners,
-    hosts: Hosts,
-    asides: Asides,
+    control: Control<L, S>,
+    listeners: Listeners<L>,
+    hosts: Hosts<S>,
+    asides: Asides<S>,
 }
 
-impl Sockets {
+impl<L: Drop, S: Drop> Sockets<L, S> {
     /// Listens for lines of edits, on this port. Fails where it cannot be listened to, or memory is wanted.
-    pub fn open<R: Net>(rt: &R, alloc: Global, control: u16) -> io::Result<Sockets>
+    pub fn open<N: Network<Listener = L, Stream = S>>(
+        network: &mut N,
+        alloc: Global,
+        control: u16,
+    ) -> io::Result<Sockets<L, S>>
         ensures { IfOk result (λ sockets. sockets.in_use ≡ replicate 64 false) }
     {
         Ok(Sockets {
             in_use: [false; SLOTS],
-            control: Control::open(rt, alloc, control)?,
+            control: Control::open(network, alloc, control)?,
             listeners: Listeners::new(alloc)?,
             hosts: Hosts::new(alloc)?,
             asides: Asides::new(alloc)?,
@@ -42,98 +54,161 @@ impl Sockets {
     }
 
     /// Listens for hosts at the ports of this configuration.
-    pub fn refresh<R: Net + Print + Eprint>(&mut self, rt: &R, config: &Config)
+    pub fn refresh<N: Network<Listener = L, Stream = S>>(
+        &mut self,
+        network: &mut N,
+        speech: &mut Speech,
+        config: &Config,
+    )
         ensures { self.new.in_use ≡ self.old.in_use }
     {
-        self.listeners.refresh(rt, config);
+        self.listeners.refresh(network, speech, config);
     }
 
-    /// Sends what is kept, and answers whether more is.
-    pub fn send_kept(&mut self, room: &[usize; SLOTS]) -> Sending
+    /// A call begins: what is kept for hosts is sent, is joined with more, or waits.
+    pub fn call<N: Network<Listener = L, Stream = S>>(
+        &mut self,
+        network: &mut N,
+        room: &[usize; SLOTS],
+    ) -> Calls
         ensures { self.new.in_use ≡ self.old.in_use }
     {
-        self.hosts.send_kept(room)
+        self.hosts.call(network, room)
     }
 
-    /// Goes on with the hosts that were put aside, and answers whether something waits to be sent to them.
-    pub fn go_on(&mut self, clock: &impl Clock, scratch: &mut [u8]) -> Sending
+    /// Goes on with a host that was put aside, and answers whether something went to it.
+    pub fn go_on<N: Network<Listener = L, Stream = S>>(
+        &mut self,
+        network: &mut N,
+        scratch: &mut [u8],
+    ) -> bool
         ensures { self.new.in_use ≡ self.old.in_use }
     {
-        self.asides.go_on(clock, scratch)
+        self.asides.go_on(network, scratch)
+    }
+
+    /// Whether a host is put aside.
+    pub fn has_asides(&self) -> bool {
+        !self.asides.is_empty()
+    }
+
+    /// Closes each slot for whose host something is kept.
+    pub fn close_kept(&mut self, now: u64) {
+        for slot in 0..SLOTS {
+            if self.hosts.keeps(slot) {
+                self.close(slot, now);
+            }
+        }
     }
 
     /// Tries one socket.
-    pub fn try_speaker(
+    pub fn try_speaker<N: Network<Listener = L, Stream = S>>(
         &mut self,
+        network: &mut N,
         speaker: Speaker,
-        room: &[usize; 64],
+        room: &[usize; SLOTS],
         buf: &mut [u8],
-    ) -> Option<PortEvent>
+    ) -> Tried
         requires { 1025 ≤ length buf.old }
-        ensures { HandsOut self.old.in_use room.now (length buf.old) result self.new.in_use }
+        ensures { Tries self.old.in_use room.now (length buf.old) result self.new.in_use }
     {
         match speaker {
-            Speaker::Host(slot) => self.try_host(slot, room, buf),
-            Speaker::Port(place) => self.try_port(place),
+            Speaker::Host(slot) => self.try_host(network, slot, room, buf),
+            Speaker::Port(place) => self.try_port(network, place),
             Speaker::Control => {
-                self.control.accept();
-                None
+                if self.control.accept(network, buf) {
+                    Tried::Heard
+                } else {
+                    Tried::Nothing
+                }
             }
-            Speaker::Editor(place) => {
-                let n = self.control.take_line(place, buf)?;
-                Some(PortEvent::Line { n })
-            }
+            Speaker::Editor(place) => match self.control.take_line(network, place, buf) {
+                Heard::Nothing => Tried::Nothing,
+                Heard::Something => Tried::Heard,
+                Heard::Line(n) => Tried::Event(PortEvent::Line { n }),
+            },
         }
     }
 
-    fn try_host(&mut self, slot: usize, room: &[usize; 64], buf: &mut [u8]) -> Option<PortEvent>
-        ensures { HandsOut self.old.in_use room.now (length buf.old) result self.new.in_use }
+    fn try_host<N: Network<Listener = L, Stream = S>>(
+        &mut self,
+        network: &mut N,
+        slot: usize,
+        room: &[usize; SLOTS],
+        buf: &mut [u8],
+    ) -> Tried
+        ensures { Tries self.old.in_use room.now (length buf.old) result self.new.in_use }
     {
         if slot >= SLOTS {
-            return None;
+            return Tried::Nothing;
         }
-        let most = room[slot].min(buf.len());
-        match self.hosts.receive(slot, &mut buf[..most]) {
-            Received::Nothing => None,
-            Received::Bytes(n) => Some(PortEvent::Bytes { slot, n }),
-            Received::End | Received::Reset => Some(PortEvent::End { slot }),
+        match self.hosts.read(network, slot, room[slot], buf) {
+            Received::Nothing => Tried::Nothing,
+            Received::Bytes(n) => Tried::Event(PortEvent::Bytes { slot, n }),
+            Received::End | Received::Reset => Tried::Event(PortEvent::End { slot }),
         }
     }
 
     // A host that finds no slot free is closed at once, so that it does not wait.
-    fn try_port(&mut self, place: usize) -> Option<PortEvent>
-        ensures { (room : List ℕ) → (len : ℕ) → HandsOut self.old.in_use room len result self.new.in_use }
+    fn try_port<N: Network<Listener = L, Stream = S>>(
+        &mut self,
+        network: &mut N,
+        place: usize,
+    ) -> Tried
+        ensures { (room : List ℕ) → (len : ℕ) → Tries self.old.in_use room len result self.new.in_use }
     {
-        let (stream, port) = self.listeners.accept(place)?;
-        let slot = free_slot(&self.in_use)?;
+        let Some((stream, port)) = self.listeners.accept(network, place) else {
+            return Tried::Nothing;
+        };
+        let Some(slot) = free_slot(&self.in_use) else {
+            return Tried::Heard;
+        };
         self.hosts.open(slot, stream);
         self.in_use[slot] = true;
-        Some(PortEvent::Open { slot, port })
+        Tried::Event(PortEvent::Open { slot, port })
+    }
+
+    /// The time is this, in ms: why the host of a slot is given up, if it is. The target has ended its connection where there
+    /// is no room for it.
+    pub fn tick(&mut self, slot: usize, ms: u64, room: usize) -> Option<GivenUp>
+        requires { slot < 64 }
+        ensures { self.new.in_use ≡ self.old.in_use }
+    {
+        if self.in_use[slot] {
+            self.hosts.tick(slot, ms, room == 0)
+        } else {
+            None
+        }
     }
 
     /// Takes the first of these bytes for the host of a slot.
-    pub fn give(&mut self, slot: usize, bytes: &[u8]) -> Result<usize, PortFault>
+    pub fn give<N: Network<Listener = L, Stream = S>>(
+        &mut self,
+        network: &mut N,
+        slot: usize,
+        bytes: &[u8],
+    ) -> Result<usize, PortFault>
         requires { slot < 64 }
         ensures taken { IfOk result (λ n. n ≤ length bytes.now) }
         ensures in_use { self.new.in_use ≡ self.old.in_use }
     {
-        self.hosts.give(slot, bytes)
+        self.hosts.give(network, slot, bytes)
     }
 
     /// Closes a slot; its host is put aside until what was taken for it is sent.
-    pub fn close(&mut self, slot: usize, clock: &impl Clock)
+    pub fn close(&mut self, slot: usize, now: u64)
         requires { slot < 64 }
         ensures { self.new.in_use ≡ slice_set self.old.in_use slot false }
     {
         self.in_use[slot] = false;
-        self.asides.put(&mut self.hosts, slot, clock);
+        self.asides.put(&mut self.hosts, slot, now);
     }
 
     /// Answers the line that was handed out last.
-    pub fn reply(&mut self, text: &[u8])
+    pub fn reply<N: Network<Listener = L, Stream = S>>(&mut self, network: &mut N, text: &[u8])
         ensures { self.new.in_use ≡ self.old.in_use }
     {
-        self.control.reply(text);
+        self.control.reply(network, text);
     }
 }
 

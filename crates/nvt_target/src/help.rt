@@ -75,7 +75,12 @@ a host that is connected learns what an edit changed from its log pages.
 
 On standard error there is a line for each listener, as `listening on 127.0.0.1:4420, port 1`.
 On standard output there is `port ID: cannot listen` for a port whose address cannot be listened
-to; it is tried again at the next edit.
+to, once; it is tried again at each edit.
+
+A host is given up that connects to no controller within 30 seconds, or takes no byte of what it
+is sent for 30 seconds, 2 once its connection is ended. Of 16 connections to the control port
+the one that was silent longest gives way to a new one. At the end of its turns the program
+sends what it kept, for 2 seconds at most, and says on standard error how many hosts were given up.
 
 A first session, with a Linux host beside it:
   printf 'port add 1 ipv4 127.0.0.1 4420\\n' > EDITS

@@ -5,7 +5,7 @@ use block_store::MemoryDisk;
 use command_parts::{ReplayFault, disk_sizes, read_file_into};
 use edit_lines::configure;
 use nvt_serve::serve;
-use nvt_sockets::SocketPorts;
+use nvt_sockets::{SocketPorts, Tcp};
 use std::io::{Error, ErrorKind};
 use std::net::Net;
 use std::rt::{Clock, Files};
@@ -20,13 +20,35 @@ pub fn run<R: Files + Net + Clock + Print + Eprint + AllocGlobal>(
     arguments: &ServeArguments,
 ) -> Result<(), ReplayFault> {
     let mut target = configured(rt, arguments)?;
-    match SocketPorts::open(rt, rt.alloc(), arguments.control, target.config()) {
+    let ports = match Tcp::new(rt) {
+        Ok(network) => {
+            SocketPorts::open(network, rt.alloc(), arguments.control, target.config())
+        }
+        Err(error) => Err(error),
+    };
+    match ports {
         Ok(mut ports) => {
             serve(&mut ports, &mut target, arguments.turns);
-            Ok(())
+            finish(rt, &mut ports)
         }
-        Err(error) => Err(not_opened(&error)),
+        Err(error) => Err(fault_of(&error)),
     }
+}
+
+// What is kept is sent, and it is said how many hosts were given up.
+fn finish<R: Net + Clock + Eprint>(
+    rt: &R,
+    ports: &mut SocketPorts<Tcp<&R>>,
+) -> Result<(), ReplayFault> {
+    let given_up = match ports.finish() {
+        Ok(given_up) => given_up,
+        Err(error) => return Err(fault_of(&error)),
+    };
+    let (silent, stuck) = (given_up.without_connect, given_up.took_nothing);
+    if silent > 0 || stuck > 0 {
+        let _ = eprintln!(rt; "given up: {silent} without a Connect, {stuck} that took nothing");
+    }
+    Ok(())
 }
 
 // The target that the file of edits configures. The room of the file is freed before hosts come: since it was that
@@ -43,8 +65,7 @@ fn configured<R: Files + AllocGlobal>(
     configure(alloc, &edits, &sizes)
 }
 
-// Why the sockets are not opened.
-fn not_opened(error: &Error) -> ReplayFault {
+fn fault_of(error: &Error) -> ReplayFault {
     match error.kind() {
         ErrorKind::OutOfMemory => ReplayFault::Memory,
         _ => ReplayFault::Io,

@@ -1,5 +1,5 @@
 //! When a socket that took nothing is tried again.
-use nvt_sockets::Backoff;
+use socket_rules::Backoff;
 use testkit_tables::{Outcome, check, check_number, pass};
 
 // How many calls pass until it is tried.
@@ -8,6 +8,7 @@ fn calls_until_due(backoff: &mut Backoff) -> u64 {
         if backoff.is_due() {
             return calls;
         }
+        backoff.pass();
     }
     100
 }

@@ -2,4 +2,4 @@ use Rattle.std.proofs.Common.{◌≡◌, length}
 use Rattle.nvt_sockets.proofs.hosts.Hosts.new.Given as goal
 
 abbrev pub invariant-loop : goal.invariant-loop
-invariant-loop l = length l.hosts.items ≡ l.counter
+invariant-loop g l = length l.hosts.items ≡ l.counter

@@ -1,9 +1,0 @@
-use Rattle.std.proofs.Common.{◌≡◌}
-use Rattle.nvt_sockets.proofs.ports.SocketPorts.try_lately.Given as goal
-
--- nothing came so far
-abbrev pub invariant-loop-place : goal.invariant-loop-place
-invariant-loop-place g l = record {
-  in_use : l.self.sockets.in_use ≡ l.fn.self.sockets.in_use;
-  faults : l.self.faults ≡ l.fn.self.faults;
-}

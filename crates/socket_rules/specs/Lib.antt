@@ -1,0 +1,15 @@
+pub mod Connects
+pub mod EditPace
+pub mod Kept
+pub mod Lately
+pub mod Looks
+pub mod Outbox
+pub mod Pause
+pub mod Portion
+pub mod Sending
+pub mod Speaker
+pub mod Splitting
+pub mod Tenure
+pub mod TenureRun
+pub mod Waiting
+pub mod Watching

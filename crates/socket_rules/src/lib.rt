@@ -1,0 +1,36 @@
+//! What ports over sockets decide, without a socket: whether what is kept for a host is sent now, joined with what may
+//! come, or waits; whose turn it is; how much is read at a time; when a pause is made; where a line of edits ends; and
+//! when a host is given up. Each is exact. It knows no socket, no target and no clock: times are handed in.
+#![tactic(auto)]
+
+pub mod backoff;
+pub mod connect_watch;
+pub mod edit_pace;
+pub mod line_splitter;
+pub mod looks;
+pub mod outbox;
+pub mod pause;
+pub mod portion;
+pub mod seats;
+pub mod send_buffer;
+pub mod sending;
+pub mod speaker;
+pub mod tenure;
+pub mod timer;
+pub mod turn_order;
+
+pub use backoff::Backoff;
+pub use connect_watch::ConnectWatch;
+pub use edit_pace::EditPace;
+pub use line_splitter::{LINE_LIMIT, LineSplitter};
+pub use looks::Looks;
+pub use outbox::Outbox;
+pub use pause::Pause;
+pub use portion::{Portion, Walk, piece_len};
+pub use seats::Seats;
+pub use send_buffer::SendBuffer;
+pub use sending::{KEPT_MAX, Sending, Standing, Taking};
+pub use speaker::{EDITORS_MAX, PORTS_MAX, SPEAKERS, Speaker};
+pub use tenure::{GivenUp, Tenure, TenureStanding};
+pub use timer::Timer;
+pub use turn_order::{Outcome, TurnOrder};
