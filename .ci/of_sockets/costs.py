@@ -3,8 +3,13 @@
 import time
 
 from .host import Queue, capsule, queues
-from .served import check
 from .hosts import on_one_port
+from .kernel import ends, far_place, is_held
+from .served import Served, check, free_ports, one_disk
+from .unread import SMALL, ask_for_much, queues_of_many, until_nothing_moves
+
+# Hosts that take nothing are given up later.
+GIVEN_UP_AFTER = 29
 
 
 def idle_share(target):
@@ -28,16 +33,61 @@ def idle_hosts_cost_little(target, port):
 @on_one_port
 def a_first_command_after_silence_is_answered_soon(target, port):
     _, io = queues(target, port)
+    check_is_soon(io, 0.003, 0.5)
+
+
+def check_is_soon(io, most, silence):
+    """A Read after so many seconds of silence is answered in so many."""
     delays = []
     # Other work takes processors away now and then, so the best of some looks counts.
     for _ in range(40):
-        time.sleep(0.5)
-        began = time.monotonic()
-        io.read(0, 8)
-        delays.append(time.monotonic() - began)
-        if delays[-1] < 0.003:
+        delays.append(delay_after(io, silence))
+        if delays[-1] < most:
             return
     raise AssertionError(f"it is answered after {min(delays) * 1000:.1f} ms at best")
+
+
+def delay_after(io, silence):
+    time.sleep(silence)
+    began = time.monotonic()
+    io.read(0, 8)
+    return time.monotonic() - began
+
+
+def unread_output_costs_little(program):
+    idle, delay = what_idle_connections_cost(program)
+    [port] = free_ports(1)
+    with Served(program, one_disk(port), options=("--disks", "1")) as target:
+        *deaf, io = queues_of_many(target, port, 64, each=8, **SMALL)
+        asked = time.monotonic()
+        for queue in deaf:
+            ask_for_much(queue)
+        time.sleep(1.5)
+        until_nothing_moves(queue.peer for queue in deaf)
+        check_share(target, idle + 0.01)
+        check_is_soon(io, delay + 0.003, 0.2)
+        # After half a minute without taking a byte they are given up.
+        check(time.monotonic() < asked + GIVEN_UP_AFTER, "it was looked at for too long")
+        found = ends()
+        check(all(is_held(far_place(queue.peer), found) for queue in deaf), "a connection ended too soon")
+
+
+def what_idle_connections_cost(program):
+    """The share of a processor that 64 idle connections take, and the delay of a Read after silence."""
+    [port] = free_ports(1)
+    with Served(program, one_disk(port), options=("--disks", "1")) as target:
+        hosts = queues_of_many(target, port, 64, each=8)
+        idle = min(idle_share(target) for _ in range(2))
+        return idle, min(delay_after(hosts[-1], 0.2) for _ in range(10))
+
+
+def check_share(target, most):
+    shares = []
+    for _ in range(3):
+        shares.append(idle_share(target))
+        if shares[-1] <= most:
+            return
+    check(False, f"63 with unread output take {min(shares):.1%} of a processor, more than {most:.1%}")
 
 
 @on_one_port
@@ -60,5 +110,6 @@ def serve_many(io, rounds):
 TESTS = [
     idle_hosts_cost_little,
     a_first_command_after_silence_is_answered_soon,
+    unread_output_costs_little,
     memory_stays_the_same,
 ]

@@ -2,10 +2,11 @@
 
 import struct
 
-from .served import NQN, check, check_equal, received
+from .served import NQN, SECONDS, check, check_equal, received
 
 IC_REQ = struct.pack("<BBBBI", 0, 0, 128, 0, 128) + bytes(120)
 HOST = b"nqn.2026-01.test:h1"
+DISCOVERY = b"nqn.2014-08.org.nvmexpress.discovery"
 ANY_CONTROLLER = 0xFFFF
 LAST = 4
 
@@ -22,23 +23,41 @@ def command(opcode, cid, nsid=0, length=0, kind=0x5A, words=b""):
     return head + struct.pack("<QIBBBB", 0, length, 0, 0, 0, kind) + words.ljust(24, b"\0")
 
 
-class Queue:
-    """A connection with a queue of a controller."""
+def connect_data(controller, subsystem, host):
+    """The data of a Connect."""
+    data = bytes(15) + b"\1" + struct.pack("<H", controller) + bytes(238)
+    return data + subsystem.ljust(256, b"\0") + host.ljust(256, b"\0") + bytes(256)
 
-    def __init__(self, served, port, qid=0, controller=ANY_CONTROLLER):
-        self.peer = served.connect(port)
+
+def initialized(served, port, buffer=None, segment=None, seconds=SECONDS):
+    """A connection whose ICReq was answered, and which waits for at most so many seconds."""
+    peer = served.connect(port, buffer, segment)
+    peer.settimeout(seconds)
+    peer.sendall(IC_REQ)
+    check_equal("the ICResp", received(peer, 128)[:8], struct.pack("<BBBBI", 1, 0, 128, 0, 128))
+    return peer
+
+
+class Queue:
+    """A connection with a queue of a controller, of this SQSIZE, with a Keep Alive Timer of so many milliseconds."""
+
+    def __init__(self, served, port, qid=0, controller=ANY_CONTROLLER, size=31, kato=0, **more):
+        """More: the `subsystem`, `buffer`, `segment` and `seconds`, where they are not the usual ones."""
+        subsystem = more.pop("subsystem", NQN)
+        self.peer = initialized(served, port, **more)
         self.cid = 0
-        self.peer.sendall(IC_REQ)
-        check_equal("the ICResp", received(self.peer, 128)[:8], struct.pack("<BBBBI", 1, 0, 128, 0, 128))
-        words = struct.pack("<HHHHI", 0, qid, 31, 0, 0)
-        data = bytes(15) + b"\1" + struct.pack("<H", controller) + bytes(238)
-        data += NQN.ljust(256, b"\0") + HOST.ljust(256, b"\0") + bytes(256)
+        self.qid = qid
+        self.size = size
+        # How many responses came.
+        self.responses = 0
+        words = struct.pack("<HHHHI", 0, qid, size, 0, kato)
+        data = connect_data(controller, subsystem, HOST)
         status, result, _ = self.answer(command(0x7F, self.next(), 1, 1024, 1, words), data)
         check_equal("the status of the Connect", status, 0)
         self.controller = result & 0xFFFF
 
     def next(self):
-        self.cid = (self.cid + 1) % 32
+        self.cid = (self.cid + 1) % (self.size + 1)
         return self.cid
 
     def answer(self, entry, data=b""):
@@ -51,6 +70,7 @@ class Queue:
                 returned += pdu[pdu[3] :]
             elif kind == 5:
                 result, _, _, status = struct.unpack("<QIHH", pdu[8:24])
+                self.responses += 1
                 return status, result, returned
             else:
                 raise AssertionError(f"a PDU of type {kind} comes")
@@ -77,8 +97,7 @@ class Queue:
         return data
 
     def reading(self, block, blocks):
-        words = struct.pack("<QH", block, blocks - 1)
-        return command(2, self.next(), 1, blocks * 512, 0x5A, words)
+        return io_command(2, self.next(), block, blocks)
 
     def write(self, block, data):
         """Writes blocks, whose data goes in the capsule."""
@@ -86,15 +105,32 @@ class Queue:
         entry = command(1, self.next(), 1, len(data), 1, words)
         check_equal("the status of a Write", self.answer(entry, data)[0], 0)
 
+    def page(self, log, length):
+        """So many bytes of a log page."""
+        status, _, data = self.answer(page_command(self.next(), log, length))
+        check_equal("the status of a Get Log Page", status, 0)
+        check_equal("the length of a log page", len(data), length)
+        return data
+
     def close(self):
         self.peer.close()
 
 
-def queues(served, port):
-    """The admin queue of a new controller that is ready, and an I/O queue of it."""
+def page_command(cid, log, length):
+    """A Get Log Page of so many bytes."""
+    return command(2, cid, 0, length, 0x5A, struct.pack("<I", log | (length // 4 - 1) << 16))
+
+
+def io_command(opcode, cid, block, blocks):
+    """A Read (2) or a Write (1) of so many blocks, whose data do not go in the capsule."""
+    return command(opcode, cid, 1, blocks * 512, 0x5A, struct.pack("<QH", block, blocks - 1))
+
+
+def queues(served, port, **kind):
+    """The admin queue of a new controller that is ready, and an I/O queue of this kind."""
     admin = Queue(served, port)
     admin.enable()
-    io = Queue(served, port, 1, admin.controller)
+    io = Queue(served, port, 1, admin.controller, **kind)
     # Its connection stays open as long as the other.
     io.admin = admin
     return admin, io

@@ -4,7 +4,7 @@ import socket
 import time
 
 from .host import Queue
-from .served import NQN, SECONDS, Served, check, check_equal, eventually, free_ports, is_closed, one_disk
+from .served import NQN, SECONDS, Served, check, check_equal, free_ports, one_disk
 
 PORT_2 = b"port add 2 ipv4 127.0.0.1 %d"
 # A line that is refused, with its reply.
@@ -47,19 +47,6 @@ def listeners_are_named(program):
         named = sorted(target.err().split(b"\n")[:-1])
         control = b"listening on 127.0.0.1:%d, control" % target.control
         check_equal("standard error", named, sorted([control, b"listening on 127.0.0.1:%d, port 1" % port]))
-
-
-def a_port_that_cannot_be_listened_to_is_tried_again(program):
-    with socket.create_server(("127.0.0.1", 0)) as taken:
-        port = taken.getsockname()[1]
-        with Served(program, one_disk(port)) as target:
-            editor = target.editor()
-            check_equal("a reply", editor.done(b"host add " + NQN), b"ok")
-            check_equal("standard output", target.out(), b"port 1: cannot listen\n" * 2)
-            taken.close()
-            check_equal("a reply", editor.done(b"host del " + NQN), b"ok")
-            Queue(target, port).close()
-            check_equal("standard output", target.out(), b"port 1: cannot listen\n" * 2)
 
 
 def an_address_that_is_none_cannot_be_listened_to(program):
@@ -173,22 +160,11 @@ def flood(peer, line):
             time.sleep(0.01)
 
 
-def more_editors_than_there_is_room_for_are_closed(program):
-    with served(program) as target:
-        editors = [target.editor() for _ in range(16)]
-        for editor in editors:
-            check_equal("a reply", editor.edit(b""), b"line 0 Empty")
-        check(is_closed(target.connect(target.control)), "another connection is not closed")
-        editors[3].peer.close()
-        eventually(lambda: check_equal("one in its place", target.editor().edit(b""), b"line 0 Empty"))
-
-
 TESTS = [
     a_refused_line_of_edits_ends_the_program,
     so_many_turns_are_served,
     a_control_port_that_is_taken_ends_the_program,
     listeners_are_named,
-    a_port_that_cannot_be_listened_to_is_tried_again,
     an_address_that_is_none_cannot_be_listened_to,
     ports_come_move_and_go,
     each_line_is_answered,
@@ -197,5 +173,4 @@ TESTS = [
     one_that_sends_no_more_gets_its_replies,
     several_are_answered_each_on_its_own,
     one_that_reads_no_reply_stalls_nobody,
-    more_editors_than_there_is_room_for_are_closed,
 ]

@@ -10,6 +10,8 @@ from pathlib import Path
 # How long anything is waited for.
 SECONDS = 10
 NQN = b"nqn.2026-01.test:a"
+# What a segment has on Ethernet.
+ETHERNET = 1448
 
 
 def check(holds, what):
@@ -59,19 +61,21 @@ def one_disk(service, blocks=2048):
 
 
 class Served:
-    """`nvt_target run` on these edits, until the block ends."""
+    """`nvt_target run` on these edits, until the block ends. What it prints goes to files of its folder, or to others
+    that are named."""
 
-    def __init__(self, program, edits, control=None, options=(), turns=2**64 - 1):
+    def __init__(self, program, edits, control=None, options=(), turns=2**64 - 1, out=None, err=None):
         self.control = control or free_ports(1)[0]
         self.folder = tempfile.TemporaryDirectory(prefix="sockets-")
         Path(self.folder.name, "EDITS").write_bytes(b"".join(line + b"\n" for line in edits))
         words = ["nvt_target", "run", "EDITS", "--control", str(self.control)]
         self.words = [*words, "--turns", str(turns), *options]
         self.program = program
+        self.files = out or self.path("out"), err or self.path("err")
         self.process = None
 
     def __enter__(self):
-        with open(self.path("out"), "wb") as out, open(self.path("err"), "wb") as err:
+        with open(self.files[0], "wb") as out, open(self.files[1], "wb") as err:
             self.process = subprocess.Popen(
                 self.words,
                 executable=self.program,
@@ -96,21 +100,23 @@ class Served:
     def err(self):
         return Path(self.path("err")).read_bytes()
 
-    def ended(self):
+    def ended(self, seconds=SECONDS):
         """The exit status of a program that ends by itself."""
-        return self.process.wait(SECONDS)
+        try:
+            return self.process.wait(seconds)
+        except subprocess.TimeoutExpired:
+            raise AssertionError(f"the program does not end in {seconds} seconds") from None
 
     def is_running(self):
         return self.process.poll() is None
 
-    def connect(self, port):
-        """A connection to a port that it listens to, or will in a moment."""
+    def connect(self, port, buffer=None, segment=None):
+        """A connection to a port that it listens to, or will in a moment; with a buffer of so many bytes for what
+        comes, and so many bytes in a segment, where they are named."""
         until = time.monotonic() + SECONDS
         while True:
             try:
-                peer = socket.create_connection(("127.0.0.1", port), SECONDS)
-                peer.setsockopt(socket.IPPROTO_TCP, socket.TCP_NODELAY, 1)
-                return peer
+                return connected(port, buffer, segment)
             except ConnectionRefusedError:
                 check(self.is_running(), f"the program ended: {self.err().decode()}")
                 check(time.monotonic() < until, f"nobody listens to port {port}")
@@ -131,6 +137,23 @@ class Served:
         return int(pages) * os.sysconf("SC_PAGE_SIZE")
 
 
+def connected(port, buffer=None, segment=None):
+    """A connection to a port of this machine. Where segments are short, as on Ethernet, little is kept in between."""
+    peer = socket.socket()
+    try:
+        if buffer:
+            peer.setsockopt(socket.SOL_SOCKET, socket.SO_RCVBUF, buffer)
+        if segment:
+            peer.setsockopt(socket.IPPROTO_TCP, socket.TCP_MAXSEG, segment)
+        peer.settimeout(SECONDS)
+        peer.connect(("127.0.0.1", port))
+        peer.setsockopt(socket.IPPROTO_TCP, socket.TCP_NODELAY, 1)
+    except OSError:
+        peer.close()
+        raise
+    return peer
+
+
 class Editor:
     """A connection for lines of edits."""
 
@@ -144,7 +167,7 @@ class Editor:
     def reply(self):
         """The next line that comes, without its LF; nothing where the connection is closed."""
         while b"\n" not in self.held:
-            data = self.peer.recv(65536)
+            data = piece_of(self.peer, 65_536)
             if not data:
                 check(not self.held, f"a reply without LF: {self.held!r}")
                 return None
@@ -164,14 +187,21 @@ class Editor:
         return answer
 
 
+def piece_of(peer, count):
+    """Up to so many bytes that come, or none where the connection ends."""
+    try:
+        return peer.recv(count)
+    except ConnectionResetError:
+        return b""
+    except TimeoutError:
+        raise AssertionError(f"nothing comes for {peer.gettimeout():.1f} seconds") from None
+
+
 def received(peer, count):
     """So many bytes that come, or fewer where the connection ends before."""
     data = bytearray()
     while len(data) < count:
-        try:
-            piece = peer.recv(count - len(data))
-        except ConnectionResetError:
-            break
+        piece = piece_of(peer, count - len(data))
         if not piece:
             break
         data += piece
@@ -180,7 +210,4 @@ def received(peer, count):
 
 def is_closed(peer):
     """Whether the other side closes the connection, and sends nothing before."""
-    try:
-        return peer.recv(1) == b""
-    except ConnectionResetError:
-        return True
+    return piece_of(peer, 1) == b""
