@@ -1,1 +1,2 @@
 pub mod HandsOut
+pub mod Host

@@ -5,25 +5,16 @@ use crate::host::Host;
 use crate::hosts::Hosts;
 use crate::network::{Network, Received};
 use nvt_ports::SLOTS;
+use socket_rules::{Linger, Lingering, LingeringHost};
 use std::alloc::{AllocError, Global};
-
-// For how long a socket is kept aside.
-const MICROS: u64 = 2_000_000;
-
-#[derive(Clone, Copy, PartialEq, Eq)]
-enum Phase {
-    /// What is kept is sent.
-    Sending,
-    /// Its sending side is shut, and what comes is passed over.
-    Draining,
-}
 
 /// A host that was put aside, or none.
 #[derive(Drop)]
 struct Aside<S> {
     host: Host<S>,
-    phase: Phase,
-    until: u64,
+    linger: Linger,
+    // Whether it was told that nothing more is sent.
+    is_shut: bool,
 }
 
 impl<S: Drop> Aside<S> {
@@ -34,25 +25,23 @@ impl<S: Drop> Aside<S> {
         now: u64,
         scratch: &mut [u8],
     ) -> bool {
-        if now >= self.until || !self.host.has_socket() {
-            self.host.forget();
-            return false;
+        let host = LingeringHost {
+            has_socket: self.host.has_socket(),
+            keeps: self.host.keeps(),
+            is_ended: self.host.is_ended(),
+        };
+        match self.linger.at(now, host) {
+            Lingering::Over => self.host.forget(),
+            Lingering::Sends => return self.host.call(network, true).is_moving,
+            Lingering::Drains => self.drain(network, scratch),
         }
-        if self.host.keeps() {
-            return self.host.call(network, true).is_moving;
-        }
-        if self.host.is_ended() {
-            self.host.forget();
-            return false;
-        }
-        self.drain(network, scratch);
         false
     }
 
     fn drain<N: Network<Stream = S>>(&mut self, network: &mut N, scratch: &mut [u8]) {
-        if self.phase == Phase::Sending {
+        if !self.is_shut {
             self.host.shut(network);
-            self.phase = Phase::Draining;
+            self.is_shut = true;
         }
         match self.host.receive(network, scratch) {
             Received::Nothing | Received::Bytes(_) => {}
@@ -84,8 +73,8 @@ impl<S: Drop> Asides<S> {
         for _ in 0..SLOTS {
             asides.push(Aside {
                 host: Host::new(alloc)?,
-                phase: Phase::Sending,
-                until: 0,
+                linger: Linger::begun(0),
+                is_shut: false,
             })?;
         }
         Ok(Asides {
@@ -104,8 +93,8 @@ impl<S: Drop> Asides<S> {
         let place = if free < SLOTS { free } else { self.oldest };
         let aside = &mut self.asides[place];
         hosts.swap_out(slot, &mut aside.host);
-        aside.phase = Phase::Sending;
-        aside.until = now.saturating_add(MICROS);
+        aside.linger = Linger::begun(now);
+        aside.is_shut = false;
         self.oldest = (place + 1) % SLOTS;
         self.taken |= 1 << place;
     }

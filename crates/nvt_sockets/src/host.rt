@@ -1,5 +1,5 @@
 //! The host of a slot: its socket, and what it is to be sent.
-ghost use Rattle.std.specs.Prelude.{◌≤◌, ◌≡◌, ◌≢◌, IfOk, length};
+ghost use Rattle.std.specs.Prelude.{◌≤◌, ◌<◌, ◌≡◌, ◌≢◌, IfOk, length, min, true};
 ghost use Rattle.nvt_sockets.specs.HandsOut.{FitsPiece};
 
 use crate::network::{Network, Received};
@@ -49,6 +49,8 @@ pub struct Host<S> {
 }
 
 impl<S: Drop> Host<S> {
+    ghost use Rattle.nvt_sockets.specs.Host.{has_socket};
+    ghost use Rattle.socket_rules.specs.Kept.{room_of};
     ghost use Rattle.socket_rules.specs.Outbox.{standing_of};
     ghost use Rattle.socket_rules.specs.Sending.{Decides};
 
@@ -87,7 +89,9 @@ impl<S: Drop> Host<S> {
     }
 
     /// Whether it is there, and may read what it is sent.
-    pub fn has_socket(&self) -> bool {
+    pub fn has_socket(&self) -> bool
+        ensures { result ≡ has_socket self.now.peer }
+    {
         matches!(self.peer, Peer::Open(_) | Peer::Ended(_))
     }
 
@@ -156,7 +160,9 @@ impl<S: Drop> Host<S> {
         network: &mut N,
         bytes: &[u8],
     ) -> Result<usize, PortFault>
-        ensures { IfOk result (λ n. n ≤ length bytes.now) }
+        ensures within { IfOk result (λ n. n ≤ length bytes.now) }
+        ensures kept { has_socket self.old.peer ≡ true → 0 < length bytes.now → length bytes.now < 65536
+            → result ≡ Ok (min (length bytes.now) (room_of self.old.outbox.kept)) }
     {
         match &self.peer {
             Peer::Absent => return Ok(0),
@@ -183,7 +189,9 @@ impl<S: Drop> Host<S> {
         network: &mut N,
         bytes: &[u8],
     ) -> Result<usize, PortFault>
-        ensures { IfOk result (λ n. n ≤ length bytes.now) }
+        ensures within { IfOk result (λ n. n ≤ length bytes.now) }
+        ensures kept { 0 < length bytes.now → length bytes.now < 65536
+            → result ≡ Ok (min (length bytes.now) (room_of self.old.outbox.kept)) }
     {
         match self.outbox.taking(bytes.len()) {
             Taking::Nothing => Ok(0),

@@ -2,6 +2,7 @@ pub mod Connects
 pub mod EditPace
 pub mod Kept
 pub mod Lately
+pub mod Lingering
 pub mod Looks
 pub mod Outbox
 pub mod Pause

@@ -6,7 +6,9 @@
 pub mod backoff;
 pub mod connect_watch;
 pub mod edit_pace;
+mod front;
 pub mod line_splitter;
+pub mod lingering;
 pub mod looks;
 pub mod outbox;
 pub mod pause;
@@ -23,6 +25,7 @@ pub use backoff::Backoff;
 pub use connect_watch::ConnectWatch;
 pub use edit_pace::EditPace;
 pub use line_splitter::{LINE_LIMIT, LineSplitter};
+pub use lingering::{Linger, Lingering, LingeringHost};
 pub use looks::Looks;
 pub use outbox::Outbox;
 pub use pause::Pause;

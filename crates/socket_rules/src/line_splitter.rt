@@ -2,6 +2,7 @@
 ghost use Rattle.std.specs.Prelude.{◌≡◌, ◌+◌, ◌-◌, ◌<◌, ◌≤◌, ◌==◌, ◌++◌, length, take, drop, min, vec_len, vec_capacity, IfOk, IfSome, true};
 ghost use Rattle.socket_rules.specs.Splitting.{line_end};
 
+use crate::front::remove_first;
 use std::alloc::{AllocError, Global};
 use std::marker::Model;
 
@@ -135,15 +136,4 @@ fn line_end(bytes: &[u8]) -> Option<usize>
     ensures within { IfSome result (λ at. at < length bytes.now) }
 {
     bytes.iter().position(|b| *b == LF)
-}
-
-fn remove_first(bytes: &mut Vec<u8>, n: usize)
-    requires { n ≤ vec_len bytes.old }
-    ensures items { bytes.new.items ≡ drop n bytes.old.items }
-    ensures len { vec_len bytes.new + n ≡ vec_len bytes.old }
-    ensures capacity { vec_capacity bytes.new ≡ vec_capacity bytes.old }
-{
-    let left = bytes.len() - n;
-    bytes.copy_within(n.., 0);
-    bytes.truncate(left);
 }

@@ -1,6 +1,7 @@
 //! Bytes that were taken and wait to be sent.
 ghost use Rattle.std.specs.Prelude.{◌≡◌, ◌+◌, ◌*◌, ◌≤◌, ◌==◌, length, take, min, IfOk};
 
+use crate::front::remove_first;
 use std::alloc::{AllocError, Global};
 use std::marker::Model;
 
@@ -88,9 +89,7 @@ impl SendBuffer {
     {
         self.start += n;
         if self.start == self.bytes.len() || self.capacity - self.start <= self.start {
-            let left = self.bytes.len() - self.start;
-            self.bytes.copy_within(self.start.., 0);
-            self.bytes.truncate(left);
+            remove_first(&mut self.bytes, self.start);
             self.start = 0;
         }
     }
