@@ -143,7 +143,7 @@ class Counted:
         until_turns_end(self.target, self.port)
         check_equal("the exit status", self.target.ended(), 0)
         last = self.target.err().split(b"\n")[-2]
-        check_equal("the last line", last, b"given up: 2 without a Connect, 1 that took nothing")
+        check_equal("the last line", last, b"given up: 2 without a Connect, 1 that took nothing, 0 that were gone")
 
 
 def hosts_that_do_not_go_on_are_given_up(program):

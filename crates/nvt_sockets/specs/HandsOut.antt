@@ -15,6 +15,7 @@ FitsPiece len read.Nothing = Unit {0}
 FitsPiece len (read.Bytes n) = n ≤ len
 FitsPiece len read.End = Unit {0}
 FitsPiece len read.Reset = Unit {0}
+FitsPiece len read.Gone = Unit {0}
 
 -- a line that is no longer than the buffer
 abbrev pub FitsLine : ℕ → Heard → Type 0

@@ -45,7 +45,7 @@ impl<S: Drop> Aside<S> {
         }
         match self.host.receive(network, scratch) {
             Received::Nothing | Received::Bytes(_) => {}
-            Received::End | Received::Reset => self.host.forget(),
+            Received::End | Received::Reset | Received::Gone => self.host.forget(),
         }
     }
 }

@@ -100,7 +100,7 @@ impl<S: Drop> Editor<S> {
             Received::Bytes(n) => {
                 self.lines.receive(&buf[..n]);
             }
-            Received::End | Received::Reset => self.close(),
+            Received::End | Received::Reset | Received::Gone => self.close(),
         }
         true
     }

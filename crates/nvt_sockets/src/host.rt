@@ -135,7 +135,7 @@ impl<S: Drop> Host<S> {
         };
         match received {
             Received::End => self.end(),
-            Received::Reset => self.reset(),
+            Received::Reset | Received::Gone => self.reset(),
             Received::Nothing | Received::Bytes(_) => {}
         }
         received

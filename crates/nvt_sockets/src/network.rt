@@ -16,6 +16,8 @@ pub enum Received {
     End,
     /// Nothing is to be read or sent any more.
     Reset,
+    /// The same, since the peer did not answer when it was asked whether it is there.
+    Gone,
 }
 
 /// Where a line is printed.

@@ -33,6 +33,8 @@ pub struct GivenUpHosts {
     pub without_connect: u64,
     /// Those that took nothing for too long.
     pub took_nothing: u64,
+    /// Those that were gone without a word.
+    pub gone: u64,
 }
 
 impl GivenUpHosts {
@@ -97,6 +99,7 @@ impl<N: Network + Drop> SocketPorts<N> {
             given_up: GivenUpHosts {
                 without_connect: 0,
                 took_nothing: 0,
+                gone: 0,
             },
             overdue: 0,
             calls: 0,
@@ -117,7 +120,10 @@ impl<N: Network + Drop> SocketPorts<N> {
         self.finish_asides(now.saturating_add(END_MICROS));
         self.speech.go_on(&mut self.network)?;
         if self.speech.is_whole() {
-            Ok(self.given_up)
+            Ok(GivenUpHosts {
+                gone: self.sockets.gone,
+                ..self.given_up
+            })
         } else {
             Err(io::Error::from(io::ErrorKind::WriteZero))
         }

@@ -29,6 +29,8 @@ pub enum Tried {
 pub struct Sockets<L, S> {
     /// Whether each slot is in use: open, and not closed.
     pub in_use: [bool; SLOTS],
+    /// How many hosts were gone without a word.
+    pub gone: u64,
     control: Control<L, S>,
     listeners: Listeners<L>,
     hosts: Hosts<S>,
@@ -46,6 +48,7 @@ impl<L: Drop, S: Drop> Sockets<L, S> {
     {
         Ok(Sockets {
             in_use: [false; SLOTS],
+            gone: 0,
             control: Control::open(network, alloc, control)?,
             listeners: Listeners::new(alloc)?,
             hosts: Hosts::new(alloc)?,
@@ -146,6 +149,10 @@ impl<L: Drop, S: Drop> Sockets<L, S> {
             Received::Nothing => Tried::Nothing,
             Received::Bytes(n) => Tried::Event(PortEvent::Bytes { slot, n }),
             Received::End | Received::Reset => Tried::Event(PortEvent::End { slot }),
+            Received::Gone => {
+                self.gone = self.gone.saturating_add(1);
+                Tried::Event(PortEvent::End { slot })
+            }
         }
     }
 

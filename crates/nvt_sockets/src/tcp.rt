@@ -56,6 +56,7 @@ impl<R: Net + Clock + Drop> Network for Tcp<R> {
             Ok(0) => Received::End,
             Ok(n) => Received::Bytes(n),
             Err(error) if is_passing(&error) => Received::Nothing,
+            Err(error) if is_unanswered(&error) => Received::Gone,
             Err(_) => Received::Reset,
         }
     }
@@ -92,4 +93,12 @@ impl<R: Net + Clock + Drop> Network for Tcp<R> {
 // Whether a call is only to be made again.
 fn is_passing(error: &io::Error) -> bool {
     matches!(error.kind(), ErrorKind::WouldBlock | ErrorKind::Interrupted)
+}
+
+// Whether the peer did not answer, or is not to be reached.
+fn is_unanswered(error: &io::Error) -> bool {
+    matches!(
+        error.kind(),
+        ErrorKind::TimedOut | ErrorKind::HostUnreachable | ErrorKind::NetworkUnreachable
+    )
 }

@@ -44,9 +44,15 @@ fn finish<R: Net + Clock + Eprint>(
         Ok(given_up) => given_up,
         Err(error) => return Err(fault_of(&error)),
     };
-    let (silent, stuck) = (given_up.without_connect, given_up.took_nothing);
-    if silent > 0 || stuck > 0 {
-        let _ = eprintln!(rt; "given up: {silent} without a Connect, {stuck} that took nothing");
+    let (silent, stuck, gone) = (
+        given_up.without_connect,
+        given_up.took_nothing,
+        given_up.gone,
+    );
+    if silent > 0 || stuck > 0 || gone > 0 {
+        let _ = eprintln!(rt;
+            "given up: {silent} without a Connect, {stuck} that took nothing, {gone} that were gone"
+        );
     }
     Ok(())
 }
