@@ -1,5 +1,6 @@
 """Checks of a crate with some of its bodies replaced, and what they say."""
 
+import json
 import os
 import re
 import shutil
@@ -8,13 +9,10 @@ import tempfile
 import threading
 from dataclasses import dataclass
 
-from kept import put_back
-
 PARTS = ("src", "specs", "proofs")
 # rattle's exit statuses: the crate is proved, and it is not.
 PROVED, REFUSED = 0, 1
 FUNCTION = re.compile(r"^fn (\S+): (no proof|not proved|could not tell)(.*)$")
-CALLS = re.compile(r"it calls `(\S+?)`")
 # Not the prover: the compiler, or antt where it cannot read what was edited.
 UNREAD = re.compile(r"^error(\[|:)|^(\./)?(src|specs)/\S+:\d+:\d+: error|^\S+\.rt:\d+:\d+: error")
 # A proof file that names what an edit took away says little of the contract.
@@ -105,48 +103,54 @@ class Checker:
         words += ["--antt-project", f"{self.kit}/rattle/logic/antt-project.json", "--logic-built", f"{self.kit}/logic_built"]
         return [*words, "--links", f"{crate.name}=", "--jobs", "1"]
 
-    def check(self, crate, sources, changed, only=()):
-        """Checks a copy of the crate with these sources, in which the functions `changed` are not its own; of it only
-        the named functions and what they call, where there are any. Returns the exit status and what was printed."""
+    def check(self, crate, sources, only=(), proofs={}):
+        """Checks a copy of the crate with these sources and files of proofs; of it only the named functions and what
+        they call, where there are any. Returns the exit status and what was printed."""
         with tempfile.TemporaryDirectory(prefix=f"{crate.name}-", dir=self.scratch) as room:
             for part in PARTS:
                 if os.path.isdir(f"{crate.folder}/{part}"):
                     shutil.copytree(f"{crate.folder}/{part}", f"{room}/{part}")
-            for path, text in sources.items():
+            for path, text in {**sources, **proofs}.items():
+                os.makedirs(os.path.dirname(f"{room}/{path}"), exist_ok=True)
                 with open(f"{room}/{path}", "w", encoding="utf-8") as it:
                     it.write(text)
             words = [*self.words(crate), "--incremental", self.kept(crate)]
-            for path in only:
-                words += ["--only", path]
-            with put_back(self.kept(crate), crate.name, changed, self.scratch):
-                return self.run(crate, words, room)
-
-    def compiler_line(self, crate, sources):
-        """Returns the first line in which the compiler refuses the crate with these sources, or nothing."""
-        _, lines = self.check(crate, sources, (), [""])
-        if any(re.match(r"only=\d+ ", it) for it in lines):
-            return ""
-        return next((it for it in lines if "error" in it), lines[-1])
+            return self.run(crate, [*words, *(it for path in only for it in ("--only", path))], room)
 
     def run(self, crate, words, room):
         with tempfile.TemporaryFile("w+", errors="replace") as said:
             ran = subprocess.Popen(words, cwd=room, stdin=subprocess.DEVNULL, stdout=said, stderr=subprocess.STDOUT)
             _, status, used = os.wait4(ran.pid, 0)
             ran.returncode = os.waitstatus_to_exitcode(status)
-            self.seconds[crate.name] = self.seconds.get(crate.name, 0) + used.ru_utime + used.ru_stime
+            with self.copying:
+                self.seconds[crate.name] = self.seconds.get(crate.name, 0) + used.ru_utime + used.ru_stime
             said.seek(0)
             return ran.returncode, said.read().split("\n")
 
 
+def proved(lines):
+    """Returns the printed names of the functions that are proved."""
+    return [it[1] for it in map(re.compile(r"fn (\S+): proved").match, lines) if it]
+
+
+def compiled(crate):
+    """Returns the printed names of the functions of a built library."""
+    file = f"{crate.folder}/out/rlib/{crate.name}.rlib/toolchain/mir.json"
+    if not os.path.isfile(file):
+        return []
+    with open(file, encoding="utf-8") as it:
+        return [name for name, _ in json.load(it)]
+
+
 def failures(crate, lines):
-    """Returns, by the printed name of each function that is not proved at a goal of its own, those that it calls
-    and that are not proved."""
+    """Returns the printed names of the functions that are not proved at a goal of their own: that a function calls one
+    which is not proved says nothing."""
     proofs = {}
     for line in lines:
         at = re.match(r"(?:\./)?proofs/(\S+)/[^/\s]+:\d+:\d+: error: (.*)", line)
         if at and not NAMES.search(at[2]):
             proofs[at[1]] = line
-    found = {}
+    found = []
     for line in lines:
         said = FUNCTION.match(line)
         if not said:
@@ -154,7 +158,7 @@ def failures(crate, lines):
         folder = said[1].removeprefix(f"{crate}::").replace("::", "/")
         is_own = "did not prove" in said[3] if said[2] == "no proof" else said[2] == "not proved" and folder in proofs
         if is_own:
-            found[said[1]] = CALLS.findall(said[3])
+            found.append(said[1])
     return found
 
 

@@ -1,9 +1,9 @@
 """Edits that turn a right body into a wrong one: how a file of one is read, and where it changes what."""
 
 import os
-from dataclasses import dataclass, field
+from dataclasses import dataclass
 
-from source import blanked, calls_in, functions_of
+from source import functions_of, with_attributes
 
 
 class BadEdit(Exception):
@@ -20,24 +20,20 @@ class Change:
 @dataclass
 class Edit:
     """A wrong body. `promise` is the main promise that it would break, or empty: such an edit is tried always.
-    `function` is the one whose body it changes, or None where it changes more than one, or what is no function;
-    `calls` are what that function's body may call, before the edit and after it, and `new_calls` those of them that
-    stand in a new text and not in the old one."""
+    `function` is the one whose body it changes, or None where it changes more than one, or what is no function."""
 
     crate: str
     name: str
     changes: list
     promise: str = ""
     function: object = None
-    calls: frozenset = field(default_factory=frozenset)
-    new_calls: frozenset = field(default_factory=frozenset)
 
     def label(self):
         return f"{self.crate}/{self.name}"
 
     def lines(self):
-        """Returns what the edit says, a line for each part of it."""
-        return [line for it in self.changes for line in (f"file {it.file}", f"old {it.old}", f"new {it.new}")]
+        """Returns what the edit says, but for the file, a line for each part of it."""
+        return [line for it in self.changes for line in (f"old {it.old}", f"new {it.new}")]
 
 
 def read_into(edit, text):
@@ -96,20 +92,22 @@ def function_at(change, text):
     return max(inside, key=lambda it: it.body, default=None)
 
 
-def find_function(edit, sources):
-    """Finds the one function that the edit changes, if there is one."""
-    found, calls, new_calls = set(), frozenset(), frozenset()
+def places(edit, sources):
+    """Returns where each of the edit's changes lies: a file with the changes before it made, and the place of the
+    function in it, or None."""
+    found = []
     for n, change in enumerate(edit.changes):
-        text = text_of(apply(edit.changes[:n], sources), change.file)
-        if text.count(change.old) != 1:
-            raise BadEdit(f"an 'old:' text stands in {change.file} {text.count(change.old)} times, and not once")
-        place = function_at(change, text)
-        found.add(place.function if place else None)
-        if place:
-            calls |= calls_in(blanked(text)[place.body : place.end]) | calls_in(change.new)
-            new_calls |= calls_in(change.new) - calls_in(change.old)
-    if len(found) == 1:
-        edit.function, edit.calls, edit.new_calls = found.pop(), calls, new_calls
+        apply(edit.changes[: n + 1], sources)
+        text = apply(edit.changes[:n], sources)[change.file]
+        found.append((text, function_at(change, text)))
+    return found
+
+
+def edited_texts(edit, sources):
+    """Returns the texts of the functions that the edit changes, as they stand before it."""
+    texts = [text_of(sources, it.file) for it in edit.changes]
+    found = [(text, function_at(change, text)) for change, text in zip(edit.changes, texts) if change.old in text]
+    return [*dict.fromkeys(text[with_attributes(text, it) : it.end] for text, it in found if it)]
 
 
 def read_edits(crate, folder, sources):
@@ -122,7 +120,8 @@ def read_edits(crate, folder, sources):
                 raise BadEdit("an edit is a file whose name ends in .edit")
             with open(f"{folder}/{name}", encoding="utf-8") as it:
                 read_into(edit, it.read())
-            find_function(edit, sources)
+            found = {it.function if it else None for _, it in places(edit, sources)}
+            edit.function = found.pop() if len(found) == 1 else None
             edits.append(edit)
         except (BadEdit, OSError, UnicodeDecodeError) as why:
             bad.append((edit, str(why)))

@@ -1,132 +1,79 @@
-"""The ledger of the wrong bodies that the prover was seen to refuse: a line for each, 'CRATE/EDIT KEY'.
+"""The ledger of the wrong bodies that the prover was seen to refuse. Its first line is 'landing N', the number of the
+last landing that was recorded; then comes a line for each wrong body:
 
-The key is a sum over all that decides the outcome: the kit, these rules, the edit's text, the text of the function
-that it changes with what its file brings in, and what the check of that function may read (reach.py). For the names
-that stand in the edit's new text, it is also over what may be read of each function, type and constant so named."""
+    CRATE/EDIT OWN WHOLE TEXT LANDING [stale-since LANDING]
 
-import hashlib
+OWN is a sum over what is the wrong body's own, WHOLE one over all that decides whether it is refused (keys.py), and
+TEXT one over its crate's files. LANDING is the one at which it was last refused. While WHOLE is not what it is now, the
+line is stale: since which landing, it says once a landing with it was recorded."""
+
 import os
-import re
-import subprocess
 import threading
-
-from calls import compiled
-from made import Made
-from reach import Reach
-from source import WORD, blanked, functions_of, is_of
+from dataclasses import dataclass, replace
 
 FILE = f"{os.path.dirname(os.path.realpath(__file__))}/ledger"
-# To be raised where an edit is judged by other rules: all are tried again then.
-RULES = 1
-# Of the edits whose key stands, one in so many is tried all the same.
-TURNS = 10
-USE = re.compile(r"(?m)^\s*(?:pub(?:\([^)]*\))? )?(?:ghost )?use [^;]*;")
-CONST = re.compile(r"(?m)^\s*(?:pub(?:\([^)]*\))? )?const (\w+)\s*:[^;]*;")
-OF_PROOFS = re.compile(r"\bcrate::proofs((?:::\w+)+)")
 
 
-def sum_of_lines(lines):
-    return hashlib.sha256("\n".join(lines).encode()).hexdigest()[:32]
+@dataclass(frozen=True)
+class Line:
+    own: str
+    whole: str
+    text: str
+    landing: int
+    since: int = 0
+
+    def written(self, label):
+        stale = f" stale-since {self.since}" if self.since else ""
+        return f"{label} {self.own} {self.whole} {self.text} {self.landing}{stale}\n"
 
 
-def kit_line():
-    said = subprocess.run(["rt", "version"], capture_output=True, text=True, check=True).stdout
-    return f"kit {said.strip()}"
+def read_line(words):
+    own, whole, text, landing, *stale = words
+    return Line(own, whole, text, int(landing), int(stale[1]) if stale else 0)
 
 
 class Ledger:
-    """The lines of a file of them: a key by each label."""
+    """The lines of a file of them, by label, and the number of the last landing."""
 
     def __init__(self, file):
-        self.file, self.keys, self.lock = file, {}, threading.Lock()
+        self.file, self.lines, self.landing, self.lock = file, {}, 0, threading.Lock()
         if os.path.isfile(file):
             with open(file, encoding="utf-8") as it:
-                self.keys = dict(line.split() for line in it if line.strip())
+                rows = [line.split() for line in it if line.strip()]
+            self.landing = int(rows[0][1])
+            self.lines = {label: read_line(words) for label, *words in rows[1:]}
 
-    def has(self, label, key):
-        return self.keys.get(label) == key
+    def adopt(self, owns, crates):
+        """Gives lines of these crates that name none of their edits to edits with the same own sum that have none:
+        these have only moved to another crate, or have another name. Returns the labels of the lines that are left."""
+        left = {it: line for it, line in self.lines.items() if it not in owns and it.partition("/")[0] in crates}
+        for label in [it for it in owns if it not in self.lines]:
+            was = next((it for it, line in left.items() if line.own == owns[label]), None)
+            if was:
+                self.lines[label] = left.pop(was)
+                del self.lines[was]
+        return sorted(left)
 
-    def take(self, label, key):
-        """Takes the line of a label, or, with no key, takes it out."""
+    def take(self, label, line):
+        """Takes the line of a label, or, with no line, takes it out."""
         with self.lock:
-            self.keys.pop(label, None)
-            if key:
-                self.keys[label] = key
+            self.lines.pop(label, None)
+            if line:
+                self.lines[label] = line
 
-    def without_edit(self, labels, crates):
-        """Returns the lines of these crates that name none of these edits."""
-        return sorted(it for it in self.keys if it.partition("/")[0] in crates and it not in labels)
+    def go_stale(self, label):
+        """Notes since which landing the line of a label is stale."""
+        with self.lock:
+            line = self.lines[label]
+            self.lines[label] = replace(line, since=line.since or self.landing)
+
+    def be_fresh(self, label):
+        with self.lock:
+            self.lines[label] = replace(self.lines[label], since=0)
 
     def write(self):
         with self.lock:
             with open(f"{self.file}.new", "w", encoding="utf-8") as it:
-                it.writelines(f"{label} {self.keys[label]}\n" for label in sorted(self.keys))
+                it.write(f"landing {self.landing}\n")
+                it.writelines(self.lines[label].written(label) for label in sorted(self.lines))
             os.replace(f"{self.file}.new", self.file)
-
-
-class Keys:
-    """The keys of edits, in a repository whose libraries are built."""
-
-    def __init__(self, crates):
-        self.crates, self.first = crates, [kit_line(), f"rules {RULES}"]
-        self.reach = Reach({it.name: lambda it=it: Made(it) for it in crates.values() if it.makes_library()})
-        self.printed = {}
-
-    def key(self, edit, crate, sources):
-        text = self.text_of(edit, sources)
-        words = {word for change in edit.changes for word in WORD.findall(change.new)}
-        nodes = self.reach.from_these(self.nodes(edit, crate, text, words))
-        constants = self.constants(crate, words)
-        return sum_of_lines([*self.first, *edit.lines(), *text, *constants, *self.reach.sums(nodes)])
-
-    def text_of(self, edit, sources):
-        """Returns the text of what is edited: that of a function, and of what its file brings in; or all files."""
-        if edit.function is None:
-            return [f"{file}\n{sources[file]}" for file in sorted(sources)]
-        text = sources[edit.function.file]
-        own = [it for it in functions_of(edit.function.file, text) if it.function == edit.function]
-        return [*(it.strip() for it in USE.findall(blanked(text))), *(with_attributes(text, it) for it in own)]
-
-    def nodes(self, edit, crate, text, words):
-        """Returns the modules that are the edited function's own, or that its text or a word of the edit names. Where
-        no function's are known, as in a program, these are all of the crate, or of those below it."""
-        paths = self.paths_of(edit.function, crate) if edit.function else []
-        if not paths:
-            crates = [crate.name] if crate.makes_library() else crate.below
-            return set().union(*(self.reach.all_of(it) for it in crates))
-        found = set().union(*(self.reach.own(crate.name, it) for it in paths))
-        for path in {it for line in text for it in OF_PROOFS.findall(line)}:
-            found |= self.reach.imported(crate.name, "proofs" + path.replace("::", "/"))
-        return found | self.reach.items_named([*crate.below, crate.name], words)
-
-    def constants(self, crate, words):
-        """Returns the constants of these names, of the crate and of those below it."""
-        texts = [text for name in [*crate.below, crate.name] for text in self.crates[name].sources().values()]
-        return sorted(it[0].strip() for text in texts for it in CONST.finditer(text) if it[1] in words)
-
-    def paths_of(self, function, crate):
-        """Returns the paths of the function's modules and of those of the closures in it."""
-        if crate.name not in self.printed:
-            self.printed[crate.name] = [*compiled(crate)]
-        own = [it for it in self.printed[crate.name] if is_of(function, crate.name, it)]
-        paths = {it.removeprefix(f"{crate.name}::").replace("::", "/") for it in own}
-        return sorted(paths | {re.sub(rf"(/fn/(?:.*/)?{function.name})/.*", r"\1", it) for it in paths if "/fn/" in it})
-
-
-def with_attributes(text, place):
-    """Returns the text of a function, from the attributes above it on."""
-    start = text.rfind("\n", 0, place.start) + 1
-    while start and re.match(r"\s*#\[", text[text.rfind("\n", 0, start - 1) + 1 : start]):
-        start = text.rfind("\n", 0, start - 1) + 1
-    return text[start : place.end]
-
-
-def is_in_turn(label, commits):
-    """Returns whether an edit is tried at so many commits though its key stands."""
-    return int(hashlib.sha256(label.encode()).hexdigest(), 16) % TURNS == commits % TURNS
-
-
-def commits_of(root):
-    """Returns the number of commits, or 0 outside a repository."""
-    said = subprocess.run(["git", "rev-list", "--count", "HEAD"], cwd=root, capture_output=True, text=True)
-    return int(said.stdout) if said.returncode == 0 else 0

@@ -7,6 +7,8 @@ import re
 
 PARTS = ("specs", "proofs")
 KIND = re.compile(rb'\{"(\w+)"')
+# The checker's words for modules of types.
+OF_TYPES = ("TypeOf", "ValueOf", "LawsOf")
 
 
 def sum_of(text):
@@ -43,13 +45,28 @@ class Made:
                         self.sums[path] = sum_of(self.files[path])
 
     def text(self, name):
+        """Returns what a module says; of a type's without the list of its methods, and without what is private of a
+        type that others know by its view: a module of its own says that."""
         if name in self.files:
             return self.files[name]
         start, length = self.places[name]
-        return self.bytes[start : start + length].decode()
+        text = self.bytes[start : start + length].decode()
+        return told(text) if self.kind(name) in OF_TYPES else text
+
+    def sum(self, name):
+        return sum_of(self.text(name)) if self.kind(name) in OF_TYPES else self.sums[name]
 
     def kind(self, name):
         """Returns the checker's word for what a module is, or nothing for a file."""
         start, _ = self.places.get(name, (0, 0))
         found = KIND.match(self.bytes, start) if name in self.places else None
         return found[1].decode() if found else ""
+
+
+def told(text):
+    """Returns the text of a type's module, less what others cannot name."""
+    first, _, rest = text.partition("\n")
+    ((kind, said),) = json.loads(first).items()
+    said.pop("functions", None)
+    said.get("formed", said).get("Viewed", {}).pop("inside", None)
+    return f"{json.dumps({kind: said})}\n{rest}"

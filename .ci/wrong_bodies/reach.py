@@ -13,6 +13,8 @@ from functools import lru_cache
 INNER = {"Code", "Mir", "Lts", "Close", "Layout", "MadeProof", "Given", "Needs", "Named", "Symbol", "Key"}
 INNER |= {"ImplProof", "ImplGoals", "CycleCode", "CycleInParts", "TieOfCycle", "MemberCode", "MemberProof"}
 LISTS = {"Parent", "Parts", "PartsOfType", "LinkOfCrate", "LinkOfFunction", "LinkPassed"}
+# What of a type's layout only its own crate reads.
+PRIVATE = {"TheInside", "TheReach", "TheSendSync"}
 # The last word of the path of a module that others read of a function.
 OF_FUNCTION = ("Statement", "Reads", "Kinds", "Met")
 MADE_BELOW = re.compile(r"The[A-Z]")
@@ -106,19 +108,26 @@ class Reach:
                 found |= nodes if path.rpartition("/")[2] in words else set()
         return found
 
-    def from_these(self, nodes):
-        """Returns these nodes and all that can be reached from them."""
+    def from_these(self, nodes, own):
+        """Returns these nodes and all that can be reached from them by a check of this crate."""
+        nodes = {it for it in nodes if is_read(it, own)}
         found, left = {*nodes}, [*nodes]
         while left:
             node = left.pop()
             if node not in self.named:
                 crate, name = node
                 self.named[node] = self.names_in(self.made(crate).text(name))
-            new = self.named[node] - found
+            new = {it for it in self.named[node] - found if is_read(it, own)}
             found |= new
             left += new
         return found
 
     def sums(self, nodes):
-        """Returns a line for each node, with the checker's sum of its description, or the sum of a file."""
-        return sorted(f"{crate}/{name} {self.made(crate).sums[name]}" for crate, name in nodes)
+        """Returns a line for each node, with the sum of what is read of it."""
+        return sorted(f"{crate}/{name} {self.made(crate).sum(name)}" for crate, name in nodes)
+
+
+def is_read(node, own):
+    """Returns whether a check of this crate may read the node: of other crates no private layout."""
+    crate, name = node
+    return crate == own or not PRIVATE & {*name.split("/")}

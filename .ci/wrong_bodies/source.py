@@ -2,6 +2,7 @@
 
 import re
 from dataclasses import dataclass
+from functools import lru_cache
 
 # A clause of a contract stands between a function's signature and its body.
 CLAUSE = re.compile(r"\b(requires|ensures|ghost)\b")
@@ -40,6 +41,7 @@ class Place:
     end: int
 
 
+@lru_cache(maxsize=4096)
 def blanked(text):
     """Returns the text with spaces in place of comments and literals, each character at its place."""
     return COMMENT_OR_TEXT.sub(lambda found: re.sub(r"[^\n]", " ", found[0]), text)
@@ -104,8 +106,17 @@ def owners(text):
     return found
 
 
+def with_attributes(text, place):
+    """Returns where a function begins, from the attributes above it on."""
+    start = text.rfind("\n", 0, place.start) + 1
+    while start and re.match(r"\s*#\[", text[text.rfind("\n", 0, start - 1) + 1 : start]):
+        start = text.rfind("\n", 0, start - 1) + 1
+    return start
+
+
+@lru_cache(maxsize=4096)
 def functions_of(file, text):
-    """Returns the places of the file's functions."""
+    """Returns the places of the file's functions, which nobody changes."""
     text = blanked(text)
     around = owners(text)
     found = []
@@ -118,29 +129,11 @@ def functions_of(file, text):
     return found
 
 
-def calls_in(code):
-    """Returns what this code may call: pairs of a name, and of the type before it, `.` for a method, or nothing."""
-    found = set()
-    for call in re.finditer(r"(?:([A-Za-z_]\w*)\s*::\s*|(\.)\s*)?\b([A-Za-z_]\w*)\s*(?:::<[^()]*>)?\s*\(", code):
-        found.add((call[3], call[1] or call[2] or ""))
-    # A function may be passed by its name.
-    for path in re.finditer(r"[(,]\s*(?:([A-Za-z_]\w*)\s*::\s*)?([a-z_]\w*)\s*[),]", code):
-        found.add((path[2], path[1] or ""))
-    return frozenset(found)
-
-
-def may_call(calls, function):
-    """Returns whether one of the calls may be of the function."""
-    return any(
-        name == function.name and (before in (".", "Self", function.owner) if function.owner else before != ".")
-        for name, before in calls
-    )
-
-
 def is_of(function, crate, printed):
     """Returns whether a name that rattle prints is that of a function, or of a closure in it."""
     path = printed.removeprefix(f"{crate}::").split("::")
-    owner = f"{function.owner}{function.trait}"
+    # (u32 is U32 in the name of an impl)
+    owner = f"{function.owner[:1].upper()}{function.owner[1:]}{function.trait}"
     if "fn" in path:
         path = path[path.index("fn") + 1 :]
         if not function.owner:
@@ -151,3 +144,17 @@ def is_of(function, crate, printed):
     if not function.owner:
         return "::".join(path[:-1]) == function.module()
     return len(path) > 1 and (path[-2].startswith(owner) if function.trait else path[-2] == owner)
+
+
+def path_of(function, sources):
+    """Returns the path of a function that is no method of a trait, below the crate."""
+    owner = [module_of(function.owner, sources), function.owner] if function.owner else [function.module()]
+    return "::".join(it for it in (*owner, function.name) if it)
+
+
+def module_of(owner, sources):
+    """Returns the module that declares a type."""
+    for file, text in sources.items():
+        if re.search(rf"\b(struct|enum)\s+{owner}\b", text):
+            return file.removeprefix("src/").removesuffix(".rt").removesuffix("/mod").replace("/", "::")
+    return ""
