@@ -10,7 +10,6 @@ use uuid::Uuid;
 /// One edit. Its numbers are as its line names them, so they may be out of range; one that names an
 /// item and is out of range names none. The refusals stand in the order in which they are answered.
 /// An edit that changes no value is accepted.
-#[derive(Drop)]
 pub enum Edit {
     /// Adds a subsystem after those that are there. Refused: `BadValue` of `Nqn` for the discovery
     /// subsystem's name, of `Serial` for one that is not 1 to 20 bytes from 21h to 7Eh; `Exists` for
@@ -125,6 +124,56 @@ pub enum Edit {
     ReferralDel {
         id: u64,
     },
+}
+
+// Written out, and not derived, so that whoever lets an edit fall proves one call.
+impl Drop for Edit {
+    fn drop(self) {
+        match self {
+            Edit::SubsystemAdd {
+                nqn,
+                serial,
+                access: _,
+            } => {
+                drop(nqn);
+                drop(serial);
+            }
+            Edit::SubsystemSet { nqn, access: _ }
+            | Edit::SubsystemDel { nqn }
+            | Edit::HostAdd { nqn }
+            | Edit::HostDel { nqn } => drop(nqn),
+            Edit::NamespaceAdd(namespace) => drop(namespace),
+            Edit::NamespaceSize {
+                subsystem,
+                nsid: _,
+                blocks: _,
+            } => drop(subsystem),
+            Edit::NamespaceGroup {
+                subsystem,
+                nsid: _,
+                group: _,
+            } => drop(subsystem),
+            Edit::NamespaceDel { subsystem, nsid: _ } => drop(subsystem),
+            Edit::PortAdd(endpoint)
+            | Edit::PortSet(endpoint)
+            | Edit::ReferralAdd(endpoint)
+            | Edit::ReferralSet(endpoint) => drop(endpoint),
+            Edit::PortDel { id: _ } | Edit::ReferralDel { id: _ } => {}
+            Edit::LinkAdd { port: _, subsystem } | Edit::LinkDel { port: _, subsystem } => {
+                drop(subsystem);
+            }
+            Edit::AllowAdd { subsystem, host } | Edit::AllowDel { subsystem, host } => {
+                drop(subsystem);
+                drop(host);
+            }
+            Edit::AnaSet {
+                port: _,
+                subsystem,
+                group: _,
+                state: _,
+            } => drop(subsystem),
+        }
+    }
 }
 
 /// A namespace that is to be added.

@@ -31,7 +31,6 @@ use std::marker::Model;
 /// added. There are at most 256 disks of at most 2^40 units, 32 subsystems, 16 ports, 256 hosts, those
 /// that are not live counted, 1,024 allows and 16 referrals. No two items of a list have the same
 /// name, and what an item names is there. Each namespace fits on a disk of its own.
-#[derive(Drop)]
 pub struct Config {
     units: Vec<u64>,
     subsystems: Vec<Subsystem>,
@@ -43,6 +42,32 @@ pub struct Config {
     states: Vec<GroupState>,
     // The ports of discovery controllers elsewhere.
     referrals: Vec<Port>,
+}
+
+// Written out, and not derived, so that whoever lets a configuration fall proves one call.
+impl Drop for Config {
+    fn drop(self) {
+        let Config {
+            units,
+            subsystems,
+            namespaces,
+            ports,
+            links,
+            hosts,
+            allows,
+            states,
+            referrals,
+        } = self;
+        drop(units);
+        drop(subsystems);
+        drop(namespaces);
+        drop(ports);
+        drop(links);
+        drop(hosts);
+        drop(allows);
+        drop(states);
+        drop(referrals);
+    }
 }
 
 impl Model for Config {

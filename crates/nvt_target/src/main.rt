@@ -3,18 +3,14 @@
 //! the connections that it opens and ends: what that prints depends on its two files and its arguments alone.
 #![tactic(auto)]
 
-mod arguments;
-mod command_line;
-mod help;
-
-use arguments::Usage;
 use command_parts::{ReplayFault, exit_status};
 use std::process::ExitCode;
+use target_arguments::Usage;
 
 const BAD_ARGUMENTS: u8 = 2;
 
 fn main(rt: HostRuntime) -> ExitCode {
-    match arguments::read(&rt) {
+    match target_arguments::read(&rt) {
         Ok(Usage::Replay(arguments)) => finish(&rt, replay_program::run(&rt, &arguments)),
         Ok(Usage::Serve(arguments)) => finish(&rt, serve_program::run(&rt, &arguments)),
         Ok(Usage::Help) => ExitCode::SUCCESS,

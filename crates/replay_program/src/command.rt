@@ -1,8 +1,7 @@
 //! The command `replay`, from its files to the standard output.
 
-use crate::arguments::ReplayArguments;
 use crate::explained;
-use command_parts::{disk_sizes, read_file};
+use command_parts::{ReplayArguments, disk_sizes, read_file};
 use nvt_replay::{ReplayFault, replay, written};
 use std::alloc::Global;
 use std::io::{self, BufWriter, Write};

@@ -2,10 +2,8 @@
 //! output. It reads no command line.
 #![tactic(auto)]
 
-mod arguments;
 mod command;
 mod explained;
 
-pub use arguments::ReplayArguments;
 pub use command::run;
 pub use nvt_replay::ReplayFault;

@@ -1,8 +1,7 @@
 //! The command `run`, from its file to the sockets.
 
-use crate::arguments::ServeArguments;
 use block_store::MemoryDisk;
-use command_parts::{ReplayFault, disk_sizes, read_file_into};
+use command_parts::{ReplayFault, ServeArguments, disk_sizes, read_file_into};
 use edit_lines::configure;
 use nvt_serve::serve;
 use nvt_sockets::{SocketPorts, Tcp};

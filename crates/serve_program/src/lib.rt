@@ -2,8 +2,6 @@
 //! command line.
 #![tactic(auto)]
 
-mod arguments;
 mod command;
 
-pub use arguments::ServeArguments;
 pub use command::run;

@@ -2,10 +2,8 @@
 
 use crate::command_line;
 use clap::ArgMatches;
-use command_parts::{DiskArguments, ReplayFault};
+use command_parts::{DiskArguments, ReplayArguments, ReplayFault, ServeArguments};
 use program_words::{Refusal, parsed, refusal_of, take_words};
-use replay_program::ReplayArguments;
-use serve_program::ServeArguments;
 use std::alloc::{AllocError, Global};
 use std::rt::Env;
 

@@ -1,6 +1,6 @@
 //! What the arguments of `replay` ask for.
 
-use command_parts::DiskArguments;
+use crate::disks::DiskArguments;
 
 /// What the arguments of `replay` ask for.
 #[derive(Drop)]
