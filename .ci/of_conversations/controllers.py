@@ -20,13 +20,9 @@ class Controller:
         self.until = time.monotonic() + seconds
         self.listener = socket.create_server(("127.0.0.1", 0), backlog=16)
         self.port = self.listener.getsockname()[1]
-        self.peers = []
-        self.told = b""
+        self.peers, self.told = [], b""
 
-    def __enter__(self):
-        return self
-
-    def __exit__(self, *_):
+    def close(self):
         for each in (self.listener, *self.peers):
             each.close()
 
@@ -62,11 +58,10 @@ class Controller:
 
     def take(self, step, host, size):
         if step.word == b"tx":
-            self.expect(step, host)
-        elif step.word == b"rx":
-            self.send(step, host, size or len(step.data))
-        elif step.word == b"burst":
-            self.send(step, host, len(step.data))
+            self.expect(self.peer(step.k, host), step.data)
+        elif step.word in (b"rx", b"burst"):
+            is_cut = size and step.word == b"rx"
+            self.send(self.peer(step.k, host), step.data, size if is_cut else max(len(step.data), 1))
         elif step.word == b"end":
             self.peer(step.k, host).shutdown(socket.SHUT_WR)
         elif step.word == b"in":
@@ -75,34 +70,31 @@ class Controller:
             self.told += step.data + b"\n"
             self.await_told(host)
 
-    def send(self, step, host, size):
-        peer = self.peer(step.k, host)
+    def send(self, peer, data, size):
         try:
-            for at in range(0, len(step.data), max(size, 1)):
-                peer.sendall(step.data[at : at + size])
+            for at in range(0, len(data), size):
+                peer.sendall(data[at : at + size])
         except OSError as why:
             raise Failed(f"the host takes no more: {why}") from why
 
-    def expect(self, step, host):
+    def expect(self, peer, data):
         """Wants exactly these bytes next."""
-        got = self.received(self.peer(step.k, host), len(step.data))
-        if got != step.data:
-            at = next((at for at, pair in enumerate(zip(got, step.data)) if pair[0] != pair[1]), len(got))
-            wanted = step.data[at : at + 16].hex()
-            raise Failed(f"from byte {at} on wanted {wanted}, got {got[at : at + 16].hex() or 'nothing more'}")
+        got = self.received(peer, len(data))
+        if got != data:
+            at = next((at for at, pair in enumerate(zip(got, data)) if pair[0] != pair[1]), len(got))
+            more = got[at : at + 16].hex() or "nothing more"
+            raise Failed(f"from byte {at} on wanted {data[at : at + 16].hex()}, got {more}")
 
     def received(self, peer, count):
         """So many bytes, or fewer where the host sends no more."""
-        data = bytearray()
-        while len(data) < count:
+        data, piece = b"", b"any"
+        while len(data) < count and piece:
             try:
                 piece = peer.recv(count - len(data))
             except (ConnectionResetError, TimeoutError):
                 break
-            if not piece:
-                break
             data += piece
-        return bytes(data)
+        return data
 
     def await_told(self, host):
         """Waits until the host has printed the lines so far."""

@@ -8,11 +8,10 @@ SHOWN = 200
 
 def printed_fault(files, status, out, err, got):
     """What is wrong with what a program printed and with its exit status, in words; nothing where all is right."""
-    wanted = files.get("OUT", b"")
+    wanted = files.get("OUT_BEGINS", files.get("OUT", b""))
     if "SINK" in files:
         out = wanted
     elif "OUT_BEGINS" in files:
-        wanted = files["OUT_BEGINS"]
         out = out[: len(wanted)]
     return (
         difference("standard output", broken(wanted), broken(out))
@@ -22,9 +21,7 @@ def printed_fault(files, status, out, err, got):
 
 
 def status_fault(wanted, got):
-    if got == wanted:
-        return None
-    return f"exit status: wanted {wanted}, got {got}"
+    return None if got == wanted else f"exit status: wanted {wanted}, got {got}"
 
 
 def broken(text):
@@ -38,10 +35,7 @@ def difference(what, wanted, got):
         line, other = (lines[at] if at < len(lines) else None for lines in (wanted, got))
         if line != other:
             column = len(os.path.commonprefix([line or b"", other or b""]))
-            return (
-                f"{what}, line {at + 1}:\n"
-                f"  wanted {shown(line, column)}\n  got    {shown(other, column)}"
-            )
+            return f"{what}, line {at + 1}:\n  wanted {shown(line, column)}\n  got    {shown(other, column)}"
     return None
 
 
