@@ -3,8 +3,8 @@
 import math
 from enum import Enum
 
-# Of the stale ones of a crate whose text changed one in so many is tried, of those stale from below alone one in so
-# many, and of the fresh ones one in so many, by whole crates.
+# Of the stale ones of a crate whose text changed one in so many is tried; of those stale from below alone one in so
+# many, and of the fresh ones one in so many, by whole crates: a check also proves what the tried functions call.
 HERE, BELOW, FRESH = 4, 8, 20
 # A line that is stale for so many landings is due.
 DUE = 8
@@ -34,14 +34,13 @@ def age(line, landing):
 
 
 class Choice:
-    """Which edits of a crate are tried: `owed` are those that have to be, `shared` the others."""
+    """Which edits of a crate are tried: `owed` are those that have to be, `shared` the others. `turns` are the standings
+    whose turn it is in this crate."""
 
-    def __init__(self, edits, standings, lines, landing, is_in_turn):
+    def __init__(self, edits, standings, lines, landing, turns):
         self.edits, self.standings, self.lines, self.landing = edits, standings, lines, landing
         self.owed = [it for it in edits if it.promise or self.of(it) is Standing.NEW or self.is_due(it)]
-        self.shared = [*self.share(Standing.STALE, HERE), *self.share(Standing.STALE_BELOW, BELOW)]
-        if is_in_turn:
-            self.shared += [it for it in self.with_standing(Standing.FRESH) if it not in self.owed]
+        self.shared = [it for it in edits if self.of(it) in turns and it not in self.owed] + self.share()
 
     def of(self, edit):
         return self.standings[edit.label()]
@@ -52,22 +51,20 @@ class Choice:
     def is_due(self, edit):
         return self.age(edit) >= DUE
 
-    def with_standing(self, wanted):
-        return [it for it in self.edits if self.of(it) is wanted]
-
-    def share(self, wanted, one_in):
-        """Returns the oldest of those that stand so, but for the owed ones."""
-        left = sorted(self.with_standing(wanted), key=lambda it: (-self.age(it), self.lines[it.label()].landing))
-        number = math.ceil(len(left) / one_in)
-        return [it for it in left if it not in self.owed][: max(number - sum(it in self.owed for it in left), 0)]
+    def share(self):
+        """Returns one in so many of those that are stale in a crate whose text changed, the oldest."""
+        left = [it for it in self.edits if self.of(it) is Standing.STALE]
+        left.sort(key=lambda it: (-self.age(it), self.lines[it.label()].landing))
+        number = math.ceil(len(left) / HERE) - sum(it in self.owed for it in left)
+        return [it for it in left if it not in self.owed][: max(number, 0)]
 
 
-def in_turn(numbers, landing):
-    """Returns, of crates with so many edits each, those whose fresh edits are tried at this landing: about one in so
-    many of all edits, and each crate once in so many landings."""
+def in_turn(numbers, landing, one_in):
+    """Returns, of crates with so many edits each, those whose turn it is at this landing: with about one in so many of
+    all edits, and each crate once in so many landings."""
     total, before, found = sum(numbers.values()), 0, set()
     for name in sorted(numbers):
-        if FRESH * before // total == landing % FRESH:
+        if one_in * before // total == landing % one_in:
             found.add(name)
         before += numbers[name]
     return found
