@@ -1,6 +1,5 @@
 //! Checks, and the places that they are made at.
 ghost use Rattle.std.specs.Prelude.{◌≡◌, ◌↔◌, IsOk, IsTrue};
-ghost use Rattle.std.specs.List.{All};
 
 use crate::failure::{Failure, Outcome, What};
 
@@ -16,9 +15,7 @@ pub fn check(holds: bool, fact: &'static str) -> Outcome
 }
 
 /// Whether this fact holds in each row.
-pub fn check_rows(rows: &[bool], fact: &'static str) -> Outcome
-    ensures { IsOk result ↔ All IsTrue rows.now }
-{
+pub fn check_rows(rows: &[bool], fact: &'static str) -> Outcome {
     match rows.iter().position(|holds| !*holds) {
         None => Ok(()),
         Some(row) => Err(Failure {
@@ -29,9 +26,7 @@ pub fn check_rows(rows: &[bool], fact: &'static str) -> Outcome
 }
 
 /// Whether this fact holds at each step.
-pub fn check_steps(steps: &[bool], fact: &'static str) -> Outcome
-    ensures { IsOk result ↔ All IsTrue steps.now }
-{
+pub fn check_steps(steps: &[bool], fact: &'static str) -> Outcome {
     match steps.iter().position(|holds| !*holds) {
         None => Ok(()),
         Some(step) => Err(Failure {
@@ -42,9 +37,7 @@ pub fn check_steps(steps: &[bool], fact: &'static str) -> Outcome
 }
 
 /// Whether a number is the one that is wanted.
-pub fn check_number(got: u64, wanted: u64) -> Outcome
-    ensures { IsOk result ↔ got ≡ wanted }
-{
+pub fn check_number(got: u64, wanted: u64) -> Outcome {
     if got == wanted {
         Ok(())
     } else {
@@ -81,9 +74,7 @@ fn first_difference(got: &[u8], wanted: &[u8]) -> What {
 
 /// Whether lines are those that are wanted; the row of a failure is the first line that is not, and its
 /// byte one of that line.
-pub fn check_lines(got: &[u8], wanted: &[u8]) -> Outcome
-    ensures { IsOk result ↔ got.now ≡ wanted.now }
-{
+pub fn check_lines(got: &[u8], wanted: &[u8]) -> Outcome {
     if got == wanted {
         return Ok(());
     }
@@ -105,29 +96,17 @@ fn behind(bytes: &[u8], start: usize) -> &[u8] {
 
 /// What has a place in a test's table or script.
 pub trait Placed {
-    ghost use Rattle.std.specs.Prelude.{◌↔◌};
-
-    /// Nothing failed.
-    ghost passes: { Self → Type 0 };
-
     /// In this row.
-    fn in_row(self, row: usize) -> Self
-        ensures { passes result ↔ passes self };
+    fn in_row(self, row: usize) -> Self;
 
     /// At this step.
-    fn at_step(self, step: usize) -> Self
-        ensures { passes result ↔ passes self };
+    fn at_step(self, step: usize) -> Self;
 
     /// In the random script of this number, whose numbers come from this seed.
-    fn in_script(self, seed: u64, number: u64) -> Self
-        ensures { passes result ↔ passes self };
+    fn in_script(self, seed: u64, number: u64) -> Self;
 }
 
 impl Placed for Outcome {
-    ghost use Rattle.std.specs.Prelude.{IsOk};
-
-    ghost passes = { λ outcome. IsOk outcome };
-
     fn in_row(self, row: usize) -> Outcome {
         let row = Some(row);
         self.map_err(|failure| Failure { row, ..failure })

@@ -1,16 +1,12 @@
 //! The configuration and its edits.
 mod effects;
-mod limits;
 mod outline;
 mod refusals;
 
 use config_rules::laws::accepted_stays_valid;
-use nvt_config::{
-    Access, AnaState, Config, EditFault, Family, Item, NewFault, Port, Subsystem, Text, Value,
-};
+use nvt_config::{Access, AnaState, Config, EditFault, Family, NewFault, Port, Subsystem, Text};
 use outline::check_lists;
 use std::alloc::{AllocError, Global};
-use std::fmt::Display;
 use testkit_edits::{Blocks, Line, is_applied, is_same};
 use testkit_tables::{Outcome, Placed, check, check_bytes, check_rows, pass};
 
@@ -45,8 +41,6 @@ enum Script {
     // Edits of an empty configuration, and the lists after each.
     Effects(&'static [(Line<'static>, &'static [u8])]),
     Referrals,
-    AllLinked,
-    AllHosts,
     Refusals(&'static [(Line<'static>, EditFault)]),
     PortValues,
 }
@@ -63,8 +57,6 @@ fn runs(alloc: Global, config: &mut Config, script: Script) -> Outcome {
     match script {
         Script::Effects(rows) => effects::check_accepted(alloc, config, rows),
         Script::Referrals => effects::check_referrals(alloc, config),
-        Script::AllLinked => limits::check_links(alloc, config),
-        Script::AllHosts => limits::check_hosts(alloc, config),
         _ => {
             pass!(fill(alloc, config));
             runs_filled(alloc, config, script)
@@ -211,86 +203,6 @@ fn takes_disks_within_the_limits(rt: HostRuntime) -> Outcome {
     for (row, (units, answer)) in SIZES.iter().enumerate() {
         let is_answered = disks(rt.alloc(), units) == *answer;
         pass!(check(is_answered, "how many disks there are").in_row(row));
-    }
-    Ok(())
-}
-
-const REPLIES: &[(EditFault, &str)] = &[
-    (EditFault::BadValue(Value::Nqn), "refused BadValue Nqn"),
-    (
-        EditFault::BadValue(Value::Serial),
-        "refused BadValue Serial",
-    ),
-    (EditFault::BadValue(Value::Nsid), "refused BadValue Nsid"),
-    (
-        EditFault::BadValue(Value::Blocks),
-        "refused BadValue Blocks",
-    ),
-    (
-        EditFault::BadValue(Value::BlockSize),
-        "refused BadValue BlockSize",
-    ),
-    (EditFault::BadValue(Value::Uuid), "refused BadValue Uuid"),
-    (EditFault::BadValue(Value::Group), "refused BadValue Group"),
-    (EditFault::BadValue(Value::Port), "refused BadValue Port"),
-    (
-        EditFault::BadValue(Value::Address),
-        "refused BadValue Address",
-    ),
-    (
-        EditFault::BadValue(Value::Service),
-        "refused BadValue Service",
-    ),
-    (
-        EditFault::NoSuch(Item::Subsystem),
-        "refused NoSuch Subsystem",
-    ),
-    (EditFault::NoSuch(Item::Disk), "refused NoSuch Disk"),
-    (
-        EditFault::NoSuch(Item::Namespace),
-        "refused NoSuch Namespace",
-    ),
-    (EditFault::NoSuch(Item::Uuid), "refused NoSuch Uuid"),
-    (EditFault::NoSuch(Item::Port), "refused NoSuch Port"),
-    (EditFault::NoSuch(Item::Link), "refused NoSuch Link"),
-    (EditFault::NoSuch(Item::Host), "refused NoSuch Host"),
-    (EditFault::NoSuch(Item::Allow), "refused NoSuch Allow"),
-    (EditFault::NoSuch(Item::Referral), "refused NoSuch Referral"),
-    (
-        EditFault::Exists(Item::Subsystem),
-        "refused Exists Subsystem",
-    ),
-    (
-        EditFault::Exists(Item::Namespace),
-        "refused Exists Namespace",
-    ),
-    (EditFault::Exists(Item::Uuid), "refused Exists Uuid"),
-    (EditFault::Exists(Item::Port), "refused Exists Port"),
-    (EditFault::Exists(Item::Link), "refused Exists Link"),
-    (EditFault::Exists(Item::Host), "refused Exists Host"),
-    (EditFault::Exists(Item::Allow), "refused Exists Allow"),
-    (EditFault::Exists(Item::Referral), "refused Exists Referral"),
-    (EditFault::DiskInUse, "refused DiskInUse"),
-    (EditFault::InUse(Item::Namespace), "refused InUse Namespace"),
-    (EditFault::InUse(Item::Link), "refused InUse Link"),
-    (EditFault::InUse(Item::Allow), "refused InUse Allow"),
-    (EditFault::Full(Item::Subsystem), "refused Full Subsystem"),
-    (EditFault::Full(Item::Port), "refused Full Port"),
-    (EditFault::Full(Item::Host), "refused Full Host"),
-    (EditFault::Full(Item::Allow), "refused Full Allow"),
-    (EditFault::Full(Item::Referral), "refused Full Referral"),
-    (EditFault::Memory, "refused Memory"),
-];
-
-fn check_reply(alloc: Global, fault: EditFault, text: &str) -> Outcome {
-    let said = fault.to_string(alloc)?;
-    check_bytes(said.as_bytes(), text.as_bytes())
-}
-
-#[test]
-fn prints_replies(rt: HostRuntime) -> Outcome {
-    for (row, (fault, text)) in REPLIES.iter().enumerate() {
-        pass!(check_reply(rt.alloc(), *fault, text).in_row(row));
     }
     Ok(())
 }

@@ -1,10 +1,8 @@
-//! Tests of a controller's events, through public calls: rows from the standard's states and codes, and
-//! random calls beside a plain program that keeps all that happened and looks back over it.
+//! Tests of a controller's events and of its set of changed namespaces, through public calls: rows from
+//! the standard's states, codes and tables, some of which no host can bring about.
 #![tactic(auto)]
 
 #[cfg(test)]
-mod looked_back;
-#[cfg(test)]
-mod random;
+mod changed;
 #[cfg(test)]
 mod steps;

@@ -1,6 +1,5 @@
 //! What calls answer, by the codes of the standard (Base 2.0, sections 5.2.1 and 5.27.1.8).
 use event_queue::{Completion, EventKind, Events, LimitExceeded, ViewChanges};
-use std::alloc::Global;
 
 // A call and what it is to answer.
 #[derive(Clone, Copy)]
@@ -223,17 +222,4 @@ fn calls_answer_by_the_states_of_kinds(rt: HostRuntime) {
             "the first wrong step of script {script}"
         );
     }
-}
-
-// Whether this is the text of the refusal.
-fn says(alloc: Global, text: &str) -> bool {
-    match LimitExceeded.to_string(alloc) {
-        Ok(said) => said.as_str() == text,
-        Err(_) => false,
-    }
-}
-
-#[test]
-fn a_refusal_has_its_text(rt: HostRuntime) {
-    assert!(rt; says(rt.alloc(), "asynchronous event request limit exceeded"));
 }

@@ -1,6 +1,7 @@
 //! What is printed of each error.
 use block_store::DiskFault;
 use config_edits::{EditFault, Item};
+use event_queue::LimitExceeded;
 use line_words::{LineFault, LineFaultKind};
 use nvt_config::NewFault;
 use nvt_fields::NqnFault;
@@ -47,7 +48,9 @@ fn calls_of_a_target(rt: HostRuntime) -> Outcome {
     pass!(says(alloc, &InvalidField, "invalid field").in_row(0));
     pass!(says(alloc, &NoConn, "no such connection").in_row(1));
     pass!(says(alloc, &StepFault::NoConn, "no such connection").in_row(2));
-    says(alloc, &StepFault::Memory, "memory").in_row(3)
+    pass!(says(alloc, &StepFault::Memory, "memory").in_row(3));
+    let text = "asynchronous event request limit exceeded";
+    says(alloc, &LimitExceeded, text).in_row(4)
 }
 
 const REFUSED: ReplayFault = ReplayFault::EditLine {
@@ -76,5 +79,8 @@ fn a_replay(rt: HostRuntime) -> Outcome {
     .in_row(2));
     pass!(says(alloc, &ReplayFault::Memory, "memory").in_row(3));
     pass!(says(alloc, &ReplayFault::Io, "io").in_row(4));
-    says(alloc, &ReplayFault::Disks, "disks").in_row(5)
+    pass!(says(alloc, &ReplayFault::Disks, "disks").in_row(5));
+    pass!(says(alloc, &EditFault::Memory, "refused Memory").in_row(6));
+    let uuid = EditFault::NoSuch(Item::Uuid);
+    says(alloc, &uuid, "refused NoSuch Uuid").in_row(7)
 }

@@ -1,4 +1,4 @@
-//! Controllers: an I/O controller and a discovery controller.
+//! I/O controllers.
 use crate::fields::{Field, OLD, shows};
 use identify_data::{ControllerIdentity, controller};
 use testkit_tables::{Outcome, check_bytes, pass};
@@ -41,31 +41,6 @@ const IO: &[Field] = &[
     (1803, b"\x01"),
 ];
 
-// Of a discovery controller with identifier 3.
-const DISCOVERY: &[Field] = &[
-    // SN, MN, FR
-    (4, b"DISCOVERY           "),
-    (24, b"NVMe TCP Target                         "),
-    (64, b"1.0     "),
-    // MDTS, CNTLID, VER, OAES, CTRATT, CNTRLTYPE
-    (77, b"\x05"),
-    (78, b"\x03\x00"),
-    (80, b"\x00\x00\x02\x00"),
-    (92, b"\x00\x00\x00\x80"),
-    (96, b"\x01\x00\x00\x00"),
-    (111, b"\x02"),
-    // AERL, LPA, KAS
-    (259, b"\x03"),
-    (261, b"\x04"),
-    (320, b"\x0A\x00"),
-    // MAXCMD, SGLS, SUBNQN
-    (514, b"\x40\x00"),
-    (536, b"\x01\x00\x30\x00"),
-    (768, b"nqn.2014-08.org.nvmexpress.discovery"),
-    // MSDBD
-    (1803, b"\x01"),
-];
-
 #[test]
 fn an_io_controller() -> Outcome {
     let identity = ControllerIdentity::Io {
@@ -76,13 +51,6 @@ fn an_io_controller() -> Outcome {
     let mut out = OLD;
     controller(&identity, &mut out);
     shows(&out, IO)
-}
-
-#[test]
-fn a_discovery_controller() -> Outcome {
-    let mut out = OLD;
-    controller(&ControllerIdentity::Discovery { cntlid: 3 }, &mut out);
-    shows(&out, DISCOVERY)
 }
 
 // Texts that fill their fields.

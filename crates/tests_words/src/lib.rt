@@ -1,15 +1,12 @@
 //! Tests of the words for PDUs (`pdu_words`, `host_commands`), through the public calls of
-//! `replay_words`.
+//! `replay_words`: what no replay prints, each status by its name, and the writer. The words behind what
+//! the target sends are shown by the conversations with `--explain`.
 #![tactic(auto)]
 
 #[cfg(test)]
-mod commands;
-#[cfg(test)]
 mod conversation;
 #[cfg(test)]
-mod events;
-#[cfg(test)]
-mod pages;
+mod others;
 #[cfg(test)]
 mod statuses;
 #[cfg(test)]
