@@ -1,5 +1,6 @@
 """Conversations of the host: a controller plays a script to it."""
 
+import os
 import subprocess
 import tempfile
 from contextlib import closing
@@ -12,6 +13,8 @@ from .scripts import steps_of
 
 WAYS = (("whole", None), ("bytes", 1), ("sevens", 7))
 TURNS = b"--turns"
+# What plays scripts to hosts with --turns runs first, and such a host only while that waits, on the same processor.
+FIRST, SECOND = 2, 1
 
 
 class HostCase(Case):
@@ -26,15 +29,18 @@ class HostCase(Case):
         super().__init__(name, files)
         self.words = lines_of(files["ARGS"])
         self.steps = steps_of(files.get("SCRIPT", b""), parts)
-        # Most of a case's time is that of its pauses. With --turns fewer are run at once, so that each is answered soon.
-        self.stage, self.tries = ((2, 6), 8) if TURNS in self.words else ((1, 16), 1)
+        # Most of a case's time is that of its pauses.
+        self.has_turns = TURNS in self.words
+        self.stage, self.tries = ((2, 6), 8) if self.has_turns else ((1, 16), 1)
 
     def ways(self):
         """How it is run, by the name of the way: the size of the pieces that the host receives."""
-        can_be_cut = TURNS not in self.words and any(step.word == b"rx" for step in self.steps)
+        can_be_cut = not self.has_turns and any(step.word == b"rx" for step in self.steps)
         return WAYS if can_be_cut else WAYS[:1]
 
     def fault(self, program, how):
+        if self.has_turns:
+            play_first()
         with tempfile.TemporaryDirectory(prefix="host-") as folder, closing(Controller(self.SECONDS)) as controller:
             host = Host(program, self, controller.port, folder)
             try:
@@ -50,6 +56,21 @@ class HostCase(Case):
                 host.end()
 
 
+def play_first():
+    """Has this thread run before all that is not so scheduled, and on one processor, where that is allowed."""
+    try:
+        os.sched_setscheduler(0, os.SCHED_RR, os.sched_param(FIRST))
+        os.sched_setaffinity(0, {max(os.sched_getaffinity(0))})
+    except PermissionError:
+        pass
+
+
+def be_second():
+    """Has a process that such a thread started run behind it."""
+    if os.sched_getscheduler(0) == os.SCHED_RR:
+        os.sched_setscheduler(0, os.SCHED_RR, os.sched_param(SECOND))
+
+
 class Host:
     """The program, as a process."""
 
@@ -60,7 +81,8 @@ class Host:
         with open(case.files["SINK"].rstrip(b"\n") if "SINK" in case.files else self.file, "wb") as out:
             how = {"cwd": folder, "stdin": subprocess.PIPE if is_told else subprocess.DEVNULL, "stdout": out}
             call = [case.PROGRAM, *words]
-            self.process = subprocess.Popen(call, executable=program, stderr=subprocess.PIPE, **how)
+            before = be_second if case.has_turns else None
+            self.process = subprocess.Popen(call, executable=program, stderr=subprocess.PIPE, preexec_fn=before, **how)
 
     def give(self, line):
         self.process.stdin.write(line)

@@ -1,6 +1,9 @@
 """The commands of `nvt_host`, each asked of a target that is served: what they print, whole, and how they end."""
 
+import contextlib
 import subprocess
+import threading
+import time
 
 from .served import NQN, SECONDS, Served, check, check_equal, eventually, free_ports
 
@@ -96,6 +99,54 @@ def discover_prints_referrals(_, commands):
     commands.prints(b"genctr 2 records 1\n" + referral, "discover", of=OTHER)
 
 
+@contextlib.contextmanager
+def toggling(target, pause):
+    """Takes the link of subsystem A away and adds it again, each so long after the reply to the one before, until the
+    block ends."""
+    over = threading.Event()
+    editor = target.editor()
+
+    def toggle():
+        while not over.is_set():
+            for verb in (b"del", b"add"):
+                check_equal("an edit", editor.edit(b"link %s 1 %s" % (verb, NQN)), b"ok")
+                time.sleep(pause)
+
+    beside = threading.Thread(target=toggle, daemon=True)
+    beside.start()
+    try:
+        yield
+        check(beside.is_alive(), "the edits ended")
+    finally:
+        over.set()
+        beside.join(SECONDS)
+        editor.peer.close()
+
+
+def is_page(out, record):
+    """Whether this is a page that the edits made: the record is there where the link was added last."""
+    head, _, rest = out.partition(b"\n")
+    words = head.split(b" ")
+    check(words[0::2] == [b"genctr", b"records"], f"the first line: {head!r}")
+    there = int(words[1]) % 2
+    return int(words[3]) == there and rest == record * there
+
+
+@on_base()
+def discover_prints_a_page_of_one_moment(target, commands):
+    record = b"record 3 1 2 1 127.0.0.1 %d nqn.2026-01.test:a\n" % commands.service
+    for pause, least in ((0, 0), (0.05, 1)):
+        pages = 0
+        with toggling(target, pause):
+            for _ in range(20):
+                with commands.start("discover") as process:
+                    out, err = process.communicate(timeout=SECONDS)
+                is_unsettled = (process.returncode, out, err) == (1, b"", b"error: unsettled\n")
+                pages += not is_unsettled
+                check(is_unsettled or process.returncode == 0 and is_page(out, record), f"what is printed: {out!r} {err!r}")
+        check(pages >= least, f"{pages} pages")
+
+
 @on_base(LARGE)
 def list_prints_the_namespaces(target, commands):
     commands.prints(b"1\n7\n", "list")
@@ -157,6 +208,7 @@ def a_namespace_that_is_inaccessible_is_not_read(_, commands):
 TESTS = [
     discover_prints_its_records,
     discover_prints_referrals,
+    discover_prints_a_page_of_one_moment,
     list_prints_the_namespaces,
     ana_prints_the_groups,
     changed_waits_for_an_edit,

@@ -42,8 +42,8 @@ class Queue:
     """A connection with a queue of a controller, of this SQSIZE, with a Keep Alive Timer of so many milliseconds."""
 
     def __init__(self, served, port, qid=0, controller=ANY_CONTROLLER, size=31, kato=0, **more):
-        """More: the `subsystem`, `buffer`, `segment` and `seconds`, where they are not the usual ones."""
-        subsystem = more.pop("subsystem", NQN)
+        """More: the `subsystem`, `host`, `buffer`, `segment` and `seconds`, where they are not the usual ones."""
+        subsystem, host = more.pop("subsystem", NQN), more.pop("host", HOST)
         self.peer = initialized(served, port, **more)
         self.cid = 0
         self.qid = qid
@@ -51,7 +51,7 @@ class Queue:
         # How many responses came.
         self.responses = 0
         words = struct.pack("<HHHHI", 0, qid, size, 0, kato)
-        data = connect_data(controller, subsystem, HOST)
+        data = connect_data(controller, subsystem, host)
         status, result, _ = self.answer(command(0x7F, self.next(), 1, 1024, 1, words), data)
         check_equal("the status of the Connect", status, 0)
         self.controller = result & 0xFFFF

@@ -61,16 +61,19 @@ def one_disk(service, blocks=2048):
 
 
 class Served:
-    """`nvt_target run` on these edits, until the block ends. What it prints goes to files of its folder, or to others
-    that are named."""
+    """`nvt_target run` on these edits, until the block ends, in this environment, where it is not the usual one. What it
+    prints goes to files of its folder, or to others that are named."""
 
-    def __init__(self, program, edits, control=None, options=(), turns=2**64 - 1, out=None, err=None):
+    def __init__(
+        self, program, edits, control=None, options=(), turns=2**64 - 1, out=None, err=None, environment=None
+    ):
         self.control = control or free_ports(1)[0]
         self.folder = tempfile.TemporaryDirectory(prefix="sockets-")
         Path(self.folder.name, "EDITS").write_bytes(b"".join(line + b"\n" for line in edits))
         words = ["nvt_target", "run", "EDITS", "--control", str(self.control)]
         self.words = [*words, "--turns", str(turns), *options]
         self.program = program
+        self.environment = environment
         self.files = out or self.path("out"), err or self.path("err")
         self.process = None
 
@@ -80,6 +83,7 @@ class Served:
                 self.words,
                 executable=self.program,
                 cwd=self.folder.name,
+                env=self.environment,
                 stdin=subprocess.DEVNULL,
                 stdout=out,
                 stderr=err,

@@ -15,9 +15,9 @@ from .owed import data_pdu
 from .served import SECONDS, Served, check, check_equal, free_ports, one_disk, received
 
 UNKNOWN_OPCODE = 0x7A
-# So many looks are made, of which the best counts.
+# So many looks are made, of which the best counts: more where other work takes processors away.
 LOOKS_MIN = 3
-LOOKS_MAX = 8
+LOOKS_MAX = 24
 LOOK_SECONDS = 0.3
 
 

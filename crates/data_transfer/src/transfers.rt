@@ -55,7 +55,8 @@ impl<C> Transfers<C> {
 
     /// Begins a transfer of `asked` bytes, as its R2T asks for, under the least tag that no other
     /// transfer of the connection uses. All memory that it will need is taken here. A refusal leaves
-    /// all as it was.
+    /// all as it was. The connection's number is below 64, and it has fewer than 63 transfers: as many
+    /// as a queue has commands outstanding at most (Base 2.0, section 3.3.3.1).
     pub fn begin(
         &mut self,
         conn: usize,

@@ -1,4 +1,5 @@
 mod Cutting
+mod Had
 mod Held
 mod Joined
 mod LineTaken
@@ -6,4 +7,3 @@ mod Listed
 mod Padding
 mod Pages
 mod Printing
-mod Records

@@ -3,6 +3,7 @@ pub mod Asking
 pub mod AwaitedLine
 pub mod Blocks
 pub mod Discovering
+pub mod Fault
 pub mod Holding
 pub mod Lines
 pub mod Listing

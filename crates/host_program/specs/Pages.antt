@@ -49,9 +49,9 @@ pub record TellsList (queue : Conversation) (result : Result (Unit {0}) SessionF
   pub asks : Asks payload_of (get_log_page 4 0 4096) page queue stands
   pub prints : Behind page result old new (λ p. Prints (changed_line (nsids_listed p)) result old new)
 
--- the event is a notice that a namespace attribute changed, of log page 04h
+-- the event is a notice that a namespace attribute changed, of log page 04h; no other bit of the result is set
 abbrev pub is_change : ℕ → Bool
-is_change event = event % 2 ^ 32 == 262146
+is_change event = event == 262146
 
 abbrev pub TellsWhere : Bool → Conversation → Result (Unit {0}) SessionFault → Option (List ℕ) → Option (List ℕ) → Type 0
 TellsWhere true queue result old new = TellsList queue result old new

@@ -20,7 +20,7 @@ Prints text (Ok done) old new = Appends old new text
 Prints text (Err fault) old new = IsOfWriting fault × AppendsFront old new text
 
 -- what is done with a value that a command got; a fault in its place is that of the command, which prints nothing
-abbrev pub Behind : {A : Type 0} → Result A SessionFault → Result (Unit {0}) SessionFault → Option (List ℕ) → Option (List ℕ) → (A → Type 0) → Type 0
+abbrev pub Behind : {A E : Type 0} → Result A E → Result (Unit {0}) E → Option (List ℕ) → Option (List ℕ) → (A → Type 0) → Type 0
 Behind (Ok a) result old new Next = Next a
 Behind (Err fault) result old new Next = (result ≡ Err fault) × (new ≡ old)
 

@@ -64,7 +64,7 @@ fn await_change<L: Link + Drop, W: Write>(
     ensures { AwaitsChange session.old result (W.contents out.old) (W.contents out.new) }
 {
     let event = ask_result(session, &event_request(alloc))?;
-    if event % (1 << 32) != NAMESPACE_CHANGED {
+    if event != NAMESPACE_CHANGED {
         return Err(SessionFault::BadPage);
     }
     tell_list(alloc, session, out)

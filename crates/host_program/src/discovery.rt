@@ -1,44 +1,36 @@
 //! The command `discover`.
-ghost use Rattle.std.specs.Prelude.{◌≡◌, ◌≤◌, Err, IfSome, MatchResult, Ok, flat_map};
-ghost use Rattle.host_pages.specs.DiscoveryPage.{fault_of};
-ghost use Rattle.host_program.specs.Asked.{record_count_of};
-ghost use Rattle.host_program.specs.Discovering.{Discovers, ReadsInto, ReadsPage, ShowsRecords, TellsRecords, page_text};
+ghost use Rattle.std.specs.Prelude.{◌≡◌, ◌<◌, [], Ok, flat_map};
+ghost use Rattle.host_discovery.specs.declared.progress.Progress.TheVariants.{Asking};
+ghost use Rattle.host_discovery.specs.Discover.{answers_left, asks};
+ghost use Rattle.host_program.specs.Discovering.{Discovers, PrintsAll, ReadsPage, ReadsPart, ShowsRecords, TellsRecords, page_text};
 ghost use Rattle.host_program.specs.Lines.{genctr_line, record_line};
-ghost use Rattle.host_program.specs.Pages.{PrintsPage};
 ghost use Rattle.host_program.specs.Printed.{Prints};
 
 use crate::asked::ask;
+use crate::fault::CommandFault;
 use crate::lines::{push_genctr, push_record};
 use crate::opened::open_admin;
 use crate::peers::Peers;
 use crate::printed::print;
+use host_discovery::{Discover, Progress};
 use host_link::commands::get_log_page;
 use host_link::{Link, Session, SessionFault};
 use host_pages::{DiscoveryPage, DiscoveryRecord, Records};
-use nvt_fields::{Nqn, u16_at, u64_at};
+use nvt_fields::Nqn;
 use std::alloc::Global;
 use std::io::Write;
 
 /// The identifier of the discovery log page (Base 2.0, section 5.16.1.23).
 const DISCOVERY: u8 = 0x70;
 
-/// The length of its header, and that of each record, in bytes.
-const PART_LEN: u32 = 1024;
-
-/// The most records of a page that is read.
-const RECORDS_MAX: u64 = 1024;
-
-/// How many records are read at a time.
-const RECORDS_PER_READ: u32 = 32;
-
-/// Reads the discovery log page, its header and then its records once, and prints both.
+/// Reads the discovery log page as it stood at one moment, and prints it.
 pub fn discover<L: Link + Drop, W: Write>(
     alloc: Global,
     link: L,
     host: &Nqn,
     turns: u64,
     out: &mut W,
-) -> Result<(), SessionFault>
+) -> Result<(), CommandFault>
     ensures { Discovers host.now turns (L.state link) result (W.contents out.old) (W.contents out.new) }
 {
     let peers = Peers::of_discovery(alloc, host)?;
@@ -51,7 +43,7 @@ fn discover_as<L: Link + Drop, W: Write>(
     peers: &Peers,
     turns: u64,
     out: &mut W,
-) -> Result<(), SessionFault>
+) -> Result<(), CommandFault>
     ensures { ShowsRecords peers.now turns (L.state link) result (W.contents out.old) (W.contents out.new) }
 {
     let mut session = open_admin(alloc, link, peers, turns)?;
@@ -62,76 +54,61 @@ fn tell_records<L: Link + Drop, W: Write>(
     alloc: Global,
     session: &mut Session<L>,
     out: &mut W,
-) -> Result<(), SessionFault>
+) -> Result<(), CommandFault>
     ensures { TellsRecords session.old result (W.contents out.old) (W.contents out.new) }
 {
-    let page = read_page(alloc, session)?;
-    print_read(alloc, &page, out)
-}
-
-fn print_read<W: Write>(alloc: Global, page: &[u8], out: &mut W) -> Result<(), SessionFault>
-    ensures { PrintsPage (fault_of page.now) (page_text page.now) result (W.contents out.old) (W.contents out.new) }
-{
-    match DiscoveryPage::read(page) {
-        Ok(page) => print_page(alloc, &page, out),
-        Err(_) => Err(SessionFault::BadPage),
+    let mut reading = Discover::new(alloc);
+    read_page(alloc, session, &mut reading)?;
+    match reading.page() {
+        Some(page) => print_had(alloc, &page, out),
+        // It was read to its end.
+        None => Err(CommandFault::Session(SessionFault::BadPage)),
     }
 }
 
 fn read_page<L: Link + Drop>(
     alloc: Global,
     session: &mut Session<L>,
-) -> Result<Vec<u8>, SessionFault>
-    ensures { MatchResult result
-        (λ page. ReadsPage (Ok page.items) session.old session.new)
-        (λ fault. ReadsPage (Err fault) session.old session.new) }
+    reading: &mut Discover,
+) -> Result<(), CommandFault>
+    requires { reading.old ≡ asks 0 [] }
+    ensures { ReadsPage (asks 0 []) result reading.new session.old session.new }
 {
-    let header = get_log_page(alloc, DISCOVERY, 0, PART_LEN);
-    let mut page = ask(session, &header)?;
-    match record_count(&page) {
-        Some(count) => read_records(alloc, session, count, &mut page)?,
-        None => return Err(SessionFault::BadPage),
+    loop {
+        match read_part(alloc, session, reading)? {
+            Progress::Asking => {}
+            Progress::Done => return Ok(()),
+        }
     }
-    Ok(page)
 }
 
-// Appends so many records.
-fn read_records<L: Link + Drop>(
+// Reads what is asked for next.
+fn read_part<L: Link + Drop>(
     alloc: Global,
     session: &mut Session<L>,
-    count: u32,
-    page: &mut Vec<u8>,
-) -> Result<(), SessionFault>
-    requires { count ≤ 1024 }
-    ensures { ReadsInto count page.old.items result page.new.items session.old session.new }
+    reading: &mut Discover,
+) -> Result<Progress, CommandFault>
+    ensures reads { ReadsPart reading.old result reading.new session.old session.new }
+    ensures fewer { result ≡ Ok Asking → answers_left reading.new < answers_left reading.old }
 {
-    let mut done = 0;
-    while done < count {
-        let records = (count - done).min(RECORDS_PER_READ);
-        let offset = u64::from(PART_LEN) * (1 + u64::from(done));
-        let part = ask(
-            session,
-            &get_log_page(alloc, DISCOVERY, offset, records * PART_LEN),
-        )?;
-        page.extend_from_slice(&part)?;
-        done += records;
+    let read = reading.ask();
+    let command = get_log_page(alloc, DISCOVERY, read.offset, read.len);
+    match ask(session, &command) {
+        Ok(bytes) => Ok(reading.answer(Ok(&bytes))?),
+        Err(SessionFault::Status(status)) => Ok(reading.answer(Err(status))?),
+        Err(fault) => Err(CommandFault::Session(fault)),
     }
-    Ok(())
 }
 
-// How many records a header counts, where their format is known and there are not too many.
-fn record_count(header: &[u8]) -> Option<u32>
-    ensures value { result ≡ record_count_of header.now }
-    ensures most { IfSome result (λ count. count ≤ 1024) }
+fn print_had<W: Write>(
+    alloc: Global,
+    page: &DiscoveryPage<'_>,
+    out: &mut W,
+) -> Result<(), CommandFault>
+    ensures { PrintsAll (page_text page.now) result (W.contents out.old) (W.contents out.new) }
 {
-    if header.len() < PART_LEN as usize {
-        return None;
-    }
-    let count = u64_at(header, 8);
-    if u16_at(header, 16) != 0 || count > RECORDS_MAX {
-        return None;
-    }
-    Some(count as u32)
+    print_page(alloc, page, out)?;
+    Ok(())
 }
 
 fn print_page<W: Write>(

@@ -4,7 +4,7 @@ use crate::command_line;
 use clap::ArgMatches;
 use host_program::{Blocks, Fill, Peers, SessionFault};
 use nvt_fields::{Nqn, NqnFault};
-use program_words::{Refusal, parsed, refusal_of, take_words};
+use program_words::{Refusal, number, parsed, refusal_of, take_words};
 use std::alloc::{AllocError, Global};
 use std::net::{IpAddr, SocketAddr};
 use std::rt::Env;
@@ -108,9 +108,9 @@ fn lab_arguments(
         return Ok(None);
     };
     match (
-        matches.get_one::<u16>("port"),
-        matches.get_one::<u16>("control"),
-        matches.get_one::<u64>("turns"),
+        port(matches, "port"),
+        port(matches, "control"),
+        number(matches, "turns"),
     ) {
         (Some(port), Some(control), Some(turns)) => Ok(Some(LabArguments {
             target: target.to_string(alloc)?,
@@ -144,7 +144,7 @@ fn command_arguments(
     let Some(address) = address_of(matches) else {
         return Ok(None);
     };
-    let Some(turns) = matches.get_one::<u64>("turns") else {
+    let Some(turns) = number(matches, "turns") else {
         return Ok(None);
     };
     match verb_of(alloc, name, matches)? {
@@ -159,7 +159,11 @@ fn command_arguments(
 
 fn address_of(matches: &ArgMatches<'_>) -> Option<SocketAddr> {
     let ip = IpAddr::parse_ascii(matches.get_str("ADDR")?.as_bytes()).ok()?;
-    Some(SocketAddr::new(ip, matches.get_one::<u16>("PORT")?))
+    Some(SocketAddr::new(ip, port(matches, "PORT")?))
+}
+
+fn port(matches: &ArgMatches<'_>, name: &str) -> Option<u16> {
+    u16::try_from(number(matches, name)?).ok()
 }
 
 fn verb_of(
@@ -200,7 +204,7 @@ fn verb_to(name: &str, peers: Peers, matches: &ArgMatches<'_>) -> Option<Verb> {
         _ => {
             let fill = Fill {
                 blocks: blocks_of(matches)?,
-                byte: matches.get_one::<u8>("BYTE")?,
+                byte: u8::try_from(number(matches, "BYTE")?).ok()?,
             };
             if matches.get_flag("hold") {
                 Some(Verb::WriteHeld(peers, fill))
@@ -213,8 +217,8 @@ fn verb_to(name: &str, peers: Peers, matches: &ArgMatches<'_>) -> Option<Verb> {
 
 fn blocks_of(matches: &ArgMatches<'_>) -> Option<Blocks> {
     Blocks::new(
-        matches.get_one::<u32>("NSID")?,
-        matches.get_one::<u64>("LBA")?,
-        matches.get_one::<u16>("COUNT")?,
+        u32::try_from(number(matches, "NSID")?).ok()?,
+        number(matches, "LBA")?,
+        u16::try_from(number(matches, "COUNT")?).ok()?,
     )
 }

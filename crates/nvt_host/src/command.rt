@@ -1,6 +1,8 @@
 //! The commands, over sockets.
 use crate::arguments::{HostArguments, Verb};
-use host_program::{Links, SessionFault, ana, changed, discover, list, read, write, write_held};
+use host_program::{
+    CommandFault, Links, SessionFault, ana, changed, discover, list, read, write, write_held,
+};
 use host_sockets::TcpLink;
 use std::io::{self, BufWriter, ErrorKind, Write};
 use std::net::{Net, SocketAddr};
@@ -17,15 +19,16 @@ pub fn tell<R: Print>(rt: &R, line: &str) -> Result<(), SessionFault> {
 pub fn run<R: Net + Clock + Print + Input + AllocGlobal>(
     rt: &R,
     arguments: &HostArguments,
-) -> Result<(), SessionFault> {
+) -> Result<(), CommandFault> {
     match BufWriter::with_capacity(rt.alloc(), OUTPUT_BUFFER, io::writer(rt)) {
         Ok(mut out) => {
             let ran = talk(rt, arguments, &mut out);
             let flushed = written(out.flush());
             ran?;
-            flushed
+            flushed?;
+            Ok(())
         }
-        Err(_) => Err(SessionFault::Memory),
+        Err(_) => Err(CommandFault::Session(SessionFault::Memory)),
     }
 }
 
@@ -33,28 +36,29 @@ fn talk<R: Net + Clock + Input + AllocGlobal, W: Write>(
     rt: &R,
     arguments: &HostArguments,
     out: &mut W,
-) -> Result<(), SessionFault> {
+) -> Result<(), CommandFault> {
     let (alloc, turns) = (rt.alloc(), arguments.turns);
     let link = connect(rt, arguments.address)?;
     match &arguments.verb {
-        Verb::Discover(host) => discover(alloc, link, host, turns, out),
-        Verb::List(peers) => list(alloc, link, peers, turns, out),
-        Verb::Ana(peers) => ana(alloc, link, peers, turns, out),
-        Verb::Changed(peers) => changed(alloc, link, peers, turns, out),
+        Verb::Discover(host) => discover(alloc, link, host, turns, out)?,
+        Verb::List(peers) => list(alloc, link, peers, turns, out)?,
+        Verb::Ana(peers) => ana(alloc, link, peers, turns, out)?,
+        Verb::Changed(peers) => changed(alloc, link, peers, turns, out)?,
         Verb::Read(peers, blocks) => {
             let links = both(rt, arguments.address, link)?;
-            read(alloc, links, peers, *blocks, turns, out)
+            read(alloc, links, peers, *blocks, turns, out)?;
         }
         Verb::Write(peers, fill) => {
             let links = both(rt, arguments.address, link)?;
-            write(alloc, links, peers, *fill, turns, out)
+            write(alloc, links, peers, *fill, turns, out)?;
         }
         Verb::WriteHeld(peers, fill) => {
             let links = both(rt, arguments.address, link)?;
             let mut lines = rt.reader();
-            write_held(alloc, links, peers, *fill, turns, &mut lines, out)
+            write_held(alloc, links, peers, *fill, turns, &mut lines, out)?;
         }
     }
+    Ok(())
 }
 
 // A link more, to the same address.

@@ -9,6 +9,7 @@ A command that does not come to its end prints why on standard error, and ends w
   error: fault FES FEI   the controller broke a rule of the transport, and was told so
   error: term FES FEI    the controller says that the host did
   error: bad page        an answer is not what it has to be
+  error: unsettled       the discovery log page changed in each of eight tries to read it
   error: too large       more than 131072 bytes of data
   error: io              the connection was refused, or ended, or the output cannot be written
   error: turns           so many turns passed
@@ -24,8 +25,9 @@ Examples, with a target that `nvt_target run` serves:
 pub const DISCOVER: &str =
     "Prints `genctr G records N`, with the generation of the page, and a line for each record:
   record TRTYPE ADRFAM SUBTYPE PORTID TRADDR TRSVCID NQN
-TRTYPE is 3 for TCP, ADRFAM 1 for IPv4 and 2 for IPv6, SUBTYPE 1 for another discovery controller
-and 2 for a subsystem. A byte of a text that no word has is printed as `?`.
+The records are those of one moment: a page that changes while it is read is read again. TRTYPE is
+3 for TCP, ADRFAM 1 for IPv4 and 2 for IPv6, SUBTYPE 1 for another discovery controller and 2 for
+a subsystem. A byte of a text that no word has is printed as `?`.
 
 Example:
   nvt_host discover 127.0.0.1 4420 nqn.2026-01.test:h1

@@ -9,7 +9,7 @@ mod help;
 
 use arguments::{LabArguments, Usage};
 use host_lab::{Plan, lab};
-use host_program::SessionFault;
+use std::fmt::Display;
 use std::net::Net;
 use std::process::{ExitCode, Processes};
 use std::rt::Clock;
@@ -55,7 +55,7 @@ fn plan_of(arguments: &LabArguments) -> Plan<'_> {
     }
 }
 
-fn finish(rt: &impl Eprint, outcome: Result<(), SessionFault>) -> ExitCode {
+fn finish<F: Display + Drop>(rt: &impl Eprint, outcome: Result<(), F>) -> ExitCode {
     match outcome {
         Ok(()) => ExitCode::SUCCESS,
         Err(fault) => {

@@ -29,6 +29,7 @@ record OnlyGone (k : ℕ) (old new : TargetState) : Type 0 where
   config : new.config ≡ old.config
   clock : new.clock ≡ old.clock
   shown : new.shown ≡ old.shown
+  formed : new.formed ≡ old.formed
   connection : (j : ℕ) → place new.connections j ≡ (if j == k then None else place old.connections j)
   stream : (j : ℕ) → place new.streams j ≡ (if j == k then None else place old.streams j)
   part : (j t : ℕ) → part_at new.transfers j t ≡ (if j == k then None else part_at old.transfers j t)
@@ -48,6 +49,7 @@ only_gone k c old new known ended transition = record {
   config = transition.config;
   clock = transition.clock;
   shown = transition.shown;
+  formed = transition.formed;
   connection = λ j. transition.connection j ∙ here j (j == k);
   stream = λ j. transition.stream j ∙ stream_here j (j == k);
   part = λ j t. transition.part j t ∙ part_here j t (j == k) refl;
@@ -115,6 +117,7 @@ closed_after k c old new known ended transition =
       config = gone.config;
       clock = gone.clock;
       shown = gone.shown;
+      formed = gone.formed;
       connection = λ j. gone.connection j
           ∙ gone_at (j == k) c after (place old.connections j) (place (with_connection old k after).connections j) (known_at j) ended (taken j);
       stream = λ j. gone.stream j

@@ -75,6 +75,7 @@ left_at k None old new known takes lasts = rw takes (record {
   config = refl;
   clock = refl;
   shown = refl;
+  formed = refl;
   connection = λ j. same_at (j == k) (place old.connections j) (λ is. ap (place old.connections) (eqb-true j k is) ∙ known);
   stream = λ j. stream_stays (j == k) (is_ended_at (place old.connections j)) (place old.streams j) (ended_there k j old None false known lasts);
   part = λ j t. stream_stays (j == k) (is_ended_at (place old.connections j)) (part_at old.transfers j t) (ended_there k j old None false known lasts);
@@ -86,6 +87,7 @@ left_at k (Some c) old new known takes lasts = rw takes (record {
   config = refl;
   clock = refl;
   shown = refl;
+  formed = refl;
   connection = λ j.
       let after : KnownConnection = record { state = c.state; output = [] } in
       place-with_value_held old.connections k after j c known
@@ -130,6 +132,7 @@ none_printed t = record {
   config = refl;
   clock = refl;
   shown = refl;
+  formed = refl;
   connection = λ j. rw (none j) refl;
   stream = λ j. rw (none j) refl;
   part = λ j t. rw (none j) refl;
@@ -163,6 +166,7 @@ more_printed k old mid new first next = record {
   config = next.config ∙ first.config;
   clock = next.clock ∙ first.clock;
   shown = next.shown ∙ first.shown;
+  formed = next.formed ∙ first.formed;
   connection = λ j. rw (before_more j k)
       (more_at (j == k) (nat_lt j k) (place old.connections j) (place mid.connections j) (place new.connections j) (not_before j k) (first.connection j) (next.connection j));
   stream = λ j. rw (before_more j k)

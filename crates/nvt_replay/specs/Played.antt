@@ -78,6 +78,7 @@ pub record ArePrinted (these : ℕ → Bool) (old new : TargetState) : Type 0 wh
   pub config : new.config ≡ old.config
   pub clock : new.clock ≡ old.clock
   pub shown : new.shown ≡ old.shown
+  pub formed : new.formed ≡ old.formed
   pub connection : (k : ℕ) → place new.connections k
       ≡ (if these k then printed_out (place old.connections k) else place old.connections k)
   pub stream : (k : ℕ) → place new.streams k

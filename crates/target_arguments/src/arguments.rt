@@ -3,7 +3,7 @@
 use crate::command_line;
 use clap::ArgMatches;
 use command_parts::{DiskArguments, ReplayArguments, ReplayFault, ServeArguments};
-use program_words::{Refusal, parsed, refusal_of, take_words};
+use program_words::{Refusal, number, parsed, refusal_of, take_words};
 use std::alloc::{AllocError, Global};
 use std::rt::Env;
 
@@ -72,8 +72,8 @@ fn replay_usage(alloc: Global, replay: &ArgMatches<'_>) -> Result<Usage, ReplayF
 fn serve_usage(alloc: Global, run: &ArgMatches<'_>) -> Result<Usage, ReplayFault> {
     match (
         run.get_str("EDITS"),
-        run.get_one::<u16>("control"),
-        run.get_one::<u64>("turns"),
+        port(run, "control"),
+        number(run, "turns"),
         disk_arguments(run),
     ) {
         (Some(edits), Some(control), Some(turns), Some(disks)) => Ok(Usage::Serve(
@@ -88,11 +88,13 @@ fn serve_usage(alloc: Global, run: &ArgMatches<'_>) -> Result<Usage, ReplayFault
     }
 }
 
+fn port(matches: &ArgMatches<'_>, name: &str) -> Option<u16> {
+    u16::try_from(number(matches, name)?).ok()
+}
+
 fn disk_arguments(matches: &ArgMatches<'_>) -> Option<DiskArguments> {
-    let disks = matches.get_one::<u16>("disks")?;
-    let units = matches.get_one::<u64>("units")?;
     Some(DiskArguments {
-        disks: usize::from(disks),
-        units,
+        disks: usize::try_from(number(matches, "disks")?).ok()?,
+        units: number(matches, "units")?,
     })
 }

@@ -33,7 +33,8 @@ use Rattle.target_history.specs.Occurrence.{Occurrence, acts, clock_after, confi
 use Rattle.target_history.specs.History.{Opening, blocks_of, clock_of, config_of, connection_of, happened, last_front, meets_after, part_of, pdus_of, sent, with_pdu, world_of}
 use Rattle.target_history.proofs.Blocks.{blocks_step}
 use Rattle.target_history.proofs.Lives.{controller_step, row_step}
-use Rattle.target_history.proofs.Steps.{connection_step}
+use Rattle.target_history.proofs.Noticing.{connection_step}
+use Rattle.target_history.proofs.Transfers.{part_step}
 use Rattle.target_views.proofs.Shows.{new_show, pages_agree, views_step}
 
 -- ---- what an event meets
@@ -149,9 +150,9 @@ transition_agrees event old new transition = record {
         connection = λ k. ap (option_map (λ (c : KnownConnection). c.state))
             (transition.connection k ∙ ap (λ (y : Occurrence). known_after y k (place old.connections k)) met)
             ∙ moved_here x k (place old.connections k) ∙ ap (connection_after x k) (agrees.connection k)
-            ∙ sym (connection_step x before k refl);
+            ∙ sym (connection_step disks events event k);
         part = λ k ttag. transition.part k ttag ∙ ap (λ (y : Occurrence). parts_after y k (part_at old.transfers k) ttag) met
-            ∙ ap (λ (tags : Tags). parts_after x k tags ttag) (fun_ext (agrees.part k));
+            ∙ ap (λ (tags : Tags). parts_after x k tags ttag) (fun_ext (agrees.part k)) ∙ sym (part_step x before k refl refl ttag);
         row = λ c. transition.row c ∙ ap (λ (y : Occurrence). row_after y c (place old.rows c)) met ∙ ap (row_after x c) (agrees.row c)
             ∙ sym (row_step x before c refl);
         controller = λ c. transition.controller c ∙ ap (λ (y : Occurrence). controller_after y c (place old.controllers c)) met

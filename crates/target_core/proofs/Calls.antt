@@ -1,5 +1,5 @@
 -- Each call keeps the agreement: from the exact clauses of a call to what its answer says.
-use Rattle.std.proofs.Common.{◌≡◌, ℕ, Bool, true, false, ◌&&◌, List, ◌++◌, length, take, drop, min, Option, Some, None, Result, Ok, Err, OnOk, OnErr, IfOk, MatchOption, refl, sym, ap, subst, ◌∙◌, append_assoc, take-append-drop}
+use Rattle.std.proofs.Common.{◌≡◌, ◌≤◌, ℕ, ◌+◌, Bool, true, false, ◌&&◌, List, ◌++◌, length, take, drop, min, Option, Some, None, Result, Ok, Err, OnOk, OnErr, IfOk, MatchOption, refl, sym, ap, subst, ◌∙◌, append_assoc, take-append-drop, arith}
 use Rattle.std.specs.Prelude.{if◌then◌else◌, ◌==◌}
 use Rattle.std.specs.Option.{option_map}
 use Rattle.std.proofs.lemmas.Bool.{eqb-true}
@@ -7,6 +7,7 @@ use Rattle.number_table.specs.Table.{place}
 use Rattle.number_table.proofs.Tables.{place_within, place-with_value}
 use Rattle.config_edits.specs.declared.edit.Edit.{Edit}
 use Rattle.config_edits.specs.declared.fault.EditFault.{EditFault}
+use Rattle.discovery_view.specs.Forming.{reach}
 use Rattle.pdu_cut.specs.declared.side.Side.TheVariants.{Target}
 use Rattle.pdu_cut.specs.Front.{Front, incomplete, whole, faulty, front}
 use Rattle.pdu_cut.specs.Pdu.{Pdu}
@@ -35,6 +36,12 @@ pub edit_keeps : (old new : TargetState) (edit : Edit) (result : Result (Unit {0
     → OnOk result (Transition (edited edit) old new) → OnErr result (new ≡ old) → EditAgrees edit old result new
 edit_keeps old new edit (Ok done) transition err = transition_agrees (edited edit) old new transition
 edit_keeps old new edit (Err fault) transition err = same_agrees old new err
+
+-- an edit that is refused forms none
+pub edit_forms : (old new : TargetState) (edit : Edit) (result : Result (Unit {0}) EditFault)
+    → OnOk result (Transition (edited edit) old new) → OnErr result (new ≡ old) → new.formed ≤ old.formed + reach old.config edit
+edit_forms old new edit (Ok done) transition err = transition.formed
+edit_forms old new edit (Err fault) transition err = rw err (omega arith)
 
 pub open_keeps : (old new : TargetState) (port : ℕ) (result : Result ℕ OpenFault)
     → IfOk result (λ k. (free_number old ≡ Some k) × Transition (opened port k) old new)

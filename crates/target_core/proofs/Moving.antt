@@ -1,5 +1,5 @@
 -- What the calls make of a target, place by place.
-use Rattle.std.proofs.Common.{◌≡◌, ℕ, ◌<◌, Bool, true, false, List, [], length, map, ◌++◌, max, Option, Some, None, Result, Ok, refl, sym, ap, ◌∙◌, append-nil}
+use Rattle.std.proofs.Common.{◌≡◌, ℕ, ◌+◌, ◌<◌, ◌≤◌, Bool, true, false, List, [], length, map, ◌++◌, max, Option, Some, None, Result, Ok, refl, sym, ap, ◌∙◌, append-nil}
 use Rattle.std.specs.Prelude.{if◌then◌else◌, ◌==◌, is_none, position}
 use Rattle.std.specs.Option.{option_map}
 use Rattle.number_table.specs.Table.{place, with_value, without}
@@ -11,6 +11,7 @@ use Rattle.config_rules.specs.Configuration.{Configuration}
 use Rattle.controller_tables.specs.Controllers.{TablesState, gone_by}
 use Rattle.controller_tables.proofs.Staying.{nothing_gone, nothing_goes, nothing_leaves}
 use Rattle.block_store.specs.Stored.{Stored}
+use Rattle.discovery_view.specs.Forming.{reach}
 use Rattle.fabrics_connect.specs.declared.row.Row.{Row}
 use Rattle.notices.specs.Viewer.{Views}
 use Rattle.data_transfer.specs.Part.{Part}
@@ -212,7 +213,7 @@ made_same made a b h k = cc
 
 pub edit_moves : (old new : TargetState) (edit : Edit) (before after : Configuration) → accept old.config edit ≡ Ok new.config → before ≡ old.config → after ≡ new.config
     → new.clock ≡ old.clock
-    → ShowNext new.config old.shown new.shown → new.streams ≡ old.streams
+    → ShowNext new.config old.shown new.shown → new.formed ≤ old.formed + reach old.config edit → new.streams ≡ old.streams
     → (ended : List (Option KnownConnection))
     → ended ≡ map (option_map (settled (cause_edited edit) (gone_by (cause_edited edit) new.config (tables_of old)))) old.connections
     → new.connections ≡ map (option_map (told_known before after (λ (c : ℕ). place new.rows c))) ended
@@ -221,7 +222,7 @@ pub edit_moves : (old new : TargetState) (edit : Edit) (before after : Configura
     → ((c : ℕ) → place new.controllers c ≡ (if gone_by (cause_edited edit) new.config (tables_of old) c then None else place old.controllers c))
     → ((k t : ℕ) → part_at new.transfers k t ≡ (if ends_known (cause_edited edit) (gone_by (cause_edited edit) new.config (tables_of old)) (place old.connections k) then None else part_at old.transfers k t))
     → new.disks ≡ old.disks → Transition (edited edit) old new
-edit_moves old new edit before now accepted first last clock shown streams ended settles tells rows controllers parts disks =
+edit_moves old new edit before now accepted first last clock shown formed streams ended settles tells rows controllers parts disks =
     let x = meets old (edited edit) in
     let after : config_after (edited edit) old.config ≡ new.config = rw accepted refl in
     let gone = gone_after old (edited edit) new.config after in
@@ -233,6 +234,7 @@ edit_moves old new edit before now accepted first last clock shown streams ended
       config = sym after;
       clock = clock;
       shown = shown;
+      formed = formed;
       connection = λ k. ap (λ (l : List (Option KnownConnection)). place l k)
           (tells ∙ ap (map (option_map (told_known before now (λ (n : ℕ). place new.rows n)))) settles
           ∙ ap (λ (c : Configuration). map (option_map (told_known c now (λ (n : ℕ). place new.rows n)))
@@ -254,7 +256,7 @@ edit_moves old new edit before now accepted first last clock shown streams ended
 
 -- ---- the clock
 
-pub tick_moves : (old new : TargetState) (now : ℕ) → new.config ≡ old.config → new.clock ≡ max old.clock now → new.shown ≡ old.shown
+pub tick_moves : (old new : TargetState) (now : ℕ) → new.config ≡ old.config → new.clock ≡ max old.clock now → new.shown ≡ old.shown → new.formed ≡ old.formed
     → new.streams ≡ old.streams
     → new.connections ≡ map (option_map (settled (cause.Clock (max old.clock now)) (gone_by (cause.Clock (max old.clock now)) old.config (tables_of old)))) old.connections
     → ((c : ℕ) → place new.rows c ≡ (if gone_by (cause.Clock (max old.clock now)) old.config (tables_of old) c then None else
@@ -262,13 +264,14 @@ pub tick_moves : (old new : TargetState) (now : ℕ) → new.config ≡ old.conf
     → ((c : ℕ) → place new.controllers c ≡ (if gone_by (cause.Clock (max old.clock now)) old.config (tables_of old) c then None else place old.controllers c))
     → ((k t : ℕ) → part_at new.transfers k t ≡ (if ends_known (cause.Clock (max old.clock now)) (gone_by (cause.Clock (max old.clock now)) old.config (tables_of old)) (place old.connections k) then None else part_at old.transfers k t))
     → new.disks ≡ old.disks → Transition (ticked now) old new
-tick_moves old new now config clock shown streams connections rows controllers parts disks =
+tick_moves old new now config clock shown formed streams connections rows controllers parts disks =
     let x = meets old (ticked now) in
     record {
       stands = tt;
       config = config;
       clock = clock;
       shown = shown;
+      formed = formed;
       connection = λ k. ap (λ (l : List (Option KnownConnection)). place l k) connections
           ∙ place-map (settled (cause.Clock (max old.clock now)) (ends_live x)) old.connections k ∙ silent_at x k (place old.connections k) refl refl refl;
       part = λ k t. parts k t ∙ part_at-silent x k (place old.connections k) (part_at old.transfers k) t refl refl refl refl;
@@ -281,17 +284,18 @@ tick_moves old new now config clock shown streams connections rows controllers p
 -- ---- an open
 
 pub open_moves : (old new : TargetState) (port k : ℕ) → position is_none old.connections ≡ Some k → k < length old.streams
-    → new.config ≡ old.config → new.shown ≡ old.shown → new.clock ≡ old.clock
+    → new.config ≡ old.config → new.shown ≡ old.shown → new.formed ≡ old.formed → new.clock ≡ old.clock
     → new.streams ≡ with_value old.streams k [] → new.connections ≡ with_value old.connections k (fresh_on port)
     → new.rows ≡ old.rows → new.controllers ≡ old.controllers → Stand new.transfers (without_queue (part_at old.transfers) k) → new.disks ≡ old.disks
     → Transition (opened port k) old new
-open_moves old new port k free within config shown clock streams connections rows controllers parts disks =
+open_moves old new port k free within config shown formed clock streams connections rows controllers parts disks =
     let empty = least_free-Some old.connections k free in
     record {
       stands = tt;
       config = config;
       clock = clock;
       shown = shown;
+      formed = formed;
       connection = λ j. rw (connections, place-with_value old.connections k (fresh_on port) j empty.1) (here j (j == k));
       part = λ j t. parts.at j t ∙ part_here j t (j == k) refl;
       stream = λ j. rw (streams, place-with_value old.streams k [] j within) (stream_here j (j == k));
@@ -327,7 +331,7 @@ open_moves old new port k free within config shown clock streams connections row
 -- ---- the end of a connection
 
 pub end_moves : (old new : TargetState) (k : ℕ) (c : KnownConnection) (e : EndCause) → place old.connections k ≡ Some c
-    → e ≡ cause_lost c.state.session → new.config ≡ old.config → new.shown ≡ old.shown → new.clock ≡ old.clock
+    → e ≡ cause_lost c.state.session → new.config ≡ old.config → new.shown ≡ old.shown → new.formed ≡ old.formed → new.clock ≡ old.clock
     → new.streams ≡ without old.streams k
     → new.connections ≡ without (map (option_map (settled e (gone_by e old.config (tables_of old)))) old.connections) k
     → ((n : ℕ) → place new.rows n ≡ (if gone_by e old.config (tables_of old) n then None else option_map (row_kept e n) (place old.rows n)))
@@ -336,13 +340,14 @@ pub end_moves : (old new : TargetState) (k : ℕ) (c : KnownConnection) (e : End
     → ((j t : ℕ) → part_at mid j t ≡ (if ends_known e (gone_by e old.config (tables_of old)) (place old.connections j) then None else part_at old.transfers j t))
     → Stand new.transfers (without_queue (part_at mid) k)
     → new.disks ≡ old.disks → Transition (given_up k) old new
-end_moves old new k c e known is config shown clock streams connections rows controllers mid settles parts disks =
+end_moves old new k c e known is config shown formed clock streams connections rows controllers mid settles parts disks =
     let lost : cause_of x ≡ e = rw known (sym is) in
     record {
       stands = tt;
       config = config;
       clock = clock;
       shown = shown;
+      formed = formed;
       connection = λ j. rw connections (
           place-without (map (option_map (settled e (gone_by e old.config (tables_of old)))) old.connections) k j
           ∙ here lost j (j == k));

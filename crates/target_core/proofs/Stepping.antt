@@ -169,7 +169,7 @@ pub step_moves : (old new : TargetState) (k : ℕ) (held : List ℕ) (c : KnownC
     → d ≡ decide (world_at old) c.state (part_at old.transfers k) (front Target held)
     → e ≡ cause_decided c.state.session d → ch ≡ consequence_decided (Some d)
     → begun ≡ row_decided d c.state.port (front Target held)
-    → new.config ≡ old.config → new.shown ≡ old.shown → new.clock ≡ old.clock
+    → new.config ≡ old.config → new.shown ≡ old.shown → new.formed ≡ old.formed → new.clock ≡ old.clock
     → new.connections ≡ map (option_map (settled e (gone_by e old.config (tables_of old)))) (with_value old.connections k (acted (world_at old) (contents_at old.disks) m d (front Target held) (brought_by (part_at old.transfers k) d (front Target held)) c))
     → new.streams ≡ with_value old.streams k (drop (consumed_of (front Target held)) held)
     → ((n : ℕ) → place new.rows n ≡ row_changed ch begun (if gone_by e old.config (tables_of old) n then None else place old.controllers n) n
@@ -182,7 +182,7 @@ pub step_moves : (old new : TargetState) (k : ℕ) (held : List ℕ) (c : KnownC
     (place (with_value old.connections k (acted (world_at old) (contents_at old.disks) m d (front Target held) (brought_by (part_at old.transfers k) d (front Target held)) c)) j)
     then None else part_at mid j t))
     → Transition (stepped k (front Target held) m) old new
-step_moves old new k held c d e ch begun m stream known lasts complete decides ends changes begins config shown clock connections streams rows controllers blocks mid carries parts =
+step_moves old new k held c d e ch begun m stream known lasts complete decides ends changes begins config shown formed clock connections streams rows controllers blocks mid carries parts =
     let found = front Target held in
     let x = meets old (stepped k found m) in
     let within : k < length old.connections = place_within old.connections k c known in
@@ -198,6 +198,7 @@ step_moves old new k held c d e ch begun m stream known lasts complete decides e
       config = config;
       clock = clock;
       shown = shown;
+      formed = formed;
       connection = λ j. ap (λ (l : List (Option KnownConnection)). place l j) connections
           ∙ place-map (settled e (gone_by e old.config (tables_of old))) (with_value old.connections k (acted (world_at old) (contents_at old.disks) m d found (brought_by (part_at old.transfers k) d found) c)) j
           ∙ ap (option_map (settled e (gone_by e old.config (tables_of old)))) (place-with_value old.connections k (acted (world_at old) (contents_at old.disks) m d found (brought_by (part_at old.transfers k) d found) c) j within)
@@ -295,7 +296,7 @@ pub step_done : (old new : TargetState) (k : ℕ) (held : List ℕ) (c : KnownCo
     → is_ended c.state.session ≡ false → found ≡ front Target held → is_incomplete found ≡ false
     → d ≡ decide (world_at old) c.state (part_at old.transfers k) found
     → e ≡ cause_decided c.state.session d → ch ≡ consequence_decided (Some d) → begun ≡ row_decided d c.state.port found
-    → new.config ≡ old.config → new.shown ≡ old.shown → new.clock ≡ old.clock
+    → new.config ≡ old.config → new.shown ≡ old.shown → new.formed ≡ old.formed → new.clock ≡ old.clock
     → ActsOn k (world_at old) d found (brought_by (part_at old.transfers k) d found) c old.connections turned old.disks new.disks
     → new.connections ≡ map (option_map (settled e (gone_by e old.config (tables_of old)))) turned
     → new.streams ≡ with_value old.streams k (drop (consumed_of found) held)
@@ -305,14 +306,14 @@ pub step_done : (old new : TargetState) (k : ℕ) (held : List ℕ) (c : KnownCo
     → (mid : List (List (Option (Part WaitingCommand)))) → Stand mid (with_own (part_at old.transfers) k (tags_after d found (part_at old.transfers k)))
     → ((j t : ℕ) → part_at new.transfers j t ≡ (if ends_known e (gone_by e old.config (tables_of old)) (place turned j) then None else part_at mid j t))
     → s ≡ stepped_by (is_end d) → StepsBy k held c s old new
-step_done old new k held c found d e ch begun s turned stream known lasts stands complete decides ends changes begins config shown clock acts connections streams rows controllers mid carries parts steps =
+step_done old new k held c found d e ch begun s turned stream known lasts stands complete decides ends changes begins config shown formed clock acts connections streams rows controllers mid carries parts steps =
     let here : is_incomplete (front Target held) ≡ false = rw stands at complete in
     let decided : d ≡ decide (world_at old) c.state (part_at old.transfers k) (front Target held) = rw stands at decides in
     let m : DiskOutcome = acts.acts.disk_outcome in
     let made : turned ≡ with_value old.connections k (acted (world_at old) (contents_at old.disks) m d found (brought_by (part_at old.transfers k) d found) c) =
     acts.placed ∙ ap (with_value old.connections k) acts.acts.connection in
     steps_by old new k held c d s m known lasts here decided (rw stands at acts.acts.did)
-    (step_moves old new k held c d e ch begun m stream known lasts here decided ends changes (rw stands at begins) config shown clock
+    (step_moves old new k held c d e ch begun m stream known lasts here decided ends changes (rw stands at begins) config shown formed clock
     (rw stands at (connections ∙ ap (map (option_map (settled e (gone_by e old.config (tables_of old))))) made)) (rw stands at streams) rows controllers
     (rw stands at acts.acts.contents) mid (rw stands at carries)
     (λ j t. rw stands at (parts j t ∙ ap (λ (l : List (Option KnownConnection)). if ends_known e (gone_by e old.config (tables_of old)) (place l j) then None else part_at mid j t) made))) steps

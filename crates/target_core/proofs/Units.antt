@@ -1,5 +1,5 @@
 -- The disks that a target is made with.
-use Rattle.std.proofs.Common.{◌≡◌, ℕ, List, [], ◌∷◌, length, map, Result, Ok, Err, IfOk, refl, ap, ◌∙◌}
+use Rattle.std.proofs.Common.{◌≡◌, ◌≤◌, ℕ, List, [], ◌∷◌, length, map, Result, Ok, Err, IfOk, refl, ap, ◌∙◌, arith}
 use Rattle.block_store.specs.Stored.{Stored}
 use Rattle.config_rules.specs.Configuration.{Configuration, disks_alone}
 use Rattle.io_queue.specs.Execution.{sizes}
@@ -27,6 +27,7 @@ is_new t c disks opening alone is over = record {
   over = record {
     config = over.config ∙ alone;
     shown = rw alone at over.shown;
+    formed = rw alone at over.formed;
     clock = over.clock;
     streams = over.streams;
     connections = over.connections;
@@ -35,6 +36,9 @@ is_new t c disks opening alone is over = record {
     controllers = over.controllers;
     disks = refl;
   };
+  formed =
+      let none : t.formed ≤ 0 = rw alone at over.formed in
+      omega (arith, none);
   units = ap (map (λ (s : Stored). s.contents)) over.disks ∙ is;
 }
 

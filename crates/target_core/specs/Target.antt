@@ -1,11 +1,12 @@
 -- A target, as its calls see it.
-use Rattle.std.specs.Prelude.{◌≡◌, ℕ, ◌-◌, ◌==◌, Bool, true, false, ◌||◌, List, [], Option, Some, None, is_none, find, position, replicate, Result, Ok, IsErr, ◌++◌, map, min, length, take, drop, if◌then◌else◌}
+use Rattle.std.specs.Prelude.{◌≡◌, ◌≤◌, ℕ, ◌-◌, ◌==◌, Bool, true, false, ◌||◌, List, [], Option, Some, None, is_none, find, position, replicate, Result, Ok, IsErr, ◌++◌, map, min, length, take, drop, if◌then◌else◌}
 use Rattle.std.specs.Option.{option_map}
 use Rattle.number_table.specs.Table.{place, with_value}
 use Rattle.config_rules.specs.Configuration.{Configuration, disks_alone}
 use Rattle.config_lists.specs.declared.port.Port.{Port}
 use Rattle.controller_tables.specs.Controllers.{controller_places}
 use Rattle.block_store.specs.Stored.{Stored}
+use Rattle.discovery_view.specs.Catalog.{catalog_of}
 use Rattle.data_transfer.specs.Part.{Part}
 use Rattle.data_transfer.specs.Parts.{Stand, no_parts, part_at}
 use Rattle.io_queue.specs.Execution.{contents_at, sizes}
@@ -29,12 +30,13 @@ use Rattle.target_history.specs.Event.{Event}
 use Rattle.target_history.specs.Occurrence.{Occurrence}
 use Rattle.target_history.specs.History.{Opening}
 
--- the configuration, what the views of it show, and the clock, in ms; of each connection that is known the
+-- the configuration, what the views of it show, how many records of the discovery log page they formed, and the clock, in ms; of each connection that is known the
 -- bytes received and not consumed, what else is known of it, and its transfers; of each controller that lives what all
 -- connections may see of it, and what its own admin queue alone uses; and the disks
 pub record TargetState : Type 0 where
   pub config : Configuration
   pub shown : ViewsShown
+  pub formed : ℕ
   pub clock : ℕ
   pub streams : List (Option (List ℕ))
   pub connections : List (Option KnownConnection)
@@ -47,6 +49,7 @@ pub record TargetState : Type 0 where
 pub record IsOver (c : Configuration) (stored : List Stored) (t : TargetState) : Type 0 where
   pub config : t.config ≡ c
   pub shown : ShowFirst c t.shown
+  pub formed : t.formed ≤ length (catalog_of c)
   pub clock : t.clock ≡ 0
   pub streams : t.streams ≡ replicate connections_max None
   pub connections : t.connections ≡ replicate connections_max None
@@ -55,9 +58,10 @@ pub record IsOver (c : Configuration) (stored : List Stored) (t : TargetState) :
   pub controllers : t.controllers ≡ replicate controller_places None
   pub disks : t.disks ≡ stored
 
--- .. the configuration of disks that hold these units, and nothing else
+-- .. the configuration of disks that hold these units, and nothing else; so no record was formed
 pub record IsNewTarget (opening : Opening) (t : TargetState) : Type 0 where
   pub over : IsOver (disks_alone (map length opening)) t.disks t
+  pub formed : t.formed ≡ 0
   pub units : map (λ (s : Stored). s.contents) t.disks ≡ opening
 
 -- what holds of each target: it has a stream for each connection that is known, of those that there may be

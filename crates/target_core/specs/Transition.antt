@@ -14,7 +14,7 @@ use Rattle.target_core.specs.declared.fault.Stepped.{Stepped}
 use Rattle.target_core.specs.declared.fault.Stepped.TheVariants.{Idle, One, Ended}
 use Rattle.target_core.specs.Connection.{Acts, KnownConnection, fresh_on}
 use Rattle.target_core.specs.Target.{TargetState, is_idle, is_incomplete, meets}
-use Rattle.target_views.specs.Views.{ShowAfter}
+use Rattle.target_views.specs.Views.{FormedAfter, ShowAfter}
 use Rattle.target_decision.specs.declared.decision.Decision.{Decision}
 use Rattle.target_decision.specs.Decision.{Brought, consumed_of}
 use Rattle.target_decision.specs.World.{World}
@@ -54,6 +54,7 @@ pub record Transition (event : Event) (old new : TargetState) : Type 0 where
   pub config : new.config ≡ config_after event old.config
   pub clock : new.clock ≡ clock_after event old.clock
   pub shown : ShowAfter event new.config old.shown new.shown
+  pub formed : FormedAfter event old.config old.formed new.formed
   pub connection : (k : ℕ) → place new.connections k ≡ known_after (meets old event) k (place old.connections k)
   pub part : (k t : ℕ) → part_at new.transfers k t ≡ parts_after (meets old event) k (part_at old.transfers k) t
   pub stream : (k : ℕ) → place new.streams k ≡ stream_after event k (place old.streams k)

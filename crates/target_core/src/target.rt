@@ -1,11 +1,13 @@
 //! The target: a configuration and the connections that hosts made.
-ghost use Rattle.std.specs.Prelude.{◌≡◌, ◌<◌, ◌≤◌, IfOk, IfErr, IsOk, IsOkUnless, Ok, OnErr, OnOk, MatchOption, Some, None, [], drop, is_some, length, map, replicate, true};
+ghost use Rattle.std.specs.Prelude.{◌≡◌, ◌<◌, ◌≤◌, ◌+◌, IfOk, IfErr, IsOk, IsOkUnless, Ok, OnErr, OnOk, MatchOption, MatchResult, Some, None, [], drop, is_some, length, map, replicate, true};
 ghost use Rattle.std.specs.Bool.{OnFalse, OnTrue};
 ghost use Rattle.std.specs.Option.{option_copied};
 ghost use Rattle.number_table.specs.Table.{place};
 ghost use Rattle.config_rules.specs.Accept.{accept};
 ghost use Rattle.config_rules.specs.Configuration.{are_disks};
 ghost use Rattle.controller_tables.specs.Controllers.{controller_places};
+ghost use Rattle.discovery_view.specs.Catalog.{catalog_of};
+ghost use Rattle.discovery_view.specs.Forming.{reach};
 ghost use Rattle.fabrics_connect.specs.Controllers.{no_controllers};
 ghost use Rattle.target_core.specs.Agreement.{Agrees, AgreesAfter, EditAgrees, EndAgrees, EndedAgrees, OpenAgrees, ReceiveAgrees, StepAgrees, TakenAgrees, nothing};
 ghost use Rattle.data_transfer.specs.Parts.{Stand, no_parts, part_at};
@@ -84,6 +86,7 @@ impl<D: Disk> Model for Target<D> {
     ghost view = { λ t. record {
       config = t.config;
       shown = t.views.shown;
+      formed = t.views.formed;
       clock = t.clock;
       streams = t.streams;
       connections = t.connections;
@@ -130,6 +133,14 @@ impl<D: Disk + Drop> Target<D> {
         self.alloc
     }
 
+    /// How many records of the discovery log page were formed, or the greatest number of 64 bits where
+    /// they are more.
+    pub fn formed(&self) -> u64
+        ensures { result ≡ self.now.formed }
+    {
+        self.views.formed()
+    }
+
     /// Whether a connection of this number is known: opened, and not given up.
     pub fn is_known(&self, k: usize) -> bool
         ensures known { result ≡ is_some (place self.now.connections k) }
@@ -138,7 +149,8 @@ impl<D: Disk + Drop> Target<D> {
         self.connections.get(k).is_some()
     }
 
-    /// Makes the edit, or says why not. After a refusal, `Memory` included, the target is as it was.
+    /// Makes the edit, or says why not. It forms no more records of the discovery log page than it reaches.
+    /// After a refusal, `Memory` included, the target is as it was, and no record was formed.
     pub fn edit(&mut self, edit: &Edit) -> Result<(), EditFault>
         ensures ok { OnOk result (accept self.old.config edit.now ≡ Ok self.new.config) }
         ensures transition { OnOk result (Transition (edited edit.now) self.old self.new) }
@@ -146,6 +158,7 @@ impl<D: Disk + Drop> Target<D> {
             (IsOkUnless result EditFault.Memory) }
         ensures refused { IfErr (accept self.old.config edit.now) (λ fault. result ≡ Err fault) }
         ensures err { OnErr result (self.new ≡ self.old) }
+        ensures reach { self.new.formed ≤ self.old.formed + reach self.old.config edit.now }
         ensures agrees { EditAgrees edit.now self.old result self.new }
     {
         self.make_edit(edit)
@@ -298,15 +311,16 @@ impl<D: Disk + Drop> Target<D> {
     }
 
     // Makes an edit that is accepted: the configuration goes over, what it ends is ended, the hosts of
-    // the controllers that stay are told, and the views go over last. All growth comes first.
+    // the controllers that stay are told, and the views go over last. All growth comes first, and that of
+    // the views last of it, so that no record is formed where memory is wanted.
     fn commit_edit(&mut self, edit: &Edit) -> Result<(), AllocError>
         requires { IsOk (accept self.old.config edit.now) }
         ensures ok { OnOk result (accept self.old.config edit.now ≡ Ok self.new.config) }
         ensures transition { OnOk result (Transition (edited edit.now) self.old self.new) }
         ensures err { OnErr result (self.new ≡ self.old) }
     {
-        let plans = self.views.prepare(&self.config, edit)?;
         let change = self.config.prepare(edit)?;
+        let (change, plans) = both(change, self.views.prepare(&self.config, edit))?;
         self.config.commit(change);
         settle(
             &mut self.connections,
@@ -495,6 +509,8 @@ impl Parts {
             parts.controllers.own ≡ replicate controller_places None) }
         ensures views { IfOk result (λ parts. ShowFirst config.now parts.views.shown) }
         ensures of { IfOk result (λ parts. AreViewsOf config.now parts.views) }
+        ensures formed { IfOk result (λ parts.
+            parts.views.formed ≤ length (catalog_of config.now)) }
     {
         Ok(Parts {
             streams: NumberTable::new(alloc, CONNECTIONS_MAX)?,
@@ -503,6 +519,17 @@ impl Parts {
             controllers: ControllerTables::new(alloc)?,
             views: Views::new(alloc, config)?,
         })
+    }
+}
+
+// Both, where the second is there. What drops the first is proved for any type, and not of each kind of
+// change.
+fn both<A: Drop, B: Drop>(first: A, second: Result<B, AllocError>) -> Result<(A, B), AllocError>
+    ensures { MatchResult second (λ b. result ≡ Ok (first, b)) (λ error. result ≡ Err error) }
+{
+    match second {
+        Ok(second) => Ok((first, second)),
+        Err(error) => Err(error),
     }
 }
 

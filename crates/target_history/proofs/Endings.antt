@@ -18,23 +18,20 @@ use Rattle.target_decision.specs.declared.consequence.Update.TheVariants as upda
 use Rattle.target_decision.specs.declared.decision.Decision.{Decision}
 use Rattle.target_decision.specs.declared.decision.Decision.TheVariants as decision
 use Rattle.target_decision.specs.declared.session.ConnectionState.{ConnectionState}
-use Rattle.target_decision.specs.declared.session.Role.{Role}
 use Rattle.target_decision.specs.declared.session.Role.TheVariants.{Admin, Io}
 use Rattle.target_decision.specs.declared.session.Session.{Session}
-use Rattle.target_decision.specs.declared.session.Session.TheVariants.{Opened, Initialized, Connected, Ended}
+use Rattle.target_decision.specs.declared.session.Session.TheVariants.{Connected}
 use Rattle.target_decision.specs.Controller.{restarts}
 use Rattle.target_decision.specs.Transfer.{Tags}
 use Rattle.target_decision.specs.World.{World}
-use Rattle.target_decision.specs.Tell.{completed_in}
 use Rattle.target_history.specs.declared.end_cause.EndCause.{EndCause}
 use Rattle.target_history.specs.declared.end_cause.EndCause.TheVariants as cause
-use Rattle.target_history.specs.EndCause.{cause_edited, cause_lost, cause_replied, cause_set, ends_by, ends_role, ends_row, ends_row_at, ends_session, ends_timer, is_barred, is_on_port}
+use Rattle.target_history.specs.EndCause.{cause_edited, cause_lost, cause_replied, cause_set, ends_by, ends_row, ends_row_at, ends_session, ends_timer, is_barred}
 use Rattle.target_history.specs.Event.{Event, edited, front_in, opened, stepped, steps, given_up, ticked}
-use Rattle.target_history.specs.Occurrence.{Occurrence, Start, begins, begins_by, completed_by, consequence_decided, consequence_of, decided, decided_on, decision_of, cause_by, cause_given_up, cause_of, cause_stepped, ends_live, is_end_decided, noted_by, row_kept, started, stepping, stepping_tags, telling, updates}
-use Rattle.target_history.specs.History.{Opening, clock_of, config_of, controller_of, connection_of, happened, mark_of, meets_after, part_after, row_of}
-use Rattle.target_history.specs.Laws.{EditsEndControllers, NothingExpiresWithoutTicks, PermittedOutliveEdits, ResetsEndTheirQueuesAlone, StaysPermitted, deletes, has_ticks, is_io_queue_of, is_queue_of, is_role_of, is_tick, told_on}
-use Rattle.target_history.proofs.Lives.{controller_step, row_step}
-use Rattle.target_history.proofs.Steps.{connection_step}
+use Rattle.target_history.specs.Occurrence.{Occurrence, Start, begins, begins_by, consequence_decided, consequence_of, decided, decided_on, decision_of, cause_by, cause_given_up, cause_of, cause_stepped, ends_live, is_end_decided, row_kept, started, stepping, stepping_tags, updates}
+use Rattle.target_history.specs.History.{Opening, clock_of, config_of, happened, mark_of, meets_after, part_after, row_of}
+use Rattle.target_history.specs.Laws.{EditsEndControllers, NothingExpiresWithoutTicks, ResetsEndTheirQueuesAlone, deletes, has_ticks, is_io_queue_of, is_tick}
+use Rattle.target_history.proofs.Lives.{row_step}
 use Rattle.target_history.proofs.Tests.{either_false, neither, other_true, same_number}
 
 -- ---- the connection that an event steps
@@ -117,7 +114,7 @@ resets_end_their_queues_alone = record {
 
 -- ---- an edit
 
-edit_is : (edit : Edit) → (cause_edited edit ≡ cause.Permission) ⊎ ((id : ℕ) × (edit ≡ PortDel id))
+pub edit_is : (edit : Edit) → (cause_edited edit ≡ cause.Permission) ⊎ ((id : ℕ) × (edit ≡ PortDel id))
 edit_is (PortDel id) = inr (id, refl)
 edit_is _ = inl refl
 
@@ -126,7 +123,7 @@ not_barred : (config : Configuration) (host : List ℕ) (subsystem : Option (Lis
 not_barred config host None port h = refl
 not_barred config host (Some nqn) port h = rw h refl
 
-row_outlives : (edit : Edit) (config : Configuration) (c : ℕ) (row : Row) → deletes edit row.port ≡ false → is_permitted config row ≡ true
+pub row_outlives : (edit : Edit) (config : Configuration) (c : ℕ) (row : Row) → deletes edit row.port ≡ false → is_permitted config row ≡ true
     → ends_row (cause_edited edit) config c row ≡ false
 row_outlives edit config c row port permitted =
     elim (edit_is edit) [
@@ -138,7 +135,7 @@ row_outlives edit config c row port permitted =
           (not_barred config row.host row.subsystem row.port permitted)
     ]
 
-no_timer : (edit : Edit) (o : Option Controller) → ends_timer (cause_edited edit) o ≡ false
+pub no_timer : (edit : Edit) (o : Option Controller) → ends_timer (cause_edited edit) o ≡ false
 no_timer edit o =
     elim (edit_is edit) [
       | inl other ↦ rw other refl
@@ -151,66 +148,6 @@ kept_whole edit c row =
       | inl other ↦ rw other refl
       | inr (id, is) ↦ ap (λ (e : Edit). row_kept (cause_edited e) c row) is
     ]
-
--- the connection of a controller that lives, where its port is not deleted
-role_outlives : (e : Edit) (gone : ℕ → Bool) (c : ℕ) (role : Role) → gone c ≡ false → is_role_of c role ≡ true → ends_role (cause_edited e) gone role ≡ false
-role_outlives edit gone c (Admin d) lives is = ap gone (sym (same_number c d is)) ∙ lives
-role_outlives edit gone c (Io d q) lives is =
-    let live : gone d ≡ false = ap gone (sym (same_number c d is)) ∙ lives in
-    elim (edit_is edit) [
-      | inl other ↦ rw (live, other) refl
-      | inr (id, del) ↦ rw live (ap (λ (e : Edit). ends_role (cause_edited e) (λ (n : ℕ). false) (Io d q)) del)
-    ]
-
-session_outlives : (edit : Edit) (gone : ℕ → Bool) (c : ℕ) (s : Session) → gone c ≡ false → is_queue_of c s ≡ true
-    → ends_session (cause_edited edit) gone s ≡ false
-session_outlives edit gone c Opened lives is = refl
-session_outlives edit gone c Initialized lives is = refl
-session_outlives edit gone c (Connected role queue) lives is = role_outlives edit gone c role lives is
-session_outlives edit gone c Ended lives is = refl
-
-port_outlives : (edit : Edit) (port : ℕ) → deletes edit port ≡ false → is_on_port (cause_edited edit) port ≡ false
-port_outlives edit port h =
-    elim (edit_is edit) [
-      | inl other ↦ rw other refl
-      | inr (id, is) ↦ ap (λ (e : Edit). is_on_port (cause_edited e) port) is ∙ ap (λ (e : Edit). deletes e port) (sym is) ∙ h
-    ]
-
-module _ (disks : Opening) (events : List Event) (edit : Edit) (c : ℕ) (row : Row) (stays : StaysPermitted disks events edit c row) where
-  abbrev before : List Occurrence
-  before = happened disks events
-
-  abbrev x : Occurrence
-  x = meets_after disks before (edited edit)
-
-  lives : ends_live x c ≡ false
-  lives =
-      rw (stays.lives, row_outlives edit (config_of disks (x ∷ before)) c row stays.port stays.permitted, no_timer edit (controller_of before c)) refl
-
-  row_stays : row_of (x ∷ before) c ≡ Some row
-  row_stays = row_step x before c refl ∙ rw (lives, stays.lives) (ap Some (kept_whole edit c row))
-
-  controller_stays : controller_of (x ∷ before) c ≡ controller_of before c
-  controller_stays = controller_step x before c ∙ rw lives refl
-
-  connection_stays : (k : ℕ) (v : ConnectionState) → connection_of before k ≡ Some v → is_queue_of c v.session ≡ true
-      → deletes edit v.port ≡ false → connection_of (x ∷ before) k ≡ Some (told_on x v)
-  connection_stays k v met is port =
-      let here : ends_by (cause_edited edit) (ends_live x) v ≡ false =
-      rw (port_outlives edit v.port port) (session_outlives edit (ends_live x) c v.session lives is) in
-      connection_step x before k refl ∙ rw met (ap Some (whole (ap (λ (over : Bool). if over then Ended else completed_in v.session (completed_by (telling x v) v.notices)) here)))
-    where
-      whole : {s t : Session} → s ≡ t
-          → (let c : ConnectionState = record { port = v.port; session = s; alignment = v.alignment; notices = noted_by (telling x v) v.notices } in c)
-          ≡ (let c : ConnectionState = record { port = v.port; session = t; alignment = v.alignment; notices = noted_by (telling x v) v.notices } in c)
-      whole p = rw p refl
-
-pub permitted_outlive_edits : PermittedOutliveEdits
-permitted_outlive_edits = record {
-  row = row_stays;
-  controller = controller_stays;
-  connections = λ disks events edit c row k v stays. connection_stays disks events edit c row stays k v;
-}
 
 deleted_ends : (edit : Edit) (config : Configuration) (c : ℕ) (row : Row) → deletes edit row.port ≡ true → ends_row (cause_edited edit) config c row ≡ true
 deleted_ends (PortDel id) config c row h = ap (λ (b : Bool). b || is_barred config row.host row.subsystem row.port) h

@@ -1,5 +1,6 @@
 -- Laws of histories.
 use Rattle.std.proofs.Common.{◌≡◌, ◌≤◌, ◌<◌, ◌⊎◌, ℕ, ◌+◌, ◌%◌, ◌^◌, ◌==◌, Bool, true, false, ◌&&◌, ◌||◌, List, [], ◌∷◌, ◌++◌, length, length-append, Option, Some, None, Ok, Err, IfOk, is_some, refl, sym, ap, subst, ◌∙◌, inl, inr, append-nil, arith}
+use Rattle.std.proofs.Math.Path.{fun_ext}
 use Rattle.std.specs.Prelude.{if◌then◌else◌}
 use Rattle.std.proofs.lemmas.Bool.{cases_lt}
 use Rattle.std.proofs.lemmas.Bool.Decides.{nat_tests}
@@ -56,12 +57,14 @@ use Rattle.io_queue.specs.Act.{DiskOutcome}
 use Rattle.target_decision.specs.World.{World, admin_controller_by}
 use Rattle.target_decision.proofs.Deciding.{command_is, decision_is, finished_is, owed_is}
 use Rattle.target_history.specs.Event.{Event, edited, front_in, given_up, gives_up, disk_outcome_in, opened, opens, stepped, steps, ticked}
-use Rattle.target_history.specs.Occurrence.{Occurrence, completes, completes_at, config_after, decided, decided_on, edit_made, ends, noted_at, notices_decided, replies_to, responses_decided, sends, sends_on, tags_decided, telling, told_at}
+use Rattle.target_history.specs.Occurrence.{Occurrence, completes, completes_at, config_after, decided, decided_on, edit_made, ends, noted_at, notices_decided, parts_after, replies_to, responses_decided, sends, sends_on, tags_decided, telling, told_at}
 use Rattle.target_history.specs.History.{Opening, alignment_of, blocks_of, config_of, connection_of, generation_after, generation_of, happened, has_ended, is_known, notices_of, part_of, port_of, meets_after, sent, session_of, world_of}
 use Rattle.target_history.specs.Laws.{DeletedPortsEnd, EndedAreSentNothing, PagesChangeByEdits, ResponsesAnswerCapsules, capsules_of, is_capsule, is_edit, outstanding_of, responses_of}
+use Rattle.target_history.proofs.Noticing.{notices_step}
 use Rattle.target_history.proofs.Steps.{met_as}
 use Rattle.target_history.proofs.Telling.{ended_untold, no_telling, told_counted}
 use Rattle.target_history.proofs.Tests.{same_here}
+use Rattle.target_history.proofs.Transfers.{part_step}
 
 -- ---- an ended connection
 
@@ -368,9 +371,11 @@ answered disks (event ∷ events) k =
     let here = answered_by (opens event k) (gives_up event k || ends x k) (steps event k && is_capsule (front_in event)) (front_in event) (part_of before k) n
     (decided x k) (responses_of before k) (capsules_of before k) (length (completes x k)) (waits (noted_at x (connection_of before k) m)) (waits notices_at_connect) earlier.most
     (decided_balances (steps event k) x.world (part_of before k) n (connection_of before k) (front_in event) earlier.few own) counts refl in
+    let same : part_of (happened disks (event ∷ events)) k ≡ (λ t. parts_after x k (part_of before k) t) = fun_ext (part_step x before k refl refl) in
     record {
-      most = rw (waits_if (opens event k) notices_at_connect (noted_at x (connection_of before k) m)) here.0;
-      few = here.1;
+      most = subst (λ (tags : Tags). responses_of (x ∷ before) k + (count_of tags + waits (notices_of (x ∷ before) k)) ≤ capsules_of (x ∷ before) k) (sym same)
+          (rw (ap waits (notices_step disks events event k) ∙ waits_if (opens event k) notices_at_connect (noted_at x (connection_of before k) m)) here.0);
+      few = subst FewTags (sym same) here.1;
     }
 
 pub responses_answer_capsules : ResponsesAnswerCapsules

@@ -15,13 +15,13 @@ use Rattle.target_history.specs.declared.end_cause.EndCause.{EndCause}
 use Rattle.target_history.specs.declared.end_cause.EndCause.TheVariants as cause
 use Rattle.target_history.specs.EndCause.{resets}
 use Rattle.target_history.specs.Event.{Event, edited, opened, stepped, steps, given_up, ticked}
-use Rattle.target_history.specs.Occurrence.{Occurrence, Start, begins, begins_by, consequence_of, connection_after, cause_of, ends_live, port_at, port_met, started, stepping}
+use Rattle.target_history.specs.Occurrence.{Occurrence, Start, begins, begins_by, consequence_of, cause_of, ends_live, port_at, port_met, started, stepping}
 use Rattle.target_history.specs.History.{Opening, connection_of, drops_by, happened, has_queue, joins_by, meets_after, registers_of, row_of, row_with, start_of, start_or}
 use Rattle.target_history.specs.Laws.{QueuesAreOfOneConnection, role_at, role_of}
 use Rattle.target_history.proofs.Admissions.{AdmitsBy, CanTake, event_admits}
 use Rattle.target_history.proofs.Endings.{reply_ends}
 use Rattle.target_history.proofs.Roles.{Comes, LostFrom, Stays, after_is, leaves, loses, nothing_ends}
-use Rattle.target_history.proofs.Steps.{connection_step}
+use Rattle.target_history.proofs.Steps.{port_step, role_step}
 use Rattle.target_history.proofs.Tests.{both_same, either_true, flipped, neither, same_here, same_number}
 
 -- ---- what is there of a queue
@@ -190,12 +190,11 @@ module _ (disks : Opening) (before : List Occurrence) (event : Event) (earlier :
   not_made _ port role h made held = cc
 
   after_of : (k : ℕ) (role : Role) → role_of (x ∷ before) k ≡ Some role → Stays x k role ⊎ Comes x k role
-  after_of k role h = after_is x k role (ap role_at (sym (connection_step x before k refl)) ∙ h)
+  after_of k role h = after_is x k role (sym (role_step x before k refl) ∙ h)
 
   there_after : (k : ℕ) (role : Role) → role_of (x ∷ before) k ≡ Some role → Holds (x ∷ before) (port_at (connection_of (x ∷ before) k)) role
   there_after k role h =
-      let port : port_at (connection_of (x ∷ before) k) ≡ port_at (connection_after x k (connection_of before k)) =
-      ap port_at (connection_step x before k refl) in
+      let port = port_step x before k refl in
       elim (after_of k role h) [
         | inl stays ↦
             subst (λ (p : ℕ). Holds (x ∷ before) p role) (sym (port ∙ stays.same_port)) (stays_holding k role stays (earlier.there k role stays.before))

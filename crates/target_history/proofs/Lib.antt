@@ -1,5 +1,6 @@
 pub mod Admissions
 pub mod Alike
+pub mod Asked
 pub mod Begun
 pub mod Blocks
 pub mod Counting
@@ -10,6 +11,8 @@ pub mod Holding
 pub mod Identifiers
 pub mod Lives
 pub mod Noticing
+pub mod Outliving
+pub mod Owning
 pub mod Permissions
 pub mod Roles
 pub mod Serving
@@ -18,3 +21,4 @@ pub mod Tags
 pub mod Telling
 pub mod Terminations
 pub mod Tests
+pub mod Transfers

@@ -1,5 +1,5 @@
--- What the host of a controller is told is what look-backs over all that happened say.
-use Rattle.std.proofs.Common.{◌≡◌, ℕ, ◌+◌, Bool, true, false, List, [], ◌∷◌, Option, Some, None, refl, sym, ap, subst, ◌∙◌, inl, inr}
+-- What the host of a controller is told is what look-backs over all that happened say, and what one more event makes of it.
+use Rattle.std.proofs.Common.{◌≡◌, ◌⊎◌, ℕ, ◌+◌, Bool, true, false, List, [], ◌∷◌, Option, Some, None, refl, sym, ap, ◌∙◌, inl, inr}
 use Rattle.std.specs.Prelude.{if◌then◌else◌, IsSomeAnd}
 use Rattle.std.specs.Option.{option_map}
 use Rattle.admin_queue.specs.declared.outcome.Effect.TheVariants as effect
@@ -18,6 +18,7 @@ use Rattle.pdu_cut.specs.Pdu.{data_part}
 use Rattle.property_regs.specs.declared.regs.Change.{Change}
 use Rattle.property_regs.specs.declared.regs.Change.TheVariants as change
 use Rattle.property_regs.specs.declared.regs.Regs.{Regs}
+use Rattle.target_decision.specs.declared.consequence.Beginning.{Beginning}
 use Rattle.target_decision.specs.declared.consequence.Consequence.{Consequence}
 use Rattle.target_decision.specs.declared.consequence.Consequence.TheVariants as consequence
 use Rattle.target_decision.specs.declared.consequence.Update.{Update}
@@ -39,17 +40,17 @@ use Rattle.target_decision.specs.Transfer.{Tags, head_in}
 use Rattle.target_decision.specs.World.{World}
 use Rattle.target_decision.proofs.Deciding.{command_is, decision_is, finished_is}
 use Rattle.target_history.specs.EndCause.{ends_by}
-use Rattle.target_history.specs.Event.{Event, front_in, opened, opens, stepped, steps}
-use Rattle.target_history.specs.Occurrence.{Occurrence, Start, Telling, begins, begins_by, cause_of, completed_by, completes_at, connection_after, consequence_decided, consequence_of, decided, decided_on, edit_made, ends_live, noted_at, noted_by, notices_decided, port_at, started, telling, telling_by, views_at, views_in, views_of}
-use Rattle.target_history.specs.History.{Admission, Opening, admission_of, admission_or, admits, connection_of, happened, has_ended, has_queue, is_initialized, is_known, meets_after, notices_of, part_of, registers_of, responses_since, row_of, row_with, session_with, start_of, start_or}
+use Rattle.target_history.specs.Event.{Event, front_in, opens, steps}
+use Rattle.target_history.specs.Occurrence.{Occurrence, Start, Telling, cause_of, completed_by, completes_at, connection_after, consequence_decided, decided, decided_on, edit_made, ends_live, noted_at, noted_by, notices_decided, own_consequence, port_at, started, telling, telling_by, views_at, views_in, views_of}
+use Rattle.target_history.specs.History.{Admission, Opening, admission_of, admission_or, admits, connection_of, happened, has_ended, has_queue, is_initialized, is_known, meets_after, notices_of, notices_to, part_of, registers_of, responses_since, row_of, row_with, session_with, start_of}
 use Rattle.target_history.specs.Laws.{role_at, role_of}
-use Rattle.target_history.specs.Noticing.{HostsAreToldByLookingBack, done_at, done_by, done_by_change, done_by_consequence, done_by_update, edit_at, edit_told, owed_at, told_of, with_occurrence}
+use Rattle.target_history.specs.Noticing.{HostsAreToldByLookingBack, noted_after, owed_at}
+use Rattle.target_history.specs.Told.{done_at, done_by, done_by_change, done_by_consequence, done_by_update, edit_at, edit_told, owner_by, owner_of, told_of, with_occurrence}
 use Rattle.target_history.proofs.Admissions.{AdmitsAt, AdmitsBy, own_admits}
-use Rattle.target_history.proofs.Holding.{AllHold, all_hold, not_begun}
-use Rattle.target_history.proofs.Roles.{Comes, Stays, after_is, own_is}
-use Rattle.target_history.proofs.Steps.{connection_step, met_as}
+use Rattle.target_history.proofs.Owning.{IsOwner, all_own, owner_stays, unowned}
+use Rattle.target_history.proofs.Steps.{met_as, noted_step}
 use Rattle.target_history.proofs.Telling.{unseen}
-use Rattle.target_history.proofs.Tests.{bool_is, same_here}
+use Rattle.target_history.proofs.Tests.{bool_is}
 
 -- ---- one occurrence
 
@@ -98,27 +99,38 @@ edit_called : (views : Views) (t : Option Telling) (s : NoticeState) → Shows v
 edit_called views None s shows = refl
 edit_called views (Some t) s shows = ap (λ (seen : Views). told_state t.old t.new seen s) shows
 
--- ---- what is decided for a connection that is no admin queue
+-- ---- what happens on a connection that is no admin queue
+
+abbrev NoAdmin : Option Role → Type 0
+NoAdmin role = (c : ℕ) → role ≡ Some (Admin c) → ⊥
+
+none_is : (role : Option Role) → role ≡ None → NoAdmin role
+none_is role none c is = cc
+
+admin_or : (role : Option Role) → NoAdmin role ⊎ ((c : ℕ) × (role ≡ Some (Admin c)))
+admin_or None = inl (λ c is. cc)
+admin_or (Some (Admin c)) = inr (c, refl)
+admin_or (Some (Io c q)) = inl (λ d is. cc)
 
 admitted_nothing : (a : AdmitAs) (entry : List ℕ) (session : Session) (cid : ℕ) → done_by (owed session cid None (admitted a entry)) ≡ None
 admitted_nothing (admit.Controller new) entry session cid = refl
 admitted_nothing (admit.Queue cntlid qid) entry session cid = refl
 
 command_nothing : (w : World) (v : ConnectionState) (tags : Tags) (cid : ℕ) (entry bytes : List ℕ)
-    → role_in v.session ≡ None → done_by (owed v.session cid None (command w v tags entry bytes)) ≡ None
+    → NoAdmin (role_in v.session) → done_by (owed v.session cid None (command w v tags entry bytes)) ≡ None
 command_nothing w v tags cid entry bytes none =
     command_is w v entry bytes (λ o. done_by (owed v.session cid None o) ≡ None) (record {
       refuses = λ r. refl;
       admits = λ role a is. admitted_nothing a entry v.session cid;
       tells = λ value. refl;
-      configures = λ cntlid role s. cc;
-      administers = λ cntlid role c own s is. cc;
-      waits = λ cntlid role c own is. cc;
+      configures = λ cntlid role s. absurd (none cntlid role);
+      administers = λ cntlid role c own s is. absurd (none cntlid role);
+      waits = λ cntlid role c own is. absurd (none cntlid role);
       performs = λ cntlid qid role port subsystem op is. refl;
       asks = λ cntlid qid role port subsystem len is. refl;
     }) tags
 
-decide_nothing : (w : World) (v : ConnectionState) (tags : Tags) (front : Front) → role_in v.session ≡ None → done_by (decide w v tags front) ≡ None
+decide_nothing : (w : World) (v : ConnectionState) (tags : Tags) (front : Front) → NoAdmin (role_in v.session) → done_by (decide w v tags front) ≡ None
 decide_nothing w v tags front none = decision_is w v tags front (λ d. done_by d ≡ None) (record {
   closes = refl;
   terminates = λ t. refl;
@@ -131,50 +143,68 @@ decide_nothing w v tags front none = decision_is w v tags front (λ d. done_by d
       (record { refuses = λ status. refl; performs = λ cntlid qid role port subsystem op is. refl });
 })
 
-decided_nothing : (w : World) (tags : Tags) (o : Option ConnectionState) (front : Front) → role_at o ≡ None → done_at (decided_on w tags o front) ≡ None
+decided_nothing : (w : World) (tags : Tags) (o : Option ConnectionState) (front : Front) → NoAdmin (role_at o) → done_at (decided_on w tags o front) ≡ None
 decided_nothing w tags None front none = refl
 decided_nothing w tags (Some v) front none = by (is_ended v.session) where
   by : (over : Bool) → done_at (if over then None else Some (decide w v tags front)) ≡ None
   by true = refl
   by false = decide_nothing w v tags front none
 
-own_nothing : (x : Occurrence) (k : ℕ) → role_at (x.connection k) ≡ None → done_at (decided x k) ≡ None
+own_nothing : (x : Occurrence) (k : ℕ) → NoAdmin (role_at (x.connection k)) → done_at (decided x k) ≡ None
 own_nothing x k none = by (steps x.event k) where
   by : (stepping : Bool) → done_at (if stepping then decided_on x.world (x.parts k) (x.connection k) (front_in x.event) else None) ≡ None
   by true = decided_nothing x.world (x.parts k) (x.connection k) (front_in x.event) none
   by false = refl
 
 -- .. nor is it told of an edit
-session_unseen : (row : ℕ → Option Row) (s : Session) → role_in s ≡ None → views_in row s ≡ None
+session_unseen : (row : ℕ → Option Row) (s : Session) → NoAdmin (role_in s) → views_in row s ≡ None
 session_unseen row Opened none = refl
 session_unseen row Initialized none = refl
-session_unseen row (Connected role queue) none = cc
+session_unseen row (Connected (Admin c) queue) none = absurd (none c refl)
+session_unseen row (Connected (Io c q) queue) none = refl
 session_unseen row Ended none = refl
 
 either_none : (over : Bool) (o : Option Views) → o ≡ None → (if over then None else o) ≡ None
 either_none true o none = refl
 either_none false o none = none
 
-untold_at : (x : Occurrence) (v : ConnectionState) → role_in v.session ≡ None → telling x v ≡ None
+untold_at : (x : Occurrence) (v : ConnectionState) → NoAdmin (role_in v.session) → telling x v ≡ None
 untold_at x v none =
     let unshown : views_at x v ≡ None = either_none (ends_by (cause_of x) (ends_live x) v) (views_in x.world.row v.session) (session_unseen x.world.row v.session none) in
     ap (λ (views : Option Views). telling_by x.world.config (edit_made x.event x.world.config) views) unshown
     ∙ unseen x.world.config (edit_made x.event x.world.config)
 
-no_edit_at : (x : Occurrence) (o : Option ConnectionState) → role_at o ≡ None → edit_at x o ≡ None
+no_edit_at : (x : Occurrence) (o : Option ConnectionState) → NoAdmin (role_at o) → edit_at x o ≡ None
 no_edit_at x None none = refl
 no_edit_at x (Some v) none = ap edit_told (untold_at x v none)
 
-not_noted_at : (x : Occurrence) (o : Option ConnectionState) (s : NoticeState) → role_at o ≡ None → noted_at x o s ≡ s
+not_noted_at : (x : Occurrence) (o : Option ConnectionState) (s : NoticeState) → NoAdmin (role_at o) → noted_at x o s ≡ s
 not_noted_at x None s none = refl
 not_noted_at x (Some v) s none = ap (λ (t : Option Telling). noted_by t s) (untold_at x v none)
 
--- ---- before its Connect nothing happens to it
+-- ---- one more event, which does not open the connection
 
--- as it is when it was opened
-record Beginning (h : List Occurrence) (k : ℕ) : Type 0 where
-  pub told : told_of h k ≡ []
-  pub notices : notices_of h k ≡ notices_at_connect
+module _ (x : Occurrence) (k : ℕ) (closed : opens x.event k ≡ false) where
+  told_next : (before : List Occurrence)
+      → told_of (x ∷ before) k ≡ with_occurrence (edit_at x (x.connection k)) (with_occurrence (done_at (decided x k)) (told_of before k))
+  told_next before = rw closed refl
+
+  noted_next : (s : NoticeState) → noted_after x k s ≡ noted_at x (x.connection k) (notices_decided s (decided x k))
+  noted_next s = rw closed refl
+
+  owner_next : (before : List Occurrence) (ch : Consequence) → own_consequence x k ≡ ch → owner_of (x ∷ before) k ≡ owner_by x ch (owner_of before k)
+  owner_next before ch is = rw closed (ap (λ (ch : Consequence). owner_by x ch (owner_of before k)) is)
+
+  -- where it is no admin queue, nothing happens to it, and its host is told nothing
+  untouched : NoAdmin (role_at (x.connection k)) → (before : List Occurrence) → told_of (x ∷ before) k ≡ told_of before k
+  untouched none before = told_next before ∙ rw (no_edit_at x (x.connection k) none, own_nothing x k none) refl
+
+  unnoted : NoAdmin (role_at (x.connection k)) → (s : NoticeState) → noted_after x k s ≡ s
+  unnoted none s =
+      noted_next s ∙ not_noted_at x (x.connection k) (notices_decided s (decided x k)) none ∙ decision_called (discovery []) (decided x k) s
+      ∙ ap (λ (o : Option NoticeOccurrence). called_at (discovery []) o s) (own_nothing x k none)
+
+-- ---- before its Connect nothing happened to it
 
 admitted_by : (a b : Option Admission) → admission_or a b ≡ None → b ≡ None
 admitted_by None b none = none
@@ -192,33 +222,20 @@ no_role h k none = by (is_known h k) where
   by true = session_role (has_ended h k) (is_initialized h k) (admission_of h k) (responses_since h k) none
   by false = refl
 
--- .. nor at an event that meets it so
-module _ (x : Occurrence) (before : List Occurrence) (k : ℕ) (met : x.connection k ≡ connection_of before k) where
-  stays_so : opens x.event k ≡ false → admission_of before k ≡ None → Beginning before k → Beginning (x ∷ before) k
-  stays_so closed none was =
-      let role : role_at (x.connection k) ≡ None = ap role_at met ∙ no_role before k none in
-      let done : done_at (decided x k) ≡ None = own_nothing x k role in
-      record {
-        told = rw (closed, no_edit_at x (x.connection k) role, done) was.told;
-        notices =
-            rw closed
-            (not_noted_at x (x.connection k) _ role ∙ decision_called (discovery []) (decided x k) (notices_of before k)
-            ∙ ap (λ (o : Option NoticeOccurrence). called_at (discovery []) o (notices_of before k)) done ∙ was.notices);
-      }
+untold_next : (x : Occurrence) (before : List Occurrence) (k : ℕ) → x.connection k ≡ connection_of before k
+    → (admission_of before k ≡ None → told_of before k ≡ []) → admission_of (x ∷ before) k ≡ None → told_of (x ∷ before) k ≡ []
+untold_next x before k met earlier none = by (opens x.event k) refl none where
+  by : (opening : Bool) → opens x.event k ≡ opening → (if opening then None else admission_or (admits x k) (admission_of before k)) ≡ None
+      → told_of (x ∷ before) k ≡ []
+  by true is none = rw is refl
+  by false is none =
+      let first = admitted_by (admits x k) (admission_of before k) none in
+      untouched x k is (none_is (role_at (x.connection k)) (ap role_at met ∙ no_role before k first)) before ∙ earlier first
 
-  begins_so : (admission_of before k ≡ None → Beginning before k) → admission_of (x ∷ before) k ≡ None → Beginning (x ∷ before) k
-  begins_so earlier none = by (opens x.event k) refl none where
-    by : (opening : Bool) → opens x.event k ≡ opening → (if opening then None else admission_or (admits x k) (admission_of before k)) ≡ None
-        → Beginning (x ∷ before) k
-    by true is none = record { told = rw is refl; notices = rw is refl }
-    by false is none =
-        let first = admitted_by (admits x k) (admission_of before k) none in
-        stays_so is first (earlier first)
-
-all_begin : (disks : Opening) (events : List Event) (k : ℕ) → admission_of (happened disks events) k ≡ None → Beginning (happened disks events) k
-all_begin disks [] k none = record { told = refl; notices = refl }
-all_begin disks (event ∷ events) k none =
-    begins_so (meets_after disks (happened disks events) event) (happened disks events) k refl (all_begin disks events k) none
+untold : (disks : Opening) (events : List Event) (k : ℕ) → admission_of (happened disks events) k ≡ None → told_of (happened disks events) k ≡ []
+untold disks [] k none = refl
+untold disks (event ∷ events) k none =
+    untold_next (meets_after disks (happened disks events) event) (happened disks events) k refl (untold disks events k) none
 
 -- ---- what is told of an edit is of the controller's own views
 
@@ -258,32 +275,8 @@ noted_called : (views : Views) (x : Occurrence) (o : Option ConnectionState) (s 
 noted_called views x None s shows = refl
 noted_called views x (Some v) s shows = edit_called views (telling x v) s shows
 
--- ---- the controller that lives is the one that began
+-- ---- a Connect comes on a connection that is no queue, and is not ended
 
-start_stays : (P : Start → Type 0) (b o : Option Start) (gone : Bool) → b ≡ None → gone ≡ false → IsSomeAnd o P
-    → IsSomeAnd (start_or b (if gone then None else o)) P
-start_stays P None o false none lives h = h
-start_stays P None o true none lives h = cc
-start_stays P (Some s) o gone none lives h = cc
-
-start_new : (P : Start → Type 0) (b o : Option Start) (s : Start) → b ≡ Some s → P s → IsSomeAnd (start_or b o) P
-start_new P None o s is h = cc
-start_new P (Some t) o s is h =
-    let same : s ≡ t = cc in
-    subst P same h
-
-start_each : (P Q : Start → Type 0) (o : Option Start) → ((s : Start) → o ≡ Some s → P s → Q s) → IsSomeAnd o P → IsSomeAnd o Q
-start_each P Q None each h = h
-start_each P Q (Some s) each h = each s refl h
-
--- what the host at connection k was told is what was to be told of the views of this controller
-abbrev ToldBy : List Occurrence → ℕ → Start → Type 0
-ToldBy h k s = notices_of h k ≡ told_after (views_of s.row) (told_of h k)
-
-abbrev IsTold : List Occurrence → ℕ → Type 0
-IsTold h k = (c : ℕ) → role_of h k ≡ Some (Admin c) → IsSomeAnd (start_of h c) (ToldBy h k)
-
--- a Connect comes on a connection that is no queue, and is not ended
 unadmitted : (over initialized : Bool) (a : Option Admission) (n : ℕ) → role_in (if over then Ended else session_with a initialized n) ≡ None
     → is_ended (if over then Ended else session_with a initialized n) ≡ false → a ≡ None
 unadmitted true initialized a n role ended = cc
@@ -300,6 +293,11 @@ begins_free row role port (Some (decision.Reply r)) c admits made = by r.consequ
   by _ admits made = cc
 begins_free row role port (Some _) c admits made = cc
 
+begins_step : (stepping : Bool) (d : Option Decision) (c : ℕ) → role_by (consequence_decided (if stepping then d else None)) ≡ Some (Admin c)
+    → role_by (consequence_decided d) ≡ Some (Admin c)
+begins_step true d c made = made
+begins_step false d c made = cc
+
 decided_goes : (w : World) (tags : Tags) (known : Bool) (v : ConnectionState) (front : Front) (c : ℕ)
     → role_by (consequence_decided (decided_on w tags (if known then Some v else None) front)) ≡ Some (Admin c) → is_ended v.session ≡ false
 decided_goes w tags false v front c made = cc
@@ -315,99 +313,97 @@ known_role : (known : Bool) (v : ConnectionState) (w : World) (tags : Tags) (fro
 known_role false v w tags front c made none = cc
 known_role true v w tags front c made none = none
 
--- ---- one more event
+-- ---- all that happened, and one more event
 
-module _ (disks : Opening) (before : List Occurrence) (event : Event) (held : AllHold before) (k : ℕ) where
+start_is : (P : Start → Type 0) (o : Option Start) → IsSomeAnd o P → (s : Start) × (o ≡ Some s) × P s
+start_is P None there = absurd there
+start_is P (Some s) there = (s, refl, there)
+
+module _ (disks : Opening) (events : List Event) (event : Event) (k : ℕ) where
+  abbrev before : List Occurrence
+  before = happened disks events
+
   abbrev x : Occurrence
   x = meets_after disks before event
 
-  not_opened : (role : Role) → role_of (x ∷ before) k ≡ Some role → opens event k ≡ false
-  not_opened role is =
-      elim (bool_is (opens event k)) [
-        | inr closed ↦ closed
-        | inl opening ↦
-            let none : role_at (connection_after x k (connection_of before k)) ≡ None = rw opening refl in
-            let clash : None ≡ Some role = sym none ∙ ap role_at (sym (connection_step x before k refl)) ∙ is in
-            cc
-      ]
+  abbrev Follows : Type 0
+  Follows = notices_of (x ∷ before) k ≡ noted_after x k (notices_of before k)
 
-  told_next : (c : ℕ) (s : Start) → opens event k ≡ false → role_of before k ≡ Some (Admin c) → start_of before c ≡ Some s → ToldBy before k s
-      → ToldBy (x ∷ before) k s
-  told_next c s closed role is told =
+  -- the Connect that begins its controller is the first since its open
+  first_connect : (b : Beginning) → own_consequence x k ≡ consequence.Begin b → admission_of before k ≡ None
+  first_connect b is =
+      let c = b.controller.cntlid in
+      let made : role_by (consequence_decided (decided x k)) ≡ Some (Admin c) = ap role_by is in
+      let free : role_of before k ≡ None =
+      begins_free (row_of before) (role_of before k) (port_at (connection_of before k)) (decided x k) c (own_admits x k) made in
+      let on = begins_step (steps event k) (decided_on x.world (part_of before k) (connection_of before k) (front_in event)) c made in
+      let goes = decided_goes x.world (part_of before k) (is_known before k) (met_as before k) (front_in event) c on in
+      let role = known_role (is_known before k) (met_as before k) x.world (part_of before k) (front_in event) c on free in
+      unadmitted (has_ended before k) (is_initialized before k) (admission_of before k) (responses_since before k) role goes
+
+  -- on a connection that is no admin queue what is told stays, and at that Connect it is as it was at the open
+  stays_told : NoAdmin (role_of before k) → opens event k ≡ false → (ch : Consequence) → own_consequence x k ≡ ch → Follows
+  stays_told none closed (consequence.Begin b) is =
+      let first = first_connect b is in
+      let views = views_of (started x b).row in
+      let told : told_of (x ∷ before) k ≡ [] = untouched x k closed none before ∙ untold disks events k first in
+      let was : notices_of before k ≡ notices_at_connect = ap (λ (o : Option Start). notices_to o (told_of before k)) (unowned before k first) in
+      ap (λ (o : Option Start). notices_to o (told_of (x ∷ before) k)) (owner_next x k closed before (consequence.Begin b) is)
+      ∙ ap (told_after views) told ∙ notices_look_back.after views [] ∙ sym was ∙ sym (unnoted x k closed none (notices_of before k))
+  stays_told none closed _ is =
+      ap (λ (o : Option Start). notices_to o (told_of (x ∷ before) k)) (owner_next x k closed before _ is)
+      ∙ ap (notices_to (owner_of before k)) (untouched x k closed none before) ∙ sym (unnoted x k closed none (notices_of before k))
+
+  -- on the admin queue of a controller it is what is told of the controller's own views
+  follows_on : (c : ℕ) (s : Start) → opens event k ≡ false → role_of before k ≡ Some (Admin c) → start_of before c ≡ Some s → IsOwner before k s → Follows
+  follows_on c s closed role lives owns =
       let views = views_of s.row in
       let d = decided x k in
       let o = connection_of before k in
       let shown : option_map views_of (row_of before c) ≡ Some views =
-      ap (λ (o : Option Start). option_map views_of (option_map (row_with (registers_of before c) (has_queue before c)) o)) is in
+      ap (λ (o : Option Start). option_map views_of (option_map (row_with (registers_of before c) (has_queue before c)) o)) lives in
+      let was : notices_of before k ≡ told_after views (told_of before k) = ap (λ (o : Option Start). notices_to o (told_of before k)) owns in
       let own : notices_decided (notices_of before k) d ≡ told_after views (with_occurrence (done_at d) (told_of before k)) =
-      decision_called views d (notices_of before k) ∙ ap (called_at views (done_at d)) told ∙ sym (one_more views (done_at d) (told_of before k)) in
+      decision_called views d (notices_of before k) ∙ ap (called_at views (done_at d)) was ∙ sym (one_more views (done_at d) (told_of before k)) in
       let all : noted_at x o (notices_decided (notices_of before k) d)
       ≡ told_after views (with_occurrence (edit_at x o) (with_occurrence (done_at d) (told_of before k))) =
       noted_called views x o (notices_decided (notices_of before k) d) (shows_at x o c views role shown)
       ∙ ap (called_at views (edit_at x o)) own ∙ sym (one_more views (edit_at x o) (with_occurrence (done_at d) (told_of before k))) in
-      rw closed all
+      ap (λ (o : Option Start). notices_to o (told_of (x ∷ before) k)) (owner_stays disks before event k (Admin c) closed role ∙ owns)
+      ∙ ap (told_after views) (told_next x k closed before) ∙ sym all ∙ sym (noted_next x k closed (notices_of before k))
 
-  stays_told : (c : ℕ) → opens event k ≡ false → Stays x k (Admin c) → IsTold before k → IsSomeAnd (start_of (x ∷ before) c) (ToldBy (x ∷ before) k)
-  stays_told c closed stays earlier =
-      let port = port_at (connection_of before k) in
-      let unbegun : begins x c ≡ None = not_begun disks before event held c port (held.there k (Admin c) stays.before) in
-      start_stays (ToldBy (x ∷ before) k) (begins x c) (start_of before c) (ends_live x c) unbegun stays.kept
-      (start_each (ToldBy before k) (ToldBy (x ∷ before) k) (start_of before c)
-      (λ s is told. told_next c s closed stays.before is told) (earlier c stays.before))
-
-  comes_so : (c : ℕ) → opens event k ≡ false → Comes x k (Admin c) → (admission_of before k ≡ None → Beginning before k) → Beginning (x ∷ before) k
-  comes_so c closed comes begun =
-      let made : role_by (consequence_decided (decided x k)) ≡ Some (Admin c) =
-      ap (λ (d : Option Decision). role_by (consequence_decided d)) (own_is x k comes.stepped) ∙ comes.made in
-      let free : role_of before k ≡ None =
-      begins_free (row_of before) (role_of before k) (port_at (connection_of before k)) (decided x k) c (own_admits x k) made in
-      let on : role_by (consequence_decided (decided_on x.world (part_of before k) (connection_of before k) (front_in event))) ≡ Some (Admin c) =
-      ap (λ (stepping : Bool). role_by (consequence_decided (if stepping then decided_on x.world (part_of before k) (connection_of before k) (front_in event) else None))) (sym comes.stepped) ∙ made in
-      let goes = decided_goes x.world (part_of before k) (is_known before k) (met_as before k) (front_in event) c on in
-      let role = known_role (is_known before k) (met_as before k) x.world (part_of before k) (front_in event) c on free in
-      let none = unadmitted (has_ended before k) (is_initialized before k) (admission_of before k) (responses_since before k) role goes in
-      stays_so x before k refl closed none (begun none)
-
-  comes_by : (ch : Consequence) (c : ℕ) → consequence_of x ≡ ch → role_by ch ≡ Some (Admin c) → Beginning (x ∷ before) k
-      → IsSomeAnd (start_of (x ∷ before) c) (ToldBy (x ∷ before) k)
-  comes_by (consequence.Begin b) c is made begun =
-      let same : c ≡ b.controller.cntlid = cc in
-      let new : begins x c ≡ Some (started x b) =
-      ap (λ (ch : Consequence). begins_by x ch c) is ∙ rw same (rw (same_here b.controller.cntlid) refl) in
-      let views = views_of (started x b).row in
-      start_new (ToldBy (x ∷ before) k) (begins x c) (if ends_live x c then None else start_of before c) (started x b) new
-      (begun.notices ∙ sym (notices_look_back.after views []) ∙ ap (told_after views) (sym begun.told))
-  comes_by (consequence.Join j) c is made begun = cc
-  comes_by _ c is made begun = cc
-
-  told_after_event : (admission_of before k ≡ None → Beginning before k) → IsTold before k → IsTold (x ∷ before) k
-  told_after_event begun earlier c role =
-      let closed = not_opened (Admin c) role in
-      elim (after_is x k (Admin c) (ap role_at (sym (connection_step x before k refl)) ∙ role)) [
-        | inl stays ↦ stays_told c closed stays earlier
-        | inr comes ↦ comes_by (consequence_of x) c refl comes.made (comes_so c closed comes begun)
+  pub notices_step : Follows
+  notices_step =
+      elim (bool_is (opens event k)) [
+        | inl opening ↦ rw opening refl
+        | inr closed ↦
+            elim (admin_or (role_of before k)) [
+              | inl none ↦ stays_told none closed (own_consequence x k) refl
+              | inr (c, role) ↦
+                  let found = start_is (IsOwner before k) (start_of before c) (all_own disks events k c role) in
+                  follows_on c found.0 closed role found.1 found.2
+            ]
       ]
 
-all_told : (disks : Opening) (events : List Event) (k : ℕ) → IsTold (happened disks events) k
-all_told disks [] k c role = cc
-all_told disks (event ∷ events) k c role =
-    told_after_event disks (happened disks events) event (all_hold disks events) k (all_begin disks events k) (all_told disks events k) c role
+  -- What one more event makes of a connection.
+  pub connection_step : connection_of (x ∷ before) k ≡ connection_after x k (connection_of before k)
+  connection_step = noted_step x before k refl notices_step
 
 -- ---- the law
 
-row_told : (h : List Occurrence) (k : ℕ) (registers : Regs) (queue : ℕ → Bool) (o : Option Start) (row : Row) → IsSomeAnd o (ToldBy h k)
+row_told : (h : List Occurrence) (k : ℕ) (registers : Regs) (queue : ℕ → Bool) (o : Option Start) (row : Row) → IsSomeAnd o (IsOwner h k)
     → option_map (row_with registers queue) o ≡ Some row → notices_of h k ≡ told_after (views_of row) (told_of h k)
-row_told h k registers queue None row told is = absurd told
-row_told h k registers queue (Some s) row told is =
+row_told h k registers queue None row owns is = absurd owns
+row_told h k registers queue (Some s) row owns is =
     let here : row_with registers queue s ≡ row = cc in
-    told ∙ ap (λ (r : Row). told_after (views_of r) (told_of h k)) here
+    ap (λ (o : Option Start). notices_to o (told_of h k)) owns ∙ ap (λ (r : Row). told_after (views_of r) (told_of h k)) here
 
-owed_by : (t : Option Telling) (views : Views) (s : NoticeState) (before : List NoticeOccurrence) → Shows views t → s ≡ told_after views before
-    → completed_by t s ≡ owed_at t views before
-owed_by None views s before shows is = refl
-owed_by (Some t) views s before shows is =
+owed_by : (t : Option Telling) (views : Views) (s : NoticeState) (earlier : List NoticeOccurrence) → Shows views t → s ≡ told_after views earlier
+    → completed_by t s ≡ owed_at t views earlier
+owed_by None views s earlier shows is = refl
+owed_by (Some t) views s earlier shows is =
     ap (λ (seen : Views). tell_answers t.old t.new seen s) shows ∙ ap (tell_answers t.old t.new views) is
-    ∙ sym (notices_look_back.completes views before t.old t.new)
+    ∙ sym (notices_look_back.completes views earlier t.old t.new)
 
 met_notices : (known : Bool) (m v : ConnectionState) → (if known then Some m else None) ≡ Some v → v.notices ≡ m.notices
 met_notices true m v is =
@@ -418,6 +414,7 @@ met_notices false m v is = cc
 pub hosts_are_told_by_looking_back : HostsAreToldByLookingBack
 hosts_are_told_by_looking_back = record {
   told = told;
+  next = notices_step;
   completes = λ disks events event k c row v role lives is.
       let h = happened disks events in
       let x = meets_after disks h event in
@@ -430,4 +427,4 @@ hosts_are_told_by_looking_back = record {
       → notices_of (happened disks events) k ≡ told_after (views_of row) (told_of (happened disks events) k)
   told disks events k c row role lives =
       let h = happened disks events in
-      row_told h k (registers_of h c) (has_queue h c) (start_of h c) row (all_told disks events k c role) lives
+      row_told h k (registers_of h c) (has_queue h c) (start_of h c) row (all_own disks events k c role) lives

@@ -30,7 +30,7 @@ use Rattle.target_history.specs.History.{Opening, config_of, controller_of, conn
 use Rattle.target_history.specs.Laws.{ControllersLiveByTheirAdmins, OpenVacant, QueueIdsAreOfConnections, QueuesAreOnTheirPort, is_queue_of, is_role_of, role_at, role_of}
 use Rattle.target_history.proofs.Holding.{AllHold, Holds, LivesOn, all_hold}
 use Rattle.target_history.proofs.Roles.{leaves, leaving_loses, lost_of, made_is, remains_is}
-use Rattle.target_history.proofs.Steps.{connection_step}
+use Rattle.target_history.proofs.Steps.{role_step}
 use Rattle.target_history.proofs.Tests.{bool_is, both_same, both_true, either_false, flipped, neither, same_here, same_number}
 
 -- a connection is this queue
@@ -157,12 +157,12 @@ module _ (disks : Opening) (before : List Occurrence) (event : Event) (held : Al
       ] in
       let port : is_on_port (cause_of x) (port_at (connection_of before k)) ≡ false =
       port_stays (cause_of x) became (registers_of before c) (has_queue before c) c (port_at (connection_of before k)) (start_of before c) lives (row_stays c goes) in
-      (k, ap role_at (connection_step x before k refl) ∙ remains_is x k role is (not_opened k role is) leaving port kept)
+      (k, role_step x before k refl ∙ remains_is x k role is (not_opened k role is) leaving port kept)
 
   makes : (role : Role) → role_by (consequence_of x) ≡ Some role → Served (x ∷ before) role
   makes role made =
       let found = event_makes event x.world x.connection x.parts x.clock x.blocks role made in
-      (found.0, ap role_at (connection_step x before found.0 refl) ∙ found.1)
+      (found.0, role_step x before found.0 refl ∙ found.1)
 
   admin_after : (c : ℕ) → is_some (start_of (x ∷ before) c) ≡ true → Served (x ∷ before) (Admin c)
   admin_after c lives = by (begins x c) refl where

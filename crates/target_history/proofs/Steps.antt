@@ -27,8 +27,10 @@ use Rattle.target_decision.specs.World.{World}
 use Rattle.target_decision.proofs.Deciding.{decision_is, owed_is}
 use Rattle.target_history.specs.EndCause.{ends_by}
 use Rattle.target_history.specs.Event.{front_in, gives_up, opens, port_in, steps}
-use Rattle.target_history.specs.Occurrence.{Occurrence, alignment_decided, completed_by, consequence_decided, connection_after, connection_moved, decided, decided_on, cause_of, ends, ends_live, initializes, is_end_decided, is_initialize, noted_at, notices_decided, responses, responses_decided, session_decided, telling}
+use Rattle.target_history.specs.Occurrence.{Occurrence, alignment_decided, completed_by, consequence_decided, connection_after, connection_moved, decided, decided_on, cause_of, ends, ends_live, initializes, is_end_decided, is_initialize, noted_at, notices_decided, port_at, responses, responses_decided, session_decided, telling}
 use Rattle.target_history.specs.History.{Admission, admission_by, admission_of, admission_or, admits, alignment_of, connection_of, has_ended, is_initialized, is_known, notices_of, port_of, responses_by, responses_since, session_of, session_with}
+use Rattle.target_history.specs.Laws.{role_at, role_of}
+use Rattle.target_history.specs.Noticing.{noted_after}
 use Rattle.target_history.proofs.Heads.{head_goes_round}
 
 -- ---- a queue's head
@@ -187,25 +189,69 @@ session_step x before k met =
     (first_by (steps x.event k) (has_ended before k) (is_initialized before k) x.world (x.parts k) (port_of before k) (alignment_of before k) (notices_of before k)
     (admission_of before k) (responses_since before k) (front_in x.event))))
 
--- What one more event makes of a connection.
-pub connection_step : (x : Occurrence) (before : List Occurrence) (k : ℕ) → x.connection k ≡ connection_of before k
-    → connection_of (x ∷ before) k ≡ connection_after x k (connection_of before k)
-connection_step x before k met = by (opens x.event k) (gives_up x.event k) (is_known before k) met where
-  by : (opening giving known : Bool) → x.connection k ≡ connection_with known (port_of before k) (alignment_of before k) (notices_of before k) (session_of before k)
+-- a connection whose host is told this
+abbrev pub noted_as : NoticeState → ConnectionState → ConnectionState
+noted_as n v = record v { notices = n }
+
+-- What one more event makes of a connection, apart from what its host is told.
+apart_step : (x : Occurrence) (before : List Occurrence) (k : ℕ) → x.connection k ≡ connection_of before k
+    → connection_of (x ∷ before) k ≡ option_map (noted_as (notices_of (x ∷ before) k)) (connection_after x k (connection_of before k))
+apart_step x before k met = by (opens x.event k) (gives_up x.event k) (is_known before k) (notices_of (x ∷ before) k) met where
+  by : (opening giving known : Bool) (n : NoticeState)
+      → x.connection k ≡ connection_with known (port_of before k) (alignment_of before k) (notices_of before k) (session_of before k)
       → connection_with (opening || (not giving && known)) (if opening then port_in x.event else port_of before k)
-      (if opening then 0 else alignment_decided (alignment_of before k) (decided x k))
-      (if opening then notices_at_connect else noted_at x (x.connection k) (notices_decided (notices_of before k) (decided x k)))
+      (if opening then 0 else alignment_decided (alignment_of before k) (decided x k)) n
       (if not opening && (ends x k || has_ended before k) then Ended else
       session_with (if opening then None else admission_or (admits x k) (admission_of before k))
       (not opening && (initializes x k || is_initialized before k))
       (responses x k + responses_by (admits x k) (responses_since before k)))
-      ≡ (if opening then Some (opened_on (port_in x.event)) else
+      ≡ option_map (noted_as n) (if opening then Some (opened_on (port_in x.event)) else
       if giving then None else option_map (connection_moved x k) (connection_with known (port_of before k) (alignment_of before k) (notices_of before k) (session_of before k)))
-  by true giving known met = refl
-  by false true known met = refl
-  by false false false met = refl
-  by false false true met = ap Some (whole (session_step x before k met) (ap (λ (o : Option ConnectionState). noted_at x o (notices_decided (notices_of before k) (decided x k))) met)) where
-    whole : {s t : Session} {m n : NoticeState} → s ≡ t → m ≡ n
-        → (let v : ConnectionState = record { port = port_of before k; session = s; alignment = alignment_decided (alignment_of before k) (decided x k); notices = m } in v)
+  by true giving known n met = refl
+  by false true known n met = refl
+  by false false false n met = refl
+  by false false true n met = ap Some (whole (session_step x before k met)) where
+    whole : {s t : Session} → s ≡ t
+        → (let v : ConnectionState = record { port = port_of before k; session = s; alignment = alignment_decided (alignment_of before k) (decided x k); notices = n } in v)
         ≡ (let v : ConnectionState = record { port = port_of before k; session = t; alignment = alignment_decided (alignment_of before k) (decided x k); notices = n } in v)
-    whole p q = rw (p, q) refl
+    whole p = rw p refl
+
+noted_role : (n : NoticeState) (o : Option ConnectionState) → role_at (option_map (noted_as n) o) ≡ role_at o
+noted_role n None = refl
+noted_role n (Some v) = refl
+
+noted_port : (n : NoticeState) (o : Option ConnectionState) → port_at (option_map (noted_as n) o) ≡ port_at o
+noted_port n None = refl
+noted_port n (Some v) = refl
+
+-- .. which queue it is, and its port
+pub role_step : (x : Occurrence) (before : List Occurrence) (k : ℕ) → x.connection k ≡ connection_of before k
+    → role_of (x ∷ before) k ≡ role_at (connection_after x k (connection_of before k))
+role_step x before k met =
+    ap role_at (apart_step x before k met) ∙ noted_role (notices_of (x ∷ before) k) (connection_after x k (connection_of before k))
+
+pub port_step : (x : Occurrence) (before : List Occurrence) (k : ℕ) → x.connection k ≡ connection_of before k
+    → port_at (connection_of (x ∷ before) k) ≡ port_at (connection_after x k (connection_of before k))
+port_step x before k met =
+    ap port_at (apart_step x before k met) ∙ noted_port (notices_of (x ∷ before) k) (connection_after x k (connection_of before k))
+
+-- .. and of all of it, where what its host is told follows from what it was told
+pub noted_step : (x : Occurrence) (before : List Occurrence) (k : ℕ) → x.connection k ≡ connection_of before k
+    → notices_of (x ∷ before) k ≡ noted_after x k (notices_of before k)
+    → connection_of (x ∷ before) k ≡ connection_after x k (connection_of before k)
+noted_step x before k met noted =
+    apart_step x before k met ∙ ap (λ (n : NoticeState). option_map (noted_as n) (connection_after x k (connection_of before k))) noted
+    ∙ by (opens x.event k) (gives_up x.event k) (is_known before k) met
+  where
+    m : NoticeState
+    m = notices_decided (notices_of before k) (decided x k)
+
+    by : (opening giving known : Bool) → x.connection k ≡ connection_with known (port_of before k) (alignment_of before k) (notices_of before k) (session_of before k)
+        → option_map (noted_as (if opening then notices_at_connect else noted_at x (x.connection k) m)) (if opening then Some (opened_on (port_in x.event)) else
+        if giving then None else option_map (connection_moved x k) (connection_with known (port_of before k) (alignment_of before k) (notices_of before k) (session_of before k)))
+        ≡ (if opening then Some (opened_on (port_in x.event)) else
+        if giving then None else option_map (connection_moved x k) (connection_with known (port_of before k) (alignment_of before k) (notices_of before k) (session_of before k)))
+    by true giving known met = refl
+    by false true known met = refl
+    by false false false met = refl
+    by false false true met = ap (λ (o : Option ConnectionState). Some (noted_as (noted_at x o m) (connection_moved x k (met_as before k)))) met

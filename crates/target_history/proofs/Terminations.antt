@@ -1,6 +1,6 @@
 -- A step ends its own connection by its own decision alone: of what a reply ends, a reset comes on the admin queue of its
 -- controller, and ends I/O queues.
-use Rattle.std.proofs.Common.{◌≡◌, ◌+◌, ℕ, Bool, true, false, not, ◌&&◌, ◌||◌, List, [], ◌∷◌, Option, Some, None, refl, sym, ap, ◌∙◌, inl, inr}
+use Rattle.std.proofs.Common.{◌≡◌, ◌+◌, ℕ, Bool, true, false, not, ◌&&◌, ◌||◌, List, ◌∷◌, Option, Some, None, refl, sym, ap, ◌∙◌, inl, inr}
 use Rattle.std.specs.Prelude.{if◌then◌else◌}
 use Rattle.fabrics_connect.specs.declared.decision.AdmitAs.{AdmitAs}
 use Rattle.fabrics_connect.specs.declared.decision.AdmitAs.TheVariants as admit
@@ -31,9 +31,9 @@ use Rattle.target_decision.proofs.Deciding.{command_is, decision_is, finished_is
 use Rattle.target_history.specs.declared.end_cause.EndCause.{EndCause}
 use Rattle.target_history.specs.declared.end_cause.EndCause.TheVariants as cause
 use Rattle.target_history.specs.EndCause.{cause_replied, cause_set, ends_by}
-use Rattle.target_history.specs.Event.{Event, edited, front_in, opened, opens, stepped, steps, given_up, gives_up, ticked}
-use Rattle.target_history.specs.Occurrence.{Occurrence, consequence_decided, consequence_of, decided, decided_on, cause_of, cause_stepped, ends_at, ends_live, is_end_decided, tags_decided, terminates}
-use Rattle.target_history.specs.History.{Opening, alignment_of, connection_of, happened, has_ended, is_known, meets_after, notices_of, part_of, port_of}
+use Rattle.target_history.specs.Event.{Event, edited, front_in, opened, opens, stepped, steps, given_up, ticked}
+use Rattle.target_history.specs.Occurrence.{Occurrence, consequence_decided, consequence_of, decided, decided_on, cause_of, cause_stepped, ends_at, ends_live, is_end_decided, terminates}
+use Rattle.target_history.specs.History.{alignment_of, connection_of, has_ended, is_known, notices_of, port_of}
 use Rattle.target_history.specs.Laws.{is_io_queue_of, role_at}
 use Rattle.target_history.specs.Terminations.{EndedHaveNoTransfers, StepsEndTheirOwn}
 use Rattle.target_history.proofs.Endings.{resets_end_their_queues_alone}
@@ -254,29 +254,5 @@ steps_end_their_own = record {
 
 -- ---- transfers
 
--- what is left where nothing is decided, or where nothing is left
-none_left : (opening leaving own other before : Bool) (d : Option Decision) (front : Front) (tags : Tags) (t : ℕ)
-    → (not opening && ((own || other) || before)) ≡ true → (before ≡ true → d ≡ None) → (before ≡ true → tags t ≡ None)
-    → (if opening || (leaving || (own || other)) then None else tags_decided d front tags t) ≡ None
-none_left true leaving own other before d front tags t h silent none = cc
-none_left false true own other before d front tags t h silent none = refl
-none_left false false true other before d front tags t h silent none = refl
-none_left false false false true before d front tags t h silent none = refl
-none_left false false false false true d front tags t h silent none = rw (silent refl) (none refl)
-none_left false false false false false d front tags t h silent none = cc
-
-nothing_decided : (x : Occurrence) (before : List Occurrence) (k : ℕ) → x.connection k ≡ connection_of before k → has_ended before k ≡ true → decided x k ≡ None
-nothing_decided x before k met ended =
-    ap (λ (o : Option ConnectionState). if steps x.event k then decided_on x.world (x.parts k) o (front_in x.event) else None) (ended_met x before k met ended)
-    ∙ none_at (steps x.event k) (is_known before k) x.world (x.parts k) (port_of before k) (alignment_of before k) (notices_of before k) (front_in x.event)
-
-no_transfers : (disks : Opening) (events : List Event) (k t : ℕ) → has_ended (happened disks events) k ≡ true → part_of (happened disks events) k t ≡ None
-no_transfers disks [] k t ended = refl
-no_transfers disks (event ∷ events) k t ended =
-    let before = happened disks events in
-    let x = meets_after disks before event in
-    none_left (opens event k) (gives_up event k) (terminates x k) (ends_at x (connection_of before k)) (has_ended before k) (decided x k) (front_in event)
-    (part_of before k) t ended (nothing_decided x before k refl) (no_transfers disks events k t)
-
 pub ended_have_no_transfers : EndedHaveNoTransfers
-ended_have_no_transfers = record { none = no_transfers }
+ended_have_no_transfers = record { none = λ disks events k ttag ended. rw ended refl }

@@ -1,6 +1,6 @@
 -- What a history of events makes of a target. Each definition looks back over the list of what happened,
 -- the newest first; none keeps anything.
-use Rattle.std.specs.Prelude.{ℕ, ◌+◌, ◌%◌, ◌^◌, Bool, true, false, not, ◌==◌, ◌||◌, ◌&&◌, List, [], ◌∷◌, ◌++◌, length, map, slice_index_or, Option, Some, None, is_some, if◌then◌else◌}
+use Rattle.std.specs.Prelude.{ℕ, ◌+◌, ◌%◌, ◌^◌, nat_lt, Bool, true, false, not, ◌==◌, ◌||◌, ◌&&◌, List, [], ◌∷◌, ◌++◌, length, map, slice_index_or, Option, Some, None, is_some, if◌then◌else◌}
 use Rattle.std.specs.List.{range_with_len}
 use Rattle.std.specs.Option.{option_map}
 use Rattle.admin_queue.specs.Pages.{Pages}
@@ -15,8 +15,10 @@ use Rattle.discovery_view.specs.View.{changes_records}
 use Rattle.config_rules.specs.Configuration.{Configuration, disks_alone}
 use Rattle.fabrics_connect.specs.declared.row.Row.{Row}
 use Rattle.block_store.specs.Write.{Write, contents_after}
+use Rattle.data_transfer.specs.Part.{Part, with_data}
 use Rattle.io_queue.specs.Execution.{Act}
 use Rattle.notices.specs.Notices.{NoticeState, notices_at_connect}
+use Rattle.notices.specs.Told.{Occurrence as NoticeOccurrence, notices_of as told_after}
 use Rattle.pdu_cut.specs.Front.{Front, incomplete, whole, faulty}
 use Rattle.pdu_cut.specs.Pdu.{Pdu}
 use Rattle.property_regs.specs.declared.kind.ControllerKind.TheVariants.{Discovery}
@@ -31,13 +33,15 @@ use Rattle.target_decision.specs.declared.session.Role.{Role}
 use Rattle.target_decision.specs.declared.session.Role.TheVariants.{Admin, Io}
 use Rattle.target_decision.specs.declared.session.Session.{Session}
 use Rattle.target_decision.specs.declared.session.Session.TheVariants.{Opened, Initialized, Connected, Ended}
+use Rattle.target_decision.specs.declared.transfer.WaitingCommand.{WaitingCommand}
 use Rattle.target_decision.specs.Controller.{kato_by, registers_by, restarts}
 use Rattle.target_decision.specs.Transfer.{Tags}
 use Rattle.target_decision.specs.World.{World}
 use Rattle.target_history.specs.declared.end_cause.EndCause.{EndCause}
 use Rattle.target_history.specs.declared.end_cause.EndCause.TheVariants as cause
 use Rattle.target_history.specs.Event.{Event, edited, front_in, gives_up, opens, port_in, steps}
-use Rattle.target_history.specs.Occurrence.{Occurrence, Start, acts, alignment_decided, begins, consequence_of, clock_after, config_after, decided, cause_of, ends, ends_live, initializes, noted_at, notices_decided, own_consequence, parts_after, responses, sends, updates}
+use Rattle.target_history.specs.Occurrence.{Occurrence, Start, acts, alignment_decided, begins, consequence_of, clock_after, config_after, data_brought, decided, cause_of, ends, ends_live, initializes, own_consequence, requests, responses, sends, updates, views_of}
+use Rattle.target_history.specs.Told.{owner_of, told_of}
 
 -- the units of each disk that a target is made with
 abbrev pub Opening : Type 0
@@ -117,12 +121,15 @@ abbrev pub alignment_of : List Occurrence → ℕ → ℕ
 alignment_of [] k = 0
 alignment_of (x ∷ before) k = if opens x.event k then 0 else alignment_decided (alignment_of before k) (decided x k)
 
--- what the host of the controller whose admin queue it is is to be told, by its own commands and resets, and by each edit
--- that it is told of: the requests that wait, the kinds of events, the counts of changes and the namespaces that changed
+-- what the host of this controller is told, to which this happened; where there is none, nothing
+abbrev pub notices_to : Option Start → List NoticeOccurrence → NoticeState
+notices_to None happened = notices_at_connect
+notices_to (Some s) happened = told_after (views_of s.row) happened
+
+-- what the host of the controller whose admin queue it is is to be told of what that shows, by all that happened to it: the
+-- requests that wait, the kinds of events, the counts of changes and the namespaces that changed
 abbrev pub notices_of : List Occurrence → ℕ → NoticeState
-notices_of [] k = notices_at_connect
-notices_of (x ∷ before) k =
-    if opens x.event k then notices_at_connect else noted_at x (x.connection k) (notices_decided (notices_of before k) (decided x k))
+notices_of happened k = notices_to (owner_of happened k) (told_of happened k)
 
 -- ---- its queue, from its Connect on (Base 2.0, section 6.3)
 
@@ -181,11 +188,33 @@ connection_of happened k =
     })
     else None
 
--- what stands under a tag of it: the transfer that an R2T began, with the data that came since, while not all has come,
--- and the connection is not ended
+-- ---- its transfers (TCP Transport 1.0, section 3.3)
+
+abbrev pub request_or : Option (Part WaitingCommand) → Option (Part WaitingCommand) → Option (Part WaitingCommand)
+request_or None before = before
+request_or (Some part) before = Some part
+
+-- the transfer that an R2T began under this tag of it, the latest since its open, as it was then
+abbrev pub request_of : List Occurrence → ℕ → Tags
+request_of [] k t = None
+request_of (x ∷ before) k t = if opens x.event k then None else request_or (requests x k t) (request_of before k t)
+
+-- the data of each H2CData that named the tag since, joined
+abbrev pub data_since : List Occurrence → ℕ → ℕ → List ℕ
+data_since [] k t = []
+data_since (x ∷ before) k t = if is_some (requests x k t) then [] else data_since before k t ++ data_brought x k t
+
+-- a transfer of which fewer bytes came than were asked for
+abbrev pub unless_whole : Option (Part WaitingCommand) → Option (Part WaitingCommand)
+unless_whole None = None
+unless_whole (Some part) = if nat_lt (length part.bytes) part.asked then Some part else None
+
+-- what stands under a tag of it: that transfer with these data, until its last byte comes, while the connection is known
+-- and not ended
 abbrev pub part_of : List Occurrence → ℕ → Tags
-part_of [] k t = None
-part_of (x ∷ before) k t = parts_after x k (part_of before k) t
+part_of happened k t =
+    if has_ended happened k || not (is_known happened k) then None else
+    unless_whole (option_map (with_data (data_since happened k t)) (request_of happened k t))
 
 -- ---- controllers (Base 2.0, sections 3.1 and 6.3)
 

@@ -40,10 +40,11 @@ use Rattle.target_decision.specs.Capsule.{connect_type, fabrics_opcode, is_ready
 use Rattle.target_decision.specs.Controller.{registers_at}
 use Rattle.target_decision.specs.Session.{role_in}
 use Rattle.target_decision.specs.Tell.{completed_in}
+use Rattle.target_decision.specs.Transfer.{Tags}
 use Rattle.target_decision.specs.World.{World, admin_controller}
 use Rattle.target_history.specs.EndCause.{ends_timer}
 use Rattle.target_history.specs.Event.{Event, edited, front_in, gives_up, opens, steps, ticked}
-use Rattle.target_history.specs.Occurrence.{Occurrence, Telling, completed_by, consequence_of, decided, cause_of, ends, ends_live, noted_by, operation_decided, responses, telling}
+use Rattle.target_history.specs.Occurrence.{Occurrence, Telling, completed_by, consequence_of, decided, cause_of, ends, ends_live, noted_by, operation_decided, parts_after, responses, telling}
 use Rattle.target_history.specs.History.{Admission, active_of, Opening, admission_of, clock_of, config_of, controller_of, connection_of, groups_page_of, happened, has_ended, is_known, is_live, mark_of, meets_after, notices_of, page_of, part_of, port_of, responses_since, row_of, sent}
 
 -- ---- what connections are sent
@@ -112,6 +113,18 @@ pub record HeadsCountResponses : Type 0 where
   pub counts : (x : Occurrence) (before : List Occurrence) (k : ℕ) (r : Reply)
       → x.connection k ≡ connection_of before k → decided x k ≡ Some (decision.Reply r)
       → r.sqhd ≡ responses_since (x ∷ before) k % (sqsize_of (admission_of (x ∷ before) k) + 1)
+
+-- ---- transfers
+
+-- the transfers of a connection, carried on from each event to the next as its decision says
+abbrev pub carried_parts : List Occurrence → ℕ → Tags
+carried_parts [] k t = None
+carried_parts (x ∷ before) k t = parts_after x k (carried_parts before k) t
+
+-- what stands under a tag of a connection, looking back to its R2T, is what was carried on to now
+pub record TransfersAreCarriedOn : Type 0 where
+  pub carried : (disks : Opening) (events : List Event) (k ttag : ℕ)
+      → part_of (happened disks events) k ttag ≡ carried_parts (happened disks events) k ttag
 
 -- ---- what one connection owes another
 

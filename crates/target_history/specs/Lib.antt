@@ -6,3 +6,4 @@ pub mod Laws
 pub mod Noticing
 pub mod Occurrence
 pub mod Terminations
+pub mod Told

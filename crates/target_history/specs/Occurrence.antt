@@ -5,6 +5,8 @@ use Rattle.config_edits.specs.declared.fault.EditFault.{EditFault}
 use Rattle.config_rules.specs.Accept.{accept}
 use Rattle.config_rules.specs.Configuration.{Configuration}
 use Rattle.block_store.specs.Stored.{Stored}
+use Rattle.data_transfer.specs.Part.{begun}
+use Rattle.data_transfer.specs.Parts.{free_tag}
 use Rattle.fabrics_connect.specs.declared.row.Row.{Row}
 use Rattle.fabrics_connect.specs.Row.{joined, left, left_all, row_begun, with_ready}
 use Rattle.io_queue.specs.Act.{DiskOutcome}
@@ -13,7 +15,10 @@ use Rattle.io_queue.specs.Execution.{Act, DisksDid}
 use Rattle.event_queue.specs.declared.completion.Completion.{Completion}
 use Rattle.notices.specs.Notices.{NoticeState, tell_answers, told}
 use Rattle.notices.specs.Viewer.{Views, discovery, io}
-use Rattle.pdu_cut.specs.Front.{Front}
+use Rattle.nvt_fields.specs.declared.pdu_type.PduType.{PduType}
+use Rattle.nvt_fields.specs.declared.pdu_type.PduType.TheVariants.{H2cData}
+use Rattle.pdu_cut.specs.Front.{Front, incomplete, whole, faulty}
+use Rattle.pdu_cut.specs.Pdu.{Pdu, data_part}
 use Rattle.property_regs.specs.Regs.{is_ready}
 use Rattle.target_decision.specs.declared.controller.Controller.{Controller}
 use Rattle.target_decision.specs.declared.consequence.Beginning.{Beginning}
@@ -27,14 +32,14 @@ use Rattle.target_decision.specs.declared.session.Session.{Session}
 use Rattle.target_decision.specs.declared.session.Role.TheVariants.{Admin}
 use Rattle.target_decision.specs.declared.session.Session.TheVariants.{Connected, Ended}
 use Rattle.target_decision.specs.Begin.{bytes_at, entry_at, row_by}
-use Rattle.target_decision.specs.Carry.{brought_by, tags_after}
+use Rattle.target_decision.specs.Carry.{brought_by, tags_after, waiting_at}
 use Rattle.target_decision.specs.Consequence.{update_by}
 use Rattle.target_decision.specs.Controller.{new_controller, registers_by, updated}
 use Rattle.target_decision.specs.Decision.{act_by, decide, is_end, operation_of, sent_by}
 use Rattle.target_decision.specs.Notice.{notices_after}
 use Rattle.target_decision.specs.Session.{alignment_after, is_ended, opened_on, session_after}
 use Rattle.target_decision.specs.Tell.{completed_in, completion_pdus}
-use Rattle.target_decision.specs.Transfer.{Tags, no_tags}
+use Rattle.target_decision.specs.Transfer.{Tags, head_in, no_tags}
 use Rattle.target_decision.specs.World.{World}
 use Rattle.target_history.specs.declared.end_cause.EndCause.{EndCause}
 use Rattle.target_history.specs.declared.end_cause.EndCause.TheVariants as cause
@@ -275,6 +280,30 @@ abbrev pub acts : Occurrence → Option Act
 acts x = act_decided (decision_of x) (stepping_tags x.event x.parts) (front_in x.event) (disk_outcome_in x.event)
 
 -- ---- what becomes of transfers
+
+-- the transfer that an R2T begins, by what is decided: it has no data yet, and the least tag that is free
+abbrev pub requested_by : Option Decision → Front → Tags → Tags
+requested_by (Some (decision.Request q)) front tags t =
+    if t == free_tag tags then Some (begun q.cid (waiting_at front) q.len) else None
+requested_by _ front tags t = None
+
+-- the one that it begins under a tag of connection k
+abbrev pub requests : Occurrence → ℕ → Tags
+requests x k t = requested_by (decided x k) (front_in x.event) (x.parts k) t
+
+-- the data of an H2CData that names this tag
+abbrev pub data_by : PduType → Pdu → ℕ → List ℕ
+data_by H2cData pdu t = if t == (head_in pdu).ttag then data_part pdu else []
+data_by _ pdu t = []
+
+abbrev pub data_at : Front → ℕ → List ℕ
+data_at (whole pdu) t = data_by pdu.kind pdu t
+data_at incomplete t = []
+data_at (faulty fault head) t = []
+
+-- the data that it brings to this tag of connection k
+abbrev pub data_brought : Occurrence → ℕ → ℕ → List ℕ
+data_brought x k t = if steps x.event k then data_at (front_in x.event) t else []
 
 abbrev pub tags_decided : Option Decision → Front → Tags → Tags
 tags_decided None front tags t = tags t

@@ -7,7 +7,7 @@ ghost use Rattle.target_history.specs.Laws.{NothingExpiresWithoutTicks, PagesCha
 ghost use Rattle.target_history.specs.Laws.{PermittedOutliveEdits, QueueIdsAreOfConnections};
 ghost use Rattle.target_history.specs.Laws.{QueuesAreOfOneConnection, QueuesAreOnTheirPort};
 ghost use Rattle.target_history.specs.Laws.{ResetsEndTheirQueuesAlone, ResponsesAnswerCapsules};
-ghost use Rattle.target_history.specs.Laws.{SentByOwnAlone};
+ghost use Rattle.target_history.specs.Laws.{SentByOwnAlone, TransfersAreCarriedOn};
 
 /// A connection that is ended is sent nothing more, until it is opened again.
 #[tactic(auto, using(crate::proofs::Histories::ended_are_sent_nothing))]
@@ -26,6 +26,14 @@ pub fn deleted_ports_end()
 #[tactic(auto, using(crate::proofs::Histories::responses_answer_capsules))]
 pub fn responses_answer_capsules()
     ensures { ResponsesAnswerCapsules }
+{}
+
+/// What stands under a tag of a connection is the Write or Compare that was sent an R2T under it last, with
+/// the data of each H2CData that named it since: looking back says so, and so does carrying the transfers
+/// on, event by event, as each decision says.
+#[tactic(auto, using(crate::proofs::Transfers::transfers_are_carried_on))]
+pub fn transfers_are_carried_on()
+    ensures { TransfersAreCarriedOn }
 {}
 
 /// Log pages and lists change by edits alone, but for the counts of a controller and its changed namespaces.
@@ -56,7 +64,7 @@ pub fn resets_end_their_queues_alone()
 
 /// A controller whose host may still use its subsystem outlives each edit that does not delete its
 /// port, and so do its connections, on which its host is told of the edit.
-#[tactic(auto, using(crate::proofs::Endings::permitted_outlive_edits))]
+#[tactic(auto, using(crate::proofs::Outliving::permitted_outlive_edits))]
 pub fn permitted_outlive_edits()
     ensures { PermittedOutliveEdits }
 {}

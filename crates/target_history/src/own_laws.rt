@@ -26,7 +26,8 @@ pub fn rows_have_their_identifiers()
 
 /// What the host of a controller is told on its admin queue is what the look-backs over all that happened to
 /// the controller say of its own views: over the accepted edits that it outlived, its host's own reads, requests
-/// and settings, its resets and enablings. Each edit completes the requests that are owed then.
+/// and settings, its resets and enablings. One more event makes of it, on whatever connection, what follows from that
+/// event and from what was told before. Each edit completes the requests that are owed then.
 #[tactic(auto, using(crate::proofs::Noticing::hosts_are_told_by_looking_back))]
 pub fn hosts_are_told_by_looking_back()
     ensures { HostsAreToldByLookingBack }

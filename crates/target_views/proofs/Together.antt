@@ -1,19 +1,26 @@
--- Three that are there together.
+-- What is there together.
 use Rattle.std.proofs.Common.{◌≡◌, Result, Ok, Err, MatchResult, sym, ap, ◌∙◌}
 
 abbrev value_or : {X E : Type 0} → X → Result X E → X
 value_or d (Ok x) = x
 value_or d (Err error) = d
 
-pub all_there : {A B C E : Type 0} (first a : A) (second : Result B E) (third : Result C E) (b : B) (c : C) (result : Result (A × B × C) E)
-    → MatchResult second (λ there. MatchResult third (λ last. result ≡ Ok (first, there, last)) (λ error. result ≡ Err error)) (λ error. result ≡ Err error)
-    → result ≡ Ok (a, b, c) → (first ≡ a) × (second ≡ Ok b) × (third ≡ Ok c)
-all_there first a (Ok there) (Ok last) b c result h is =
-    let same = ap (value_or (first, there, last)) (sym h ∙ is) in
-    (ap (λ p. p.0) same, ap (λ p. Ok p.1) same, ap (λ p. Ok p.2) same)
-all_there first a (Ok there) (Err error) b c result h is = let clash = sym h ∙ is in cc
-all_there first a (Err error) third b c result h is = let clash = sym h ∙ is in cc
+-- both, where the second is there
+abbrev pub AreBoth : {A B E : Type 0} → A → Result B E → Result (A × B) E → Type 0
+AreBoth first second result = MatchResult second (λ b. result ≡ Ok (first, b)) (λ error. result ≡ Err error)
 
--- what is made is one
-pub one_made : {A E : Type 0} (made : Result A E) (a b : A) → made ≡ Ok a → made ≡ Ok b → a ≡ b
-one_made made a b h k = cc
+pub both_there : {A B E : Type 0} (first a : A) (second : Result B E) (b : B) (result : Result (A × B) E)
+    → AreBoth first second result → result ≡ Ok (a, b) → (first ≡ a) × (second ≡ Ok b)
+both_there first a (Ok there) b result h is =
+    let same = ap (value_or (first, there)) (sym h ∙ is) in
+    (ap (λ p. p.0) same, ap (λ p. Ok p.1) same)
+both_there first a (Err error) b result h is = let clash = sym h ∙ is in cc
+
+-- all three, where the third is there with both
+pub all_there : {A B C E : Type 0} (first a x : A) (second : Result B E) (b y : B) (third : Result C E) (z : C)
+    (two : Result (A × B) E) (three : Result ((A × B) × C) E) → AreBoth first second two → two ≡ Ok (a, b)
+    → AreBoth (a, b) third three → three ≡ Ok ((x, y), z) → (first ≡ x) × (second ≡ Ok y) × (third ≡ Ok z)
+all_there first a x second b y third z two three are_two two_is are_three three_is =
+    let two = both_there first a second b two are_two two_is in
+    let three = both_there (a, b) (x, y) third z three are_three three_is in
+    (two.0 ∙ ap (λ p. p.0) three.0, two.1 ∙ ap (λ p. Ok p.1) three.0, three.1)

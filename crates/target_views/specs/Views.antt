@@ -1,10 +1,11 @@
 -- The views that log pages are written from, as the target sees them.
-use Rattle.std.specs.Prelude.{◌≡◌, ℕ, ◌%◌, ◌^◌, List, Option, unwrap_or}
+use Rattle.std.specs.Prelude.{◌≡◌, ◌≤◌, ℕ, ◌+◌, ◌%◌, ◌^◌, List, Option, unwrap_or}
 use Rattle.admin_queue.specs.Pages.{Pages}
 use Rattle.ana_view.specs.Group.{listed}
 use Rattle.ana_view.specs.View.{Shown as AnaShown, ShowsAna, groups_in, page_in as ana_page_in}
 use Rattle.change_lists.specs.ActiveView.{Shown as ActiveShown, ShowsActive, active_page, nsids_in, shown_after}
 use Rattle.config_words.specs.Numbered.{active_nsids}
+use Rattle.discovery_view.specs.Forming.{reach}
 use Rattle.discovery_view.specs.Plan.{IsPlannedFor, LeadsTo, Planned}
 use Rattle.discovery_view.specs.Ready.{AreOf, Places}
 use Rattle.discovery_view.specs.Record.{Parts}
@@ -22,12 +23,13 @@ pub record ViewsShown : Type 0 where
   pub ana : AnaShown
 
 -- the views, as contracts see them: what they show, and the discovery view's table of records, the rows of places in it,
--- and for how many more records it has room
+-- for how many more records it has room, and how many it formed
 pub record ViewsState : Type 0 where
   pub shown : ViewsShown
   pub slots : List Parts
   pub rows : Rows Places
   pub room : ℕ
+  pub formed : ℕ
 
 -- what an edit will make of them: they go over from one configuration to another, each view as it planned
 pub record PlansState : Type 0 where
@@ -73,6 +75,15 @@ ShowAfter (opened port n) c old new = new ≡ old
 ShowAfter (stepped n found m) c old new = new ≡ old
 ShowAfter (given_up n) c old new = new ≡ old
 ShowAfter (ticked now) c old new = new ≡ old
+
+-- How many records of the discovery log page they have formed after an event, with the configuration before it: an edit
+-- forms no more than it reaches, and nothing else forms any.
+abbrev pub FormedAfter : Event → Configuration → ℕ → ℕ → Type 0
+FormedAfter (edited edit) c old new = new ≤ old + reach c edit
+FormedAfter (opened port n) c old new = new ≡ old
+FormedAfter (stepped n found m) c old new = new ≡ old
+FormedAfter (given_up n) c old new = new ≡ old
+FormedAfter (ticked now) c old new = new ≡ old
 
 -- they show what a history says: the discovery view each host the records of the configuration, and the
 -- number of the edits that changed them; the list of active namespaces those of the configuration, and the ANA groups too

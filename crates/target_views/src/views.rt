@@ -1,8 +1,10 @@
 //! The views follow the edits of a configuration together.
-ghost use Rattle.std.specs.Prelude.{◌≡◌, IfOk, IsOk, MatchResult, Ok, Err};
+ghost use Rattle.std.specs.Prelude.{◌≡◌, ◌≤◌, ◌+◌, IfOk, IsOk, MatchResult, Ok, OnErr, Err, length};
 ghost use Rattle.admin_queue.specs.Pages.{pages_in};
 ghost use Rattle.config_rules.specs.Accept.{accept};
 ghost use Rattle.config_rules.specs.Configuration.{Configuration};
+ghost use Rattle.discovery_view.specs.Catalog.{catalog_of};
+ghost use Rattle.discovery_view.specs.Forming.{reach};
 ghost use Rattle.target_views.specs.Views.{ArePlannedFor, AreViewsOf, ShowFirst, ShowNext, pages_shown};
 
 use admin_queue::Pages;
@@ -32,6 +34,7 @@ impl Model for Views {
       slots = v.discovery.slots;
       rows = v.discovery.rows;
       room = v.discovery.room;
+      formed = v.discovery.formed;
     } };
 }
 
@@ -62,10 +65,11 @@ impl Views {
     pub fn new(alloc: Global, config: &Config) -> Result<Views, AllocError>
         ensures shown { IfOk result (λ views. ShowFirst config.now views.shown) }
         ensures of { IfOk result (AreViewsOf config.now) }
+        ensures formed { IfOk result (λ views. views.formed ≤ length (catalog_of config.now)) }
     {
         let discovery = DiscoveryView::new(alloc, config, RecordFormer::new())?;
-        let active = ActiveView::new(alloc, config);
-        let (discovery, active, ana) = with(discovery, active, AnaView::new(alloc, config))?;
+        let (discovery, active) = both(discovery, ActiveView::new(alloc, config))?;
+        let ((discovery, active), ana) = both((discovery, active), AnaView::new(alloc, config))?;
         Ok(Views {
             discovery,
             active,
@@ -74,7 +78,8 @@ impl Views {
     }
 
     /// Takes all the memory to go over to what an edit makes of this configuration, whose views they
-    /// are. Every page is as before, also after want of memory.
+    /// are, and forms the records that are new: no more than the edit reaches. Every page is as before.
+    /// So is `formed` after want of memory, since what forms records comes last.
     pub fn prepare(&mut self, config: &Config, edit: &Edit) -> Result<Plans, AllocError>
         requires accepted { IsOk (accept config.now edit.now) }
         requires of { AreViewsOf config.now self.old }
@@ -83,10 +88,13 @@ impl Views {
         ensures planned { IfOk result (λ plans. ArePlannedFor self.new plans) }
         ensures kept { self.new.shown ≡ self.old.shown }
         ensures stays { (c : Configuration) → AreViewsOf c self.old → AreViewsOf c self.new }
+        ensures reach { self.new.formed ≤ self.old.formed + reach config.now edit.now }
+        ensures unformed { OnErr result (self.new.formed ≡ self.old.formed) }
     {
-        let discovery = self.discovery.prepare(config, edit)?;
-        let active = self.active.prepare(config, edit);
-        let (discovery, active, ana) = with(discovery, active, self.ana.prepare(config, edit))?;
+        let active = self.active.prepare(config, edit)?;
+        let (active, ana) = both(active, self.ana.prepare(config, edit))?;
+        let discovery = self.discovery.prepare(config, edit);
+        let ((active, ana), discovery) = both((active, ana), discovery)?;
         Ok(Plans {
             discovery,
             active,
@@ -104,11 +112,12 @@ impl Views {
         PlannedEdit::new(&self.discovery, &plans.discovery, &plans.ana)
     }
 
-    /// Goes over to what was prepared last. Takes no memory.
+    /// Goes over to what was prepared last. Takes no memory and forms no record.
     pub fn commit(&mut self, plans: Plans)
         requires { ArePlannedFor self.old plans }
         ensures shown { ShowNext plans.new self.old.shown self.new.shown }
         ensures of { AreViewsOf plans.new self.new }
+        ensures formed { self.new.formed ≡ self.old.formed }
     {
         let Plans {
             discovery,
@@ -130,21 +139,23 @@ impl Views {
             ana: &self.ana,
         }
     }
+
+    /// How many records of the discovery log page were formed, or the greatest number of 64 bits where
+    /// they are more.
+    pub fn formed(&self) -> u64
+        ensures { result ≡ self.now.formed }
+    {
+        self.discovery.formed()
+    }
 }
 
-// All three, where the two others are there. What drops one of them is proved for any type, and not of
-// each part of a view.
-fn with<A: Drop, B: Drop, C: Drop>(
-    first: A,
-    second: Result<B, AllocError>,
-    third: Result<C, AllocError>,
-) -> Result<(A, B, C), AllocError>
-    ensures { MatchResult second
-        (λ b. MatchResult third (λ c. result ≡ Ok (first, b, c)) (λ error. result ≡ Err error))
-        (λ error. result ≡ Err error) }
+// Both, where the second is there. What drops the first is proved for any type, and not of each part of
+// a view.
+fn both<A: Drop, B: Drop>(first: A, second: Result<B, AllocError>) -> Result<(A, B), AllocError>
+    ensures { MatchResult second (λ b. result ≡ Ok (first, b)) (λ error. result ≡ Err error) }
 {
-    match (second, third) {
-        (Ok(second), Ok(third)) => Ok((first, second, third)),
-        (Err(error), _) | (Ok(_), Err(error)) => Err(error),
+    match second {
+        Ok(second) => Ok((first, second)),
+        Err(error) => Err(error),
     }
 }

@@ -2,7 +2,8 @@
 use crate::joined::{EditedLink, TargetLink};
 use crate::target::SharedTarget;
 use host_program::{
-    Blocks, Fill, Links, Peers, SessionFault, ana, changed, discover, list, read, write, write_held,
+    Blocks, CommandFault, Fill, Links, Peers, SessionFault, ana, changed, discover, list, read,
+    write, write_held,
 };
 use nvt_fields::{Nqn, NqnFault};
 use std::alloc::Global;
@@ -39,6 +40,11 @@ impl<'a> JoinedHost<'a> {
         })
     }
 
+    // A link to the target.
+    fn admin(&self) -> Result<TargetLink<'a>, SessionFault> {
+        Ok(self.target.link()?)
+    }
+
     // Two links to the target.
     fn links(&self) -> Result<Links<TargetLink<'a>, TargetLink<'a>>, SessionFault> {
         Ok(Links {
@@ -47,14 +53,8 @@ impl<'a> JoinedHost<'a> {
         })
     }
 
-    pub fn discover(&self, out: &mut Vec<u8>) -> Result<(), SessionFault> {
-        discover(
-            self.alloc,
-            self.target.link()?,
-            &self.names.host,
-            TURNS,
-            out,
-        )
+    pub fn discover(&self, out: &mut Vec<u8>) -> Result<(), CommandFault> {
+        discover(self.alloc, self.admin()?, &self.names.host, TURNS, out)
     }
 
     pub fn list(&self, out: &mut Vec<u8>) -> Result<(), SessionFault> {

@@ -1,5 +1,6 @@
 //! A target over disks of a test's own, and a host with two controllers, each with one I/O queue.
 use crate::command::{A, Command, H1, Opcode, SUCCESS, connect, enable, is_reply};
+use crate::transfer::h2c_data;
 use block_store::Disk;
 use nvt_config::Access;
 use std::alloc::{AllocError, Global};
@@ -120,6 +121,29 @@ impl<D: Disk + Drop> Driver<D> {
             && self.target.empties(k)
     }
 
+    /// Whether the data of a Write or a Compare on one of the queues are asked for whole, under TTAG 0, and it is
+    /// answered with this status once they came, in one H2CData.
+    pub fn answers_data(
+        &mut self,
+        queue: usize,
+        command: &Command,
+        data: &[u8],
+        status: [u8; 2],
+    ) -> bool {
+        let k = connection_of(queue);
+        let capsule = command.with_data_asked_for().pdu(self.alloc, &[]);
+        let request = request(command.cid, data.len());
+        let is_asked = self.takes(k, capsule)
+            && *self.target.sent(k) == *request.as_slice()
+            && self.target.empties(k);
+        let head = self.next_head(queue);
+        let pdu = h2c_data(self.alloc, command.cid, 0, data, true);
+        is_asked
+            && self.takes(k, pdu)
+            && is_reply(self.target.sent(k), command.cid, head, &[], status)
+            && self.target.empties(k)
+    }
+
     /// Whether a command without data is answered with these bytes.
     pub fn sends(&mut self, queue: usize, command: &Command, wanted: &[u8]) -> bool {
         let _head = self.next_head(queue);
@@ -161,6 +185,15 @@ impl<D: Disk + Drop> Driver<D> {
             && is_reply(self.target.sent(k), command.cid, head, out, SUCCESS)
             && self.target.empties(k)
     }
+}
+
+// An R2T of TTAG 0 for so many bytes from 0 on.
+fn request(cid: u8, len: usize) -> [u8; 24] {
+    let mut pdu = [0u8; 24];
+    pdu[..5].copy_from_slice(&[0x09, 0x00, 0x18, 0x00, 0x18]);
+    pdu[8] = cid;
+    pdu[16..20].copy_from_slice(&(len.min(1 << 20) as u32).to_le_bytes());
+    pdu
 }
 
 // The connection of a queue.

@@ -8,5 +8,5 @@ mod scenario;
 mod script;
 
 pub use rig::{Rig, counted};
-pub use scenario::{Scenario, holds_over};
+pub use scenario::{Scenario, holds_over, try_over};
 pub use script::{Step, add};

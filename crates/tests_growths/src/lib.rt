@@ -16,7 +16,11 @@ mod disks;
 #[cfg(test)]
 mod lists;
 #[cfg(test)]
+mod pages;
+#[cfg(test)]
 mod parts;
+#[cfg(test)]
+mod queues;
 #[cfg(test)]
 mod transfers;
 #[cfg(test)]

@@ -1,6 +1,6 @@
 //! Links that end, links that stay silent, and controllers that answer what they should not.
 use crate::base::check_text;
-use host_program::{Peers, SessionFault, ana, discover, list};
+use host_program::{CommandFault, Peers, SessionFault, ana, discover, list};
 use nvt_fields::Nqn;
 use std::alloc::Global;
 use testkit_edits::H1;
@@ -135,7 +135,7 @@ fn check_whole(alloc: Global, names: &Peers, low: u8) -> Outcome {
 }
 
 // What `discover` comes to over a link of these parts.
-fn discovered(alloc: Global, parts: &[Part<'_>], out: &mut Vec<u8>) -> Result<(), SessionFault> {
+fn discovered(alloc: Global, parts: &[Part<'_>], out: &mut Vec<u8>) -> Result<(), CommandFault> {
     match Nqn::read(alloc, H1) {
         Ok(host) => discover(
             alloc,
@@ -194,6 +194,7 @@ fn texts_are_words(rt: HostRuntime) -> Outcome {
         READY,
         Part::Page(1024, 0, &[(8, 1)]),
         Part::Page(1024, b' ', RECORD),
+        Part::Page(1024, 0, &[(8, 1)]),
     ];
     let ran = discovered(rt.alloc(), &parts, &mut out);
     pass!(check(ran == Ok(()), "the command"));

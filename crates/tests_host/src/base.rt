@@ -1,7 +1,8 @@
 //! A target that hosts find a disk on.
-use host_program::{Blocks, Fill, SessionFault};
+use host_program::{Blocks, CommandFault, Fill};
 use nvt_config::Access;
 use std::alloc::Global;
+use std::fmt::Display;
 use testkit_edits::{A, Blocks as OnDisk, H1, Line};
 use testkit_links::{JoinedHost, SharedTarget};
 use testkit_tables::{Outcome, check, check_bytes, check_lines, pass};
@@ -53,15 +54,16 @@ pub enum Asked<'a> {
     Write(Fill),
 }
 
-fn run(host: &JoinedHost<'_>, asked: Asked<'_>, out: &mut Vec<u8>) -> Result<(), SessionFault> {
+fn run(host: &JoinedHost<'_>, asked: Asked<'_>, out: &mut Vec<u8>) -> Result<(), CommandFault> {
     match asked {
-        Asked::Discover => host.discover(out),
-        Asked::List => host.list(out),
-        Asked::Ana => host.ana(out),
-        Asked::Changed(edits) => host.changed(edits, out),
-        Asked::Read(blocks) => host.read(blocks, out),
-        Asked::Write(fill) => host.write(fill, out),
+        Asked::Discover => host.discover(out)?,
+        Asked::List => host.list(out)?,
+        Asked::Ana => host.ana(out)?,
+        Asked::Changed(edits) => host.changed(edits, out)?,
+        Asked::Read(blocks) => host.read(blocks, out)?,
+        Asked::Write(fill) => host.write(fill, out)?,
     }
+    Ok(())
 }
 
 /// Whether a command of host H1 prints these lines, once the target is after these edits.
@@ -114,7 +116,7 @@ fn check_failed(alloc: Global, host: &JoinedHost<'_>, asked: Asked<'_>, text: &[
 }
 
 /// Whether a command ended by a fault of this text.
-pub fn check_text(alloc: Global, ran: Result<(), SessionFault>, text: &[u8]) -> Outcome {
+pub fn check_text<F: Display + Drop>(alloc: Global, ran: Result<(), F>, text: &[u8]) -> Outcome {
     match ran {
         Ok(()) => check(false, "a fault"),
         Err(fault) => check_bytes(format!(in alloc; "{fault}")?.as_bytes(), text),

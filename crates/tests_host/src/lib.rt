@@ -11,4 +11,6 @@ mod blocks;
 #[cfg(test)]
 mod rows;
 #[cfg(test)]
+mod settling;
+#[cfg(test)]
 mod texts;

@@ -1,7 +1,7 @@
 //! The text of each fault.
 use crate::base::check_text;
 use host_driver::HostFault;
-use host_program::SessionFault;
+use host_program::{CommandFault, SessionFault};
 use nvt_fields::{FatalErrorStatus, Status};
 use testkit_tables::{Outcome, Placed, pass};
 
@@ -56,4 +56,11 @@ fn faults_are_told(rt: HostRuntime) -> Outcome {
         pass!(check_text(rt.alloc(), Err(*fault), text.as_bytes()).in_row(row));
     }
     Ok(())
+}
+
+#[test]
+fn faults_of_commands_are_told(rt: HostRuntime) -> Outcome {
+    let turns = CommandFault::Session(SessionFault::Turns);
+    pass!(check_text(rt.alloc(), Err(turns), b"turns").in_row(0));
+    check_text(rt.alloc(), Err(CommandFault::Unsettled), b"unsettled").in_row(1)
 }

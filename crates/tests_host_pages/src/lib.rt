@@ -11,3 +11,5 @@ mod discovery;
 mod faults;
 #[cfg(test)]
 mod lists;
+#[cfg(test)]
+mod reading;

@@ -29,11 +29,12 @@ enum Brings {
     Others,
 }
 
-// A command on blocks 1 to 3, how many calls of the disk it makes, and how it is answered where one of
-// them fails, and where none does.
+// A command on blocks 1 to 3, whether its data are asked for, how many calls of the disk it makes, and how
+// it is answered where one of them fails, and where none does.
 #[derive(Clone, Copy)]
 struct Row {
     opcode: Opcode,
+    asked_for: bool,
     fua: bool,
     brings: Brings,
     calls: u64,
@@ -41,9 +42,10 @@ struct Row {
     status: [u8; 2],
 }
 
-const ROWS: [Row; 8] = [
+const ROWS: [Row; 12] = [
     Row {
         opcode: Opcode::Read,
+        asked_for: false,
         fua: false,
         brings: Brings::Nothing,
         calls: 3,
@@ -52,6 +54,7 @@ const ROWS: [Row; 8] = [
     },
     Row {
         opcode: Opcode::Compare,
+        asked_for: false,
         fua: false,
         brings: Brings::Same,
         calls: 3,
@@ -60,6 +63,7 @@ const ROWS: [Row; 8] = [
     },
     Row {
         opcode: Opcode::Compare,
+        asked_for: false,
         fua: false,
         brings: Brings::Others,
         calls: 3,
@@ -68,6 +72,7 @@ const ROWS: [Row; 8] = [
     },
     Row {
         opcode: Opcode::Write,
+        asked_for: false,
         fua: false,
         brings: Brings::Others,
         calls: 3,
@@ -76,6 +81,7 @@ const ROWS: [Row; 8] = [
     },
     Row {
         opcode: Opcode::Write,
+        asked_for: false,
         fua: true,
         brings: Brings::Others,
         calls: 4,
@@ -83,7 +89,44 @@ const ROWS: [Row; 8] = [
         status: SUCCESS,
     },
     Row {
+        opcode: Opcode::Write,
+        asked_for: true,
+        fua: false,
+        brings: Brings::Others,
+        calls: 3,
+        fault: WRITE_FAULT,
+        status: SUCCESS,
+    },
+    Row {
+        opcode: Opcode::Write,
+        asked_for: true,
+        fua: true,
+        brings: Brings::Others,
+        calls: 4,
+        fault: WRITE_FAULT,
+        status: SUCCESS,
+    },
+    Row {
+        opcode: Opcode::Compare,
+        asked_for: true,
+        fua: false,
+        brings: Brings::Same,
+        calls: 3,
+        fault: READ_ERROR,
+        status: SUCCESS,
+    },
+    Row {
+        opcode: Opcode::Compare,
+        asked_for: true,
+        fua: false,
+        brings: Brings::Others,
+        calls: 3,
+        fault: READ_ERROR,
+        status: COMPARE_FAILURE,
+    },
+    Row {
         opcode: Opcode::WriteZeroes,
+        asked_for: false,
         fua: false,
         brings: Brings::Nothing,
         calls: 3,
@@ -92,6 +135,7 @@ const ROWS: [Row; 8] = [
     },
     Row {
         opcode: Opcode::WriteZeroes,
+        asked_for: false,
         fua: true,
         brings: Brings::Nothing,
         calls: 4,
@@ -100,6 +144,7 @@ const ROWS: [Row; 8] = [
     },
     Row {
         opcode: Opcode::Flush,
+        asked_for: false,
         fua: false,
         brings: Brings::Nothing,
         calls: 1,
@@ -131,7 +176,11 @@ fn is_answered(driver: &mut FailingDriver, row: &Row, read: &[u8], status: [u8; 
         Brings::Same => part(&before, 512, 1536),
         Brings::Others => &written,
     };
-    driver.answers(0, &command, data, read, status)
+    if row.asked_for {
+        driver.answers_data(0, &command, data, status)
+    } else {
+        driver.answers(0, &command, data, read, status)
+    }
 }
 
 // The new bytes of all blocks, where the command of a row does not fail.

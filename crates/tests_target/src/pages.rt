@@ -3,7 +3,7 @@ use super::driver::{Driver, Script, holds};
 use super::pdus::{A, B, H1, H2};
 use nvt_config::{Access, Family};
 use testkit_edits::Line;
-use testkit_tables::{Outcome, Placed, check_bytes, pass};
+use testkit_tables::{Outcome, Placed, check_bytes, check_number, pass};
 
 // Each host's page has this GENCTR and NUMREC, and no other byte in its header. The hosts are the steps.
 fn counts(driver: &mut Driver, genctr: u8, numrec: u8) -> Outcome {
@@ -16,8 +16,8 @@ fn counts(driver: &mut Driver, genctr: u8, numrec: u8) -> Outcome {
     Ok(())
 }
 
-// Edits, and the GENCTR and NUMREC of each host's page after them.
-const ROWS: &[(&[Line<'static>], u8, u8)] = &[
+// Edits, the GENCTR and NUMREC of each host's page after them, and how many records were formed till then.
+const ROWS: &[(&[Line<'static>], u8, u8, u64)] = &[
     (
         &[
             Line::SubsystemAdd(A, b"SN", Access::Open),
@@ -25,11 +25,12 @@ const ROWS: &[(&[Line<'static>], u8, u8)] = &[
         ],
         0,
         0,
+        0,
     ),
-    (&[Line::LinkAdd(1, A), Line::LinkAdd(1, B), MOVE], 2, 1),
-    (&[Line::LinkDel(1, A), Line::LinkAdd(1, A)], 4, 1),
-    (&[Line::HostAdd(H1)], 4, 1),
-    (&[Line::HostDel(H1)], 4, 1),
+    (&[Line::LinkAdd(1, A), Line::LinkAdd(1, B), MOVE], 2, 1, 4),
+    (&[Line::LinkDel(1, A), Line::LinkAdd(1, A)], 4, 1, 5),
+    (&[Line::HostAdd(H1)], 4, 1, 5),
+    (&[Line::HostDel(H1)], 4, 1, 5),
 ];
 
 const MOVE: Line<'static> = Line::PortSet(1, Family::Ipv4, b"127.0.0.1", 4421);
@@ -41,9 +42,10 @@ fn edit_all(driver: &mut Driver, lines: &[Line<'_>]) {
 }
 
 pub fn counts_each_change(driver: &mut Driver) -> Outcome {
-    for (row, (lines, genctr, numrec)) in ROWS.iter().enumerate() {
+    for (row, (lines, genctr, numrec, formed)) in ROWS.iter().enumerate() {
         edit_all(driver, lines);
         pass!(counts(driver, *genctr, *numrec).in_row(row));
+        pass!(check_number(driver.target.formed(), *formed).in_row(row));
     }
     Ok(())
 }

@@ -6,7 +6,8 @@ pub type Pieces = &'static [(usize, &'static [u8])];
 /// What the target sends in it: ICResp, three responses, the data of the log page and its response.
 pub const SENT_LEN: usize = 128 + 3 * 24 + 24 + 1024 + 24;
 
-fn put(bytes: &mut [u8], at: usize, value: &[u8]) {
+/// Puts bytes at a place, as far as there is room.
+pub fn put(bytes: &mut [u8], at: usize, value: &[u8]) {
     if let Some(rest) = bytes.get_mut(at..) {
         let len = rest.len().min(value.len());
         rest[..len].copy_from_slice(&value[..len]);

@@ -42,11 +42,12 @@ fn is_made(
 }
 
 fn makes(target: &mut Target<MemoryDisk>, before: &Config, edit: &Edit, refused: &mut u32) -> bool {
-    let connections = seen(target);
+    let (connections, formed) = (seen(target), target.formed());
     let mut made = target.edit(edit);
     if made == Err(EditFault::Memory) {
         *refused = refused.saturating_add(1);
-        if !is_same(target.config(), before) || seen(target) != connections {
+        let is_as_before = seen(target) == connections && target.formed() == formed;
+        if !is_same(target.config(), before) || !is_as_before {
             return false;
         }
         made = target.edit(edit);

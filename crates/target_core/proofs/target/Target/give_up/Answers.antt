@@ -7,6 +7,6 @@ pub returns : goal.returns
 returns g c =
     let known = sym c.get.ensures ∙ ap option_copied c.in-Some.is in
     rw (← c.self.view_is, known)
-    (end_moves _ _ c.args.k _ _ known (rw c.state.ensures at c.of_loss-cause.ensures) refl refl refl
+    (end_moves _ _ c.args.k _ _ known (rw c.state.ensures at c.of_loss-cause.ensures) refl refl refl refl
     c.remove.ensures.emptied (rw c.settle.ensures.connections at c.remove-2.ensures.emptied) c.settle.ensures.rows c.settle.ensures.own
     c.settle.new.transfers c.settle.ensures.parts c.drop_queue.ensures refl)

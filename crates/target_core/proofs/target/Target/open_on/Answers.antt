@@ -10,7 +10,7 @@ returns-in-Ok-clause-opened g c =
     let k = c.in-Some.k in
     rw (← c.self.view_is) (
       free,
-      open_moves _ _ c.args.port k free (stream_free _ _ _ c.self.invariant.tables free).1 refl refl refl
+      open_moves _ _ c.args.port k free (stream_free _ _ _ c.self.invariant.tables free).1 refl refl refl refl
           (c.put.ensures ∙ ap (with_value c.self.inside.streams k) c.in-Ok.ensures)
           (c.put-in-Ok.ensures ∙ ap (with_value c.self.inside.connections k) c.new-in-Ok.ensures) refl refl c.drop_queue.ensures refl,
     )

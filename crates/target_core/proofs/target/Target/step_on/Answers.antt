@@ -26,7 +26,7 @@ returns-in-Ok-act g c =
     (step_done _ _ _ _ _ _ _ _ _ _ _ _ stream known lasts c.peek-front.ensures.front complete
     (rw (c.world-world.ensures, c.pages-pages.ensures, c.state-before.ensures) at c.decide-decision.ensures.decision)
     (rw c.state-before.ensures at c.of_decision.ensures) c.consequence_of.ensures (rw c.state-before.ensures at c.in-Ok.ensures)
-    refl refl refl
+    refl refl refl refl
     (acts_known _ _ _ _ _ _ _ _ _ _ _ known (rw (c.world-world.ensures, c.pages-pages.ensures) at c.in-Ok-act.ensures.acts)) c.settle.ensures.connections
     (rw c.consumed_of-len.ensures at (acted_known _ _ _ _ _ _ stream c.consume.ensures))
     (λ n. rw (c.settle.ensures.rows n, c.settle.ensures.own n) at (c.change.ensures.rows n))

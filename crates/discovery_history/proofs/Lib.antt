@@ -1,0 +1,4 @@
+pub mod Few
+pub mod Growing
+pub mod Learning
+pub mod Sound

@@ -1,9 +1,0 @@
-use Rattle.host_program.specs.Discovering.{page_text}
-use Rattle.host_program.proofs.Pages.{bad_page, prints_page}
-use Rattle.host_program.proofs.discovery.print_read.Goals as goal
-
-pub returns-in-Ok : goal.returns-in-Ok
-returns-in-Ok g c = prints_page _ c.read.result c.args.page.now _ page_text _ _ _ c.read.ensures c.in-Ok.is c.print_page.ensures
-
-pub returns-in-Err : goal.returns-in-Err
-returns-in-Err g c = bad_page _ c.read.result c.args.page.now _ _ _ c.read.ensures c.in-Err.is
