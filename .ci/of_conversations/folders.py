@@ -2,7 +2,10 @@
 
 import re
 import subprocess
+import time
 
+# Between two tries of a case: what kept the first from passing may be over then.
+PAUSE_SECONDS = 0.5
 ESCAPE = re.compile(rb"\\(?:x([0-9a-fA-F]{2})|(.?))", re.DOTALL)
 ESCAPES = {b"n": b"\n", b"t": b"\t", b"r": b"\r", b"\\": b"\\"}
 
@@ -26,11 +29,15 @@ class Case:
             raise Malformed("STATUS is no exit status")
         self.name, self.files, self.status = name, files, int(files.get("STATUS", b"0"))
 
+    def begin_stage(self):
+        """Is called before the cases of this one's stage are run."""
+
     def faults(self, program):
         """What is wrong with each way of the case, in words; nothing where it passes."""
         faults = {}
         for way, how in self.ways():
-            for _ in range(self.tries):
+            for number in range(self.tries):
+                time.sleep(PAUSE_SECONDS if number else 0)
                 faults[way] = self.caught_fault(program, how)
                 if not faults[way]:
                     break

@@ -15,6 +15,8 @@ WAYS = (("whole", None), ("bytes", 1), ("sevens", 7))
 TURNS = b"--turns"
 # What plays scripts to hosts with --turns runs first, and such a host only while that waits, on the same processor.
 FIRST, SECOND = 2, 1
+# So long a host may take to say why it ends, once a step of the script has failed.
+SOON_SECONDS = 5
 
 
 class HostCase(Case):
@@ -38,9 +40,11 @@ class HostCase(Case):
         can_be_cut = not self.has_turns and any(step.word == b"rx" for step in self.steps)
         return WAYS if can_be_cut else WAYS[:1]
 
-    def fault(self, program, how):
+    def begin_stage(self):
         if self.has_turns:
             play_first()
+
+    def fault(self, program, how):
         with tempfile.TemporaryDirectory(prefix="host-") as folder, closing(Controller(self.SECONDS)) as controller:
             host = Host(program, self, controller.port, folder)
             try:
@@ -57,7 +61,8 @@ class HostCase(Case):
 
 
 def play_first():
-    """Has this thread run before all that is not so scheduled, and on one processor, where that is allowed."""
+    """Has this thread and those that it starts run before all that is not so scheduled, and on one processor, where that is
+    allowed."""
     try:
         os.sched_setscheduler(0, os.SCHED_RR, os.sched_param(FIRST))
         os.sched_setaffinity(0, {max(os.sched_getaffinity(0))})
@@ -66,7 +71,7 @@ def play_first():
 
 
 def be_second():
-    """Has a process that such a thread started run behind it."""
+    """Has a process that such a thread starts run behind them."""
     if os.sched_getscheduler(0) == os.SCHED_RR:
         os.sched_setscheduler(0, os.SCHED_RR, os.sched_param(SECOND))
 
@@ -101,6 +106,9 @@ class Host:
         return self.err
 
     def end(self):
-        """Ends it, where it runs: what it printed on standard error."""
-        self.process.kill()
-        return self.ended(None)
+        """Ends it, where it does not end soon by itself: what it printed on standard error."""
+        try:
+            return self.ended(SOON_SECONDS)
+        except subprocess.TimeoutExpired:
+            self.process.kill()
+            return self.ended(None)
