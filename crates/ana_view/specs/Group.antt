@@ -1,5 +1,5 @@
 -- The ANA groups that a controller shows (Base 2.0, section 8.1).
-use Rattle.std.specs.Prelude.{ℕ, Bool, true, false, not, ◌==◌, ◌&&◌, List, [], ◌∷◌, Option, Some, None, filter, find}
+use Rattle.std.specs.Prelude.{ℕ, Bool, true, false, not, ◌==◌, ◌&&◌, List, [], ◌∷◌, Option, Some, None, find}
 use Rattle.std.specs.List.{filter_map, list_any}
 use Rattle.config_lists.specs.declared.group_state.AnaState.{AnaState}
 use Rattle.config_lists.specs.declared.group_state.AnaState.TheVariants.{Optimized, NonOptimized, Inaccessible, PersistentLoss, Change}
@@ -7,7 +7,7 @@ use Rattle.config_lists.specs.declared.namespace.Namespace.{Namespace}
 use Rattle.config_lists.specs.GroupState.{state_for}
 use Rattle.config_lists.specs.Namespace.{is_named}
 use Rattle.config_rules.specs.Configuration.{Configuration}
-use Rattle.config_words.specs.Numbered.{numbers_from}
+use Rattle.config_words.specs.Numbered.{nsids_where, numbers_from}
 
 -- a group as a controller shows it: its state on the controller's port, and the identifiers of the namespaces of the
 -- controller's subsystem in it, rising
@@ -21,9 +21,9 @@ abbrev pub is_in_group : Option Namespace → ℕ → Bool
 is_in_group None group = false
 is_in_group (Some n) group = n.group == group
 
--- the identifiers from 1 to 1,024 of the subsystem's namespaces in a group, rising
+-- the identifiers of the subsystem's namespaces in a group, rising
 unfoldable pub members : Configuration → List ℕ → ℕ → List ℕ
-members c subsystem group = filter (λ nsid. is_in_group (find (is_named subsystem nsid) c.namespaces) group) (numbers_from 1 1024)
+members c subsystem group = nsids_where (λ nsid. is_in_group (find (is_named subsystem nsid) c.namespaces) group)
 
 -- a group that holds none is absent
 abbrev pub descriptor_with : ℕ → AnaState → List ℕ → Option Descriptor

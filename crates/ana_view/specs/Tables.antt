@@ -1,19 +1,19 @@
 -- What a log page shows, as it is taken from a configuration: by identifier the namespaces of a subsystem, and by
 -- group its states on a port.
-use Rattle.std.specs.Prelude.{◌≡◌, ◌<◌, ℕ, Bool, not, List, Option, None, filter, length, slice_index, slice_index_or}
+use Rattle.std.specs.Prelude.{◌≡◌, ◌<◌, ℕ, Bool, not, List, Option, None, length, slice_index, slice_index_or}
 use Rattle.config_lists.specs.declared.group_state.AnaState.{AnaState}
 use Rattle.config_lists.specs.declared.group_state.AnaState.TheVariants.{Optimized}
 use Rattle.config_lists.specs.declared.namespace.Namespace.{Namespace}
-use Rattle.config_words.specs.Numbered.{numbers_from}
+use Rattle.config_words.specs.Numbered.{nsids_where}
 use Rattle.ana_view.specs.declared.groups.Groups.{Groups}
 use Rattle.ana_view.specs.Group.{Descriptor, are_same, descriptor_with, is_in_group, listed_by}
 
 abbrev pub is_member : List (Option Namespace) → ℕ → ℕ → Bool
 is_member namespaces nsid group = is_in_group (slice_index_or namespaces nsid None) group
 
--- the identifiers from 1 to 1,024 in a group, rising
+-- the identifiers in a group, rising
 unfoldable pub nsids_of : Groups → ℕ → List ℕ
-nsids_of t group = filter (λ nsid. is_member t.namespaces nsid group) (numbers_from 1 1024)
+nsids_of t group = nsids_where (λ nsid. is_member t.namespaces nsid group)
 
 abbrev pub state_of : Groups → ℕ → AnaState
 state_of t group = slice_index_or t.states group Optimized

@@ -1,6 +1,7 @@
 -- A view of the ANA groups, as its callers see it: the descriptors of each subsystem on each port.
 use Rattle.std.specs.Prelude.{◌≡◌, ◌≤◌, ℕ, Bool, List, [], Option, Some, None, All, length, nat_eq, unwrap_or}
 use Rattle.std.specs.Map.{lookup}
+use Rattle.config_lists.specs.Namespace.{nsid_max}
 use Rattle.config_rules.specs.Configuration.{Configuration}
 use Rattle.name_table.specs.Table.{value_of}
 use Rattle.ana_view.specs.Counts.{Counts}
@@ -36,10 +37,10 @@ page_in v subsystem port counts groups_only = ana_page groups_only counts (group
 pub record ShowsAna (c : Configuration) (v : Shown) : Type 0 where
   pub groups : (subsystem : List ℕ) (port : ℕ) → groups_in v subsystem port ≡ listed c subsystem port
 
--- at most 32 groups, and in each at most 1,024 namespaces
+-- at most 32 groups, and in each no more identifiers than namespaces may have
 pub record AreFew (listing : List Descriptor) : Type 0 where
   pub groups : length listing ≤ 32
-  pub nsids : All (λ g. length g.nsids ≤ 1024) listing
+  pub nsids : All (λ g. length g.nsids ≤ nsid_max) listing
 
 -- What an edit will make of a view: the configuration before it and the one after it, and what is shown then, unless
 -- it is what is shown now.

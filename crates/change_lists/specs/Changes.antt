@@ -4,9 +4,10 @@ use Rattle.std.specs.List.{list_any}
 use Rattle.std.specs.Option.{option_map}
 use Rattle.std.specs.Str.{bytes_eq}
 use Rattle.config_lists.specs.declared.namespace.Namespace.{Namespace}
-use Rattle.config_lists.specs.Namespace.{bytes_of, is_named}
+use Rattle.config_lists.specs.Namespace.{bytes_of, is_named, nsid_max}
 use Rattle.config_rules.specs.Configuration.{Configuration}
-use Rattle.change_lists.specs.ChangedSet.{nsids_where, with_nsids}
+use Rattle.config_words.specs.Numbered.{nsids_where}
+use Rattle.change_lists.specs.ChangedSet.{with_nsids}
 
 -- what a host is told to have changed of a namespace: its size in blocks, the bytes of a block, and its UUID
 pub record Attributes : Type 0 where
@@ -60,7 +61,7 @@ changed_nsids happened subsystem = nsids_where (is_changed happened subsystem)
 -- have
 abbrev pub AreChangedBy : Configuration → Configuration → List ℕ → List ℕ → Type 0
 AreChangedBy old new subsystem nsids =
-    (nsid : ℕ) → 1 ≤ nsid → nsid ≤ 1024 → list_any (nat_eq nsid) nsids ≡ changes_namespace old new subsystem nsid
+    (nsid : ℕ) → 1 ≤ nsid → nsid ≤ nsid_max → list_any (nat_eq nsid) nsids ≡ changes_namespace old new subsystem nsid
 
 -- Whatever happened: the set is empty at first and once it is emptied; where each edit's identifiers are noted, in any
 -- order, it has exactly those that changed since it was last emptied. What goes and comes back as it was has changed.

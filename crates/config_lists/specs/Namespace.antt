@@ -7,9 +7,13 @@ use Rattle.config_lists.specs.declared.namespace.Namespace.{Namespace}
 use Rattle.config_lists.specs.declared.namespace.Setting.{Setting}
 use Rattle.config_lists.specs.declared.namespace.Setting.TheVariants.{Blocks, Group}
 
+-- the greatest identifier that a namespace may have
+abbrev pub nsid_max : ℕ
+nsid_max = 4096
+
 -- a namespace's identifier
 abbrev pub is_nsid : ℕ → Bool
-is_nsid n = nat_le 1 n && nat_le n 1024
+is_nsid n = nat_le 1 n && nat_le n nsid_max
 
 -- the identifier of an ANA group
 abbrev pub is_group : ℕ → Bool

@@ -1,1 +1,2 @@
+pub mod Nsids
 pub mod Tables

@@ -1,1 +1,2 @@
+pub mod NsidSet
 pub mod Numbered

@@ -6,6 +6,7 @@ use Rattle.hex.specs.Hex.{encode_lower}
 use Rattle.nvt_fields.specs.Field.{field_at}
 use Rattle.nvt_fields.specs.Name.{up_to_zero}
 use Rattle.host_pages.specs.Group.{change_of, id_of, nsids_of, state_of}
+use Rattle.host_pages.specs.NsList.{is_overflowed, nsids_listed}
 
 -- ---- the texts of a discovery record
 
@@ -64,9 +65,13 @@ group_head g = codes "group " ++ (decimal (id_of g) ++ (codes " " ++ (decimal (s
 abbrev pub group_line : List ℕ → List ℕ
 group_line g = group_head g ++ nsid_words (nsids_of g) ++ codes "\n"
 
--- `changed NSID..`
+-- ` all` where the list overflowed, else its identifiers
+abbrev pub changed_words : List ℕ → List ℕ
+changed_words list = if is_overflowed list then codes " all" else nsid_words (nsids_listed list)
+
+-- `changed NSID..`, or `changed all`
 abbrev pub changed_line : List ℕ → List ℕ
-changed_line nsids = codes "changed" ++ nsid_words nsids ++ codes "\n"
+changed_line list = codes "changed" ++ changed_words list ++ codes "\n"
 
 -- `NSID`
 abbrev pub nsid_line : ℕ → List ℕ

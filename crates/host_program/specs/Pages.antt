@@ -1,7 +1,6 @@
 -- What the commands `ana` and `changed` do.
 use Rattle.std.specs.Prelude.{◌≡◌, ℕ, ◌%◌, ◌^◌, ◌==◌, ◌++◌, Bool, true, false, List, Option, Some, None, Result, Err, flat_map}
 use Rattle.host_pages.specs.AnaLog as ana
-use Rattle.host_pages.specs.NsList.{nsids_listed}
 use Rattle.host_link.specs.declared.fault.SessionFault.{SessionFault}
 use Rattle.host_link.specs.declared.fault.SessionFault.TheVariants.{BadPage}
 use Rattle.host_link.specs.Commands.{event_request, get_log_page, set_features}
@@ -42,12 +41,12 @@ pub record ShowsAna (peers : Peers) (turns : ℕ) (link : LinkState) (result : R
 
 -- ---- changed
 
--- the list is read, and its namespaces printed
+-- the list is read, and its namespaces printed, or that it overflowed
 pub record TellsList (queue : Conversation) (result : Result (Unit {0}) SessionFault) (old new : Option (List ℕ)) : Type 0 where
   pub page : Result (List ℕ) SessionFault
   pub stands : Conversation
   pub asks : Asks payload_of (get_log_page 4 0 4096) page queue stands
-  pub prints : Behind page result old new (λ p. Prints (changed_line (nsids_listed p)) result old new)
+  pub prints : Behind page result old new (λ p. Prints (changed_line p) result old new)
 
 -- the event is a notice that a namespace attribute changed, of log page 04h; no other bit of the result is set
 abbrev pub is_change : ℕ → Bool

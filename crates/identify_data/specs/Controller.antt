@@ -2,6 +2,7 @@
 use Rattle.std.specs.Prelude.{ℕ, ◌≤◌, List, [], ◌∷◌, ◌++◌, length, codes}
 use Rattle.nvt_fields.specs.Field.{padded}
 use Rattle.nvt_fields.specs.Name.{discovery_nqn}
+use Rattle.config_lists.specs.Namespace.{nsid_max}
 use Rattle.identify_data.specs.declared.controller_data.ControllerIdentity.{ControllerIdentity}
 use Rattle.identify_data.specs.declared.controller_data.ControllerIdentity.TheVariants.{Io, Discovery}
 use Rattle.identify_data.specs.Fields.{Field, at, byte, dword, table, word}
@@ -72,11 +73,11 @@ nvm_attributes c =
     at 512 (byte (by_kind c 0x66 0))  -- SQES
     ∷ at 513 (byte (by_kind c 0x44 0))  -- CQES
     ∷ at 514 (word 64)  -- MAXCMD
-    ∷ at 516 (dword (by_kind c 1024 0))  -- NN
+    ∷ at 516 (dword (by_kind c nsid_max 0))  -- NN
     ∷ at 520 (word (by_kind c 0x0009 0))  -- ONCS
     ∷ at 525 (byte (by_kind c 0x05 0))  -- VWC
     ∷ at 536 (dword 0x0030_0001)  -- SGLS
-    ∷ at 540 (dword (by_kind c 1024 0))  -- MNAN
+    ∷ at 540 (dword (by_kind c nsid_max 0))  -- MNAN
     ∷ at 768 (padded 256 0 (subnqn_of c))  -- SUBNQN
     ∷ []
 
