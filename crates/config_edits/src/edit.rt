@@ -30,7 +30,7 @@ pub enum Edit {
         nqn: Nqn,
     },
     /// Adds a namespace after those that are there. Refused: `BadValue` of `Nsid` for one outside 1
-    /// to 1,024, of `Blocks` for 0, or for more than the disk has, where that is there, of
+    /// to 4,096, of `Blocks` for 0, or for more than the disk has, where that is there, of
     /// `BlockSize` for another than 512 and 4,096, of `Uuid` for the nil one, of `Group` for one
     /// outside 1 to 32; `NoSuch` of `Subsystem`, then of `Disk`, where there is none; `Exists` of
     /// `Namespace` for one of that subsystem and identifier, then of `Uuid` for that of a namespace

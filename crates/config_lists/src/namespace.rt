@@ -10,7 +10,8 @@ use nvt_fields::Nqn;
 use std::alloc::AllocError;
 use uuid::Uuid;
 
-const NSID_MAX: u64 = 1_024;
+/// The greatest identifier that a namespace may have.
+pub const NSID_MAX: u32 = 4_096;
 
 const GROUP_MAX: u64 = 32;
 
@@ -49,7 +50,7 @@ impl BlockSize {
 pub struct Namespace {
     /// The name of a subsystem that is there.
     pub subsystem: Nqn,
-    /// NSID, from 1 to 1,024; no two namespaces of a subsystem have the same.
+    /// NSID, from 1 to 4,096; no two namespaces of a subsystem have the same.
     pub nsid: u32,
     /// The number of its disk, counted from 0; no two namespaces have the same.
     pub disk: u16,
@@ -104,11 +105,11 @@ impl Clone for Namespace {
     }
 }
 
-/// Whether a namespace may have this identifier: 1 to 1,024.
+/// Whether a namespace may have this identifier: 1 to 4,096.
 pub fn is_nsid(n: u64) -> bool
     ensures { result ≡ is_nsid n }
 {
-    (1..=NSID_MAX).contains(&n)
+    (1..=u64::from(NSID_MAX)).contains(&n)
 }
 
 /// Whether an ANA group may have this identifier: 1 to 32.

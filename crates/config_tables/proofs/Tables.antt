@@ -22,18 +22,18 @@ length_of_either : {V : Type 0} (b : Bool) (t u : List (Option V)) → length t 
 length_of_either true t u same = same
 length_of_either false t u same = refl
 
-length_of_put : {X : Type 0} (table : List (Option (Bor X))) (at : ℕ) (x : Bor X) → length (with_first table at x) ≡ length table
+pub length_of_put : {X : Type 0} (table : List (Option (Bor X))) (at : ℕ) (x : Bor X) → length (with_first table at x) ≡ length table
 length_of_put table at x =
     length_of_either (is_none (get_or table at (Some x))) (set table at (Some x)) table (length-set table at (Some x))
 
-put_here : {X : Type 0} (table : List (Option (Bor X))) (k : ℕ) (x : Bor X) → k < length table
+pub put_here : {X : Type 0} (table : List (Option (Bor X))) (k : ℕ) (x : Bor X) → k < length table
     → get_or (with_first table k x) k None ≡ (if is_none (get_or table k None) then Some x else get_or table k None)
 put_here table k x within =
     place_of (is_none (get_or table k (Some x))) (set table k (Some x)) table k
     ∙ ap (λ p. if is_none (get_or table k (Some x)) then p else get_or table k None) (get_or-set_same table k (Some x) None within)
     ∙ ap (λ p. if is_none p then Some x else get_or table k None) (get_or_default table k (Some x) None within)
 
-put_there : {X : Type 0} (table : List (Option (Bor X))) (at k : ℕ) (x : Bor X) → k ≢ at → get_or (with_first table at x) k None ≡ get_or table k None
+pub put_there : {X : Type 0} (table : List (Option (Bor X))) (at k : ℕ) (x : Bor X) → k ≢ at → get_or (with_first table at x) k None ≡ get_or table k None
 put_there table at k x apart =
     place_of (is_none (get_or table at (Some x))) (set table at (Some x)) table k
     ∙ ap (λ p. if is_none (get_or table at (Some x)) then p else get_or table k None) (get_or-set_other table at k (Some x) None apart)

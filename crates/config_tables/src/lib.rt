@@ -7,5 +7,5 @@ pub mod namespaces;
 mod place;
 pub mod states;
 
-pub use namespaces::{NSID_END, NamespaceTable};
+pub use namespaces::NamespaceTable;
 pub use states::{GROUP_END, StateTable};

@@ -1,44 +1,53 @@
 //! The namespaces of one subsystem by their identifiers.
-ghost use Rattle.std.specs.Prelude.{◌≡◌, ◌<◌, ℕ, None, find, length, slice_index_or};
+ghost use Rattle.std.specs.Prelude.{◌≡◌, ◌≤◌, ◌+◌, ℕ, [], None, find, length, map, slice_index_or};
 ghost use Rattle.std.specs.Option.{option_copied};
-ghost use Rattle.config_lists.specs.Namespace.{is_named};
+ghost use Rattle.config_lists.specs.Namespace.{is_named, nsid_max};
+ghost use Rattle.config_tables.specs.Nsids.{nsids_in};
 ghost use Rattle.config_tables.specs.Tables.{IsEmptyTable, IsTable};
 
 use crate::place::put_first;
 use config_lists::Namespace;
+use config_lists::namespace::NSID_MAX;
+use config_words::{NsidSet, Nsids};
 use std::marker::Model;
 
-/// One more than the greatest identifier that a namespace may have.
-pub const NSID_END: u32 = 1_025;
+// How many places a table has: one for each identifier, and one for 0.
+const PLACES: usize = NSID_MAX as usize + 1;
 
 /// By NSID the namespaces of one subsystem (Base 2.0, section 3.2.1). A contract sees the list of
 /// them, from identifier 0 on.
 #[derive(Drop)]
 pub struct NamespaceTable<'a> {
-    places: [Option<&'a Namespace>; NSID_END as usize],
+    places: [Option<&'a Namespace>; PLACES],
+    // The identifiers that have a namespace.
+    taken: NsidSet,
 }
 
 impl<'a> Model for NamespaceTable<'a> {
-    ghost use Rattle.std.specs.Prelude.{List, Option, map};
+    ghost use Rattle.std.specs.Prelude.{◌≡◌, List, Option, map};
     ghost use Rattle.std.specs.Option.{option_copied};
     ghost use Rattle.config_lists.specs.declared.namespace.Namespace.{Namespace};
+    ghost use Rattle.config_tables.specs.Nsids.{nsids_in};
 
     ghost Value = { List (Option Namespace) };
 
     ghost view = { λ t. map option_copied t.places };
+
+    ghost invariant = { λ t. t.taken ≡ nsids_in (map option_copied t.places) };
 }
 
 impl<'a> NamespaceTable<'a> {
     /// Those of a configuration's namespaces, of which the first of an identifier counts.
     pub fn of(namespaces: &'a [Namespace], subsystem: &[u8]) -> NamespaceTable<'a>
-        ensures found { (nsid : ℕ) → nsid < 1025
+        ensures found { (nsid : ℕ) → nsid ≤ nsid_max
             → slice_index_or result nsid None
             ≡ find (is_named subsystem.now nsid) namespaces.now }
-        ensures len { length result ≡ 1025 }
+        ensures len { length result ≡ nsid_max + 1 }
     {
-        let mut places = [None; NSID_END as usize];
-        set_places(&mut places, namespaces, subsystem);
-        NamespaceTable { places }
+        let mut places = [None; PLACES];
+        let mut taken = NsidSet::new();
+        set_places(&mut places, &mut taken, namespaces, subsystem);
+        NamespaceTable { places, taken }
     }
 
     /// The namespace of that identifier, if it is there.
@@ -50,20 +59,34 @@ impl<'a> NamespaceTable<'a> {
             None => None,
         }
     }
+
+    /// The identifiers that have a namespace, rising. What this costs follows how many they are, and
+    /// not the greatest that there may be.
+    pub fn nsids(&self) -> Nsids<'_>
+        ensures all { result ≡ nsids_in self.now }
+        ensures few { length result ≤ nsid_max }
+    {
+        self.taken.iter()
+    }
 }
 
-// Sets the place of each namespace of the subsystem, in a table that has none.
+// Sets the place of each namespace of the subsystem, in a table that has none, and takes its identifier.
 fn set_places<'a>(
-    places: &mut [Option<&'a Namespace>],
+    places: &mut [Option<&'a Namespace>; PLACES],
+    taken: &mut NsidSet,
     namespaces: &'a [Namespace],
     subsystem: &[u8],
 )
-    requires { IsEmptyTable places.old }
-    ensures { IsTable (is_named subsystem.now) namespaces.now places.new }
+    requires empty { IsEmptyTable places.old }
+    requires none { taken.old ≡ [] }
+    ensures places { IsTable (is_named subsystem.now) namespaces.now places.new }
+    ensures taken { taken.new ≡ nsids_in (map option_copied places.new) }
+    ensures len { length places.new ≡ nsid_max + 1 }
 {
     for namespace in namespaces {
         if namespace.subsystem.as_bytes() == subsystem {
             put_first(places, namespace.nsid as usize, namespace);
+            taken.insert(namespace.nsid);
         }
     }
 }

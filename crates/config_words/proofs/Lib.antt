@@ -1,1 +1,3 @@
-pub mod Left
+pub mod Marks
+pub mod Numbers
+pub mod Sets

@@ -1,6 +1,6 @@
-//! What log pages and commands ask of a configuration's namespaces, each in rising order.
+//! Sets of the identifiers that namespaces may have, as log pages and commands list them: rising.
 #![tactic(auto)]
 
-pub mod numbers;
+pub mod nsid_set;
 
-pub use numbers::{Numbers, active_nsids};
+pub use nsid_set::{NsidSet, Nsids};
