@@ -7,6 +7,7 @@ ghost use Rattle.identify_data.specs.Controller.{fabrics_attributes, nvm_attribu
 ghost use Rattle.identify_data.specs.Fields.{with_fields};
 
 use crate::fields::{clear, put_byte, put_dword, put_spaced, put_word, put_zeroed};
+use config_lists::namespace::NSID_MAX;
 use nvt_fields::DISCOVERY_NQN;
 
 const MODEL: &[u8; 15] = b"NVMe TCP Target";
@@ -130,11 +131,11 @@ fn put_nvm_attributes(identity: &ControllerIdentity<'_>, out: &mut [u8])
     put_byte(out, 512, identity.by_kind(0x66, 0)); // SQES
     put_byte(out, 513, identity.by_kind(0x44, 0)); // CQES
     put_word(out, 514, 64); // MAXCMD
-    put_dword(out, 516, identity.by_kind(1024, 0)); // NN
+    put_dword(out, 516, identity.by_kind(NSID_MAX, 0)); // NN
     put_word(out, 520, identity.by_kind(0x0009, 0)); // ONCS
     put_byte(out, 525, identity.by_kind(0x05, 0)); // VWC
     put_dword(out, 536, 0x0030_0001); // SGLS
-    put_dword(out, 540, identity.by_kind(1024, 0)); // MNAN
+    put_dword(out, 540, identity.by_kind(NSID_MAX, 0)); // MNAN
     put_zeroed(out, 768, 256, identity.subnqn()); // SUBNQN
 }
 

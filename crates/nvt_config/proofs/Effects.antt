@@ -7,7 +7,7 @@ use Rattle.config_lists.specs.declared.group_state.AnaState.{AnaState}
 use Rattle.config_lists.specs.declared.namespace.Setting.TheVariants.{Blocks, Group}
 use Rattle.config_lists.specs.declared.port.Port.{Port}
 use Rattle.config_lists.specs.GroupState.{is_optimized}
-use Rattle.config_lists.specs.Namespace.{block_size_of, is_group, is_named, is_nsid}
+use Rattle.config_lists.specs.Namespace.{block_size_of, is_group, is_named, is_nsid, nsid_max}
 use Rattle.config_lists.specs.Port.{is_port, is_port_number, is_address}
 use Rattle.config_lists.specs.Subsystem.{is_discovery, is_serial}
 use Rattle.config_edits.specs.declared.edit.Edit.{Edit}
@@ -205,7 +205,7 @@ group_number v nqn nsid group ok =
 
 -- a namespace that is added has numbers that may be
 pub record NamespaceNumbers (n : NewNamespace) : Type 0 where
-  pub nsid : n.nsid ≤ 1024
+  pub nsid : n.nsid ≤ nsid_max
   pub disk : n.disk ≤ 256
   pub group : n.group ≤ 32
 
@@ -224,7 +224,7 @@ namespace_numbers c v n same ok valid =
     let fewer : length v.units ≤ 256 = subst (λ w. length w.units ≤ 256) same most in
     let below : n.disk < length v.units = leb-false (length v.units) n.disk at_disk.0 in
     record {
-      nsid = leb-true n.nsid 1024 (and_parts (nat_le 1 n.nsid) (nat_le n.nsid 1024) named).1;
+      nsid = leb-true n.nsid nsid_max (and_parts (nat_le 1 n.nsid) (nat_le n.nsid nsid_max) named).1;
       disk = omega arith;
       group = leb-true n.group 32 (and_parts (nat_le 1 n.group) (nat_le n.group 32) grouped).1;
     }

@@ -15,6 +15,5 @@ pub use config_lists::{
     Access, Allow, AnaState, BlockSize, Family, GroupState, Host, Link, Namespace, Port, Subsystem,
     Text,
 };
-pub use config_words::Numbers;
 pub use fault::NewFault;
 pub use plan::Plan;

@@ -3,12 +3,10 @@ ghost use Rattle.std.specs.Prelude.{◌≡◌, find};
 ghost use Rattle.std.specs.Option.{option_copied};
 ghost use Rattle.config_lists.specs.GroupState.{state_for};
 ghost use Rattle.config_lists.specs.Namespace.{is_named};
-ghost use Rattle.config_words.specs.Numbered.{active_nsids};
 
 use crate::config::Config;
 use config_lists::group_state::{AnaState, ana_state};
 use config_lists::namespace::{Namespace, find_namespace};
-use config_words::{Numbers, active_nsids};
 
 impl Config {
     /// The namespace of that subsystem and that identifier, if it is there.
@@ -16,13 +14,6 @@ impl Config {
         ensures { option_copied result ≡ find (is_named subsystem.now nsid) self.now.namespaces }
     {
         find_namespace(self.namespaces(), subsystem, u64::from(nsid))
-    }
-
-    /// The active namespace identifiers of a subsystem (Base 2.0, section 3.2.1.3), rising.
-    pub fn active_nsids<'a>(&'a self, subsystem: &'a [u8]) -> Numbers<'a>
-        ensures { result ≡ active_nsids self.now.namespaces subsystem.now }
-    {
-        active_nsids(self.namespaces(), subsystem)
     }
 
     /// The state on that port of that group of that subsystem: optimized where none was set.

@@ -5,6 +5,7 @@ ghost use Rattle.config_edits.specs.declared.edit.Edit.TheVariants.{LinkAdd, Nam
 ghost use Rattle.config_edits.specs.declared.edit.Edit.TheVariants.{PortAdd, PortSet};
 ghost use Rattle.config_edits.specs.declared.edit.Edit.TheVariants.{ReferralAdd, ReferralSet};
 ghost use Rattle.config_edits.specs.declared.edit.Edit.TheVariants.{SubsystemAdd};
+ghost use Rattle.config_lists.specs.Namespace.{nsid_max};
 ghost use Rattle.config_lists.specs.Port.{is_port_number};
 ghost use Rattle.config_rules.specs.Accept.{accept, namespace_of, port_of};
 ghost use Rattle.nvt_config.specs.Plan.{IsPlanOf};
@@ -180,7 +181,7 @@ fn port_of(endpoint: &Endpoint) -> Result<Port, AllocError>
 
 // An accepted edit names one of the two block sizes.
 fn namespace_of(namespace: &NewNamespace) -> Result<Namespace, AllocError>
-    requires nsid { namespace.now.nsid ≤ 1024 }
+    requires nsid { namespace.now.nsid ≤ nsid_max }
     requires disk { namespace.now.disk ≤ 256 }
     requires group { namespace.now.group ≤ 32 }
     ensures { IfOk result (λ made. made ≡ namespace_of namespace.now) }
