@@ -1,133 +1,42 @@
--- The identifiers that pass a test, and how they change with it.
-use Rattle.std.proofs.Common.{◌≡◌, ◌≢◌, ℕ, zero, suc, ◌+◌, ◌-◌, ◌*◌, ◌<◌, ◌≤◌, Bool, true, false, not, ◌==◌, ◌&&◌, ◌||◌, List, [], ◌∷◌, ◌++◌, filter, get_or, length, nat_eq, nat_lt, replicate, set, length-append, refl, ap, sym, ◌∙◌, arith, inl, inr}
-use Rattle.std.proofs.lemmas.Bool.{cases_Bool, cases_lt}
+-- The namespaces that changed, and the list that tells of them.
+use Rattle.std.proofs.Common.{◌≡◌, ℕ, ◌-◌, ◌*◌, ◌<◌, ◌≤◌, Bool, true, false, not, ◌==◌, ◌&&◌, ◌||◌, List, [], ◌∷◌, ◌++◌, Option, Some, None, filter, get_or, is_some, length, nat_eq, nat_lt, replicate, length-append, refl, ap, sym, ◌∙◌, arith, inl, inr}
+use Rattle.std.proofs.lemmas.Bool.{cases_Bool}
 use Rattle.std.proofs.lemmas.Bool.Decides.{nat_tests}
-use Rattle.std.proofs.lemmas.List.{get_or-replicate, get_or-set_other, get_or-set_same, get_or_past, length-replicate}
-use Rattle.std.proofs.lemmas.List.{append-nil}
-use Rattle.std.proofs.lemmas.List.Concat.{flat_map-append}
-use Rattle.std.proofs.lemmas.List.Elements.{filter-append}
-use Rattle.std.proofs.lemmas.List.Folds.{list_any-append}
-use Rattle.std.specs.Int.{w32, to_le_bytes}
+use Rattle.std.proofs.lemmas.List.{length-replicate}
 use Rattle.std.specs.List.{list_any}
-use Rattle.config_words.specs.Numbered.{numbers_from}
+use Rattle.std.specs.Option.{option_map}
+use Rattle.config_lists.specs.declared.namespace.Namespace.{Namespace}
+use Rattle.config_lists.specs.Namespace.{nsid_max}
+use Rattle.config_tables.specs.Nsids.{is_taken, nsids_in}
+use Rattle.config_words.specs.NsidSet.{IsNsidSet, with_nsid}
+use Rattle.config_words.specs.Numbered.{nsids_where, numbers_from}
+use Rattle.config_words.proofs.Numbers.{kept_where}
+use Rattle.config_words.proofs.Sets.{is_where, no_nsids, nsids_alike, one_more, set_is_where}
 use Rattle.nvt_fields.specs.Field.{padded}
 use Rattle.nvt_fields.specs.Window.{window}
 use Rattle.nvt_fields.proofs.Windows.{window-zeros}
 use Rattle.change_lists.specs.ActiveList.{list_page}
-use Rattle.change_lists.specs.ChangedSet.{changed_page, nsids_where, with_nsid, with_nsids}
-use Rattle.change_lists.specs.Changes.{ChangesAreNoted, changes_namespace, edited, is_changed}
-use Rattle.change_lists.proofs.Lists.{kept_where, numbers_between}
-use Rattle.change_lists.proofs.Pages.{length-kept, length-numbers, length-page}
-
--- tests that agree on numbers in a row keep the same of them
-kept_alike : (p q : ℕ → Bool) (first n : ℕ) → ((k : ℕ) → first ≤ k → k < first + n → p k ≡ q k) → filter p (numbers_from first n) ≡ filter q (numbers_from first n)
-kept_alike p q first zero same = refl
-kept_alike p q first (suc n) same =
-    let here : p first ≡ q first = same first (omega arith) (omega arith) in
-    let rest = kept_alike p q (suc first) n (λ k above below. same k (omega arith) (omega arith)) in
-    rw (here, rest) refl
-
-pub nsids_alike : (p q : ℕ → Bool) → ((k : ℕ) → 1 ≤ k → k ≤ 1024 → p k ≡ q k) → nsids_where p ≡ nsids_where q
-unfolding nsids_where
-nsids_alike p q same = kept_alike p q 1 1024 (λ k above below. same k above (omega arith))
-
--- an identifier that a namespace may have is among those that pass exactly where it passes
-pub is_where : (p : ℕ → Bool) (k : ℕ) → 1 ≤ k → k ≤ 1024 → list_any (nat_eq k) (nsids_where p) ≡ p k
-unfolding nsids_where
-is_where p k above below =
-    let within : (nat_lt k (1 + 1024) && not (nat_lt k 1)) ≡ true = grind (arith, nat_tests, above, below) in
-    kept_where p (numbers_from 1 1024) k ∙ ap (λ b. p k && b) (numbers_between 1 1024 k ∙ within) ∙ and_true (p k) where
-      and_true : (b : Bool) → (b && true) ≡ b
-      and_true true = refl
-      and_true false = refl
-
--- one identifier more
-pub one_noted : (p : ℕ → Bool) (nsid : ℕ) → with_nsid nsid (nsids_where p) ≡ nsids_where (λ n. (n == nsid) || p n)
-one_noted p nsid =
-    nsids_alike (λ n. (n == nsid) || list_any (nat_eq n) (nsids_where p)) (λ n. (n == nsid) || p n) (λ k above below. ap (λ b. (k == nsid) || b) (is_where p k above below))
-
-pub none_is_set : nsids_where (λ _. false) ≡ []
-unfolding nsids_where
-none_is_set = none_kept 1 1024 where
-  none_kept : (first n : ℕ) → filter (λ _. false) (numbers_from first n) ≡ []
-  none_kept first zero = refl
-  none_kept first (suc n) = none_kept (suc first) n
-
--- a place of a list of truth values is set
-pub set_is_noted : (has : List Bool) (nsid : ℕ) → length has ≡ 1025
-    → nsids_where (λ n. get_or (set has nsid true) n false) ≡ with_nsid nsid (nsids_where (λ n. get_or has n false))
-set_is_noted has nsid len =
-    nsids_alike (λ n. get_or (set has nsid true) n false) (λ n. (n == nsid) || get_or has n false) (λ k above below.
-    elim (cases_Bool (k == nsid)) [
-      | inl same ↦
-          let is : k ≡ nsid = grind (arith, nat_tests, same) in
-          let there : nsid < length has = omega arith in
-          rw same (ap (λ i. get_or (set has nsid true) i false) is ∙ get_or-set_same has nsid true false there)
-      | inr other ↦
-          let differs : k ≢ nsid = λ is. grind (arith, nat_tests, other, is) in
-          rw other (get_or-set_other has nsid k true false differs)
-    ])
-    ∙ sym (one_noted (λ n. get_or has n false) nsid)
+use Rattle.change_lists.specs.ChangedSet.{ChangedIsListed, IsChangedList, changed_page, nsids_told, with_nsids}
+use Rattle.change_lists.specs.Changes.{ChangesAreNoted, are_same, attributes_of, changes_namespace, edited, is_changed}
+use Rattle.change_lists.specs.Tables.{differs, noted}
+use Rattle.change_lists.proofs.Pages.{length-page}
 
 -- those that pass one of two tests, of which the second is that of a set
-pub with_these : (p q these : ℕ → Bool) → ((k : ℕ) → 1 ≤ k → k ≤ 1024 → these k ≡ p k)
+pub with_these : (p q these : ℕ → Bool) → ((k : ℕ) → 1 ≤ k → k ≤ nsid_max → these k ≡ p k)
     → nsids_where (λ n. these n || q n) ≡ nsids_where (λ n. p n || list_any (nat_eq n) (nsids_where q))
 with_these p q these same =
     nsids_alike (λ n. these n || q n) (λ n. p n || list_any (nat_eq n) (nsids_where q)) (λ k above below.
     ap (λ b. b || q k) (same k above below) ∙ ap (λ b. p k || b) (sym (is_where q k above below)))
 
-pub any_alike : (p q : ℕ → Bool) → ((k : ℕ) → 1 ≤ k → k ≤ 1024 → p k ≡ q k) → list_any (λ _. true) (nsids_where p) ≡ list_any (λ _. true) (nsids_where q)
+pub any_alike : (p q : ℕ → Bool) → ((k : ℕ) → 1 ≤ k → k ≤ nsid_max → p k ≡ q k) → list_any (λ _. true) (nsids_where p) ≡ list_any (λ _. true) (nsids_where q)
 any_alike p q same = ap (list_any (λ _. true)) (nsids_alike p q same)
-
--- ---- places, one after the other
-
--- the place of an identifier that passes is set
-pub marked_so_far : (p : ℕ → Bool) (old has : List Bool) (nsid : ℕ) → nsid < length has → p nsid ≡ true
-    → ((k : ℕ) → 1 ≤ k → k < nsid → get_or has k false ≡ (p k || get_or old k false))
-    → (k : ℕ) → 1 ≤ k → k < nsid + 1 → get_or (set has nsid true) k false ≡ (p k || get_or old k false)
-marked_so_far p old has nsid within passes so_far k above below = elim (cases_Bool (k == nsid)) [
-  | inl same ↦
-      let is : k ≡ nsid = grind (arith, nat_tests, same) in
-      ap (λ i. get_or (set has nsid true) i false) is ∙ get_or-set_same has nsid true false within ∙ sym (ap (λ b. b || get_or old k false) (ap p is ∙ passes))
-  | inr other ↦
-      let differs : k ≢ nsid = λ is. grind (arith, nat_tests, other, is) in
-      get_or-set_other has nsid k true false differs ∙ so_far k above (grind (arith, nat_tests, other, below))
-]
-
--- or stays as it is
-pub kept_so_far : (p : ℕ → Bool) (old has : List Bool) (nsid : ℕ) → p nsid ≡ false → get_or has nsid false ≡ get_or old nsid false
-    → ((k : ℕ) → 1 ≤ k → k < nsid → get_or has k false ≡ (p k || get_or old k false))
-    → (k : ℕ) → 1 ≤ k → k < nsid + 1 → get_or has k false ≡ (p k || get_or old k false)
-kept_so_far p old has nsid fails here so_far k above below = elim (cases_Bool (k == nsid)) [
-  | inl same ↦
-      let is : k ≡ nsid = grind (arith, nat_tests, same) in
-      ap (λ i. get_or has i false) is ∙ here ∙ sym (ap (λ i. get_or old i false) is) ∙ sym (ap (λ b. b || get_or old k false) (ap p is ∙ fails))
-  | inr other ↦ so_far k above (grind (arith, nat_tests, other, below))
-]
-
-pub left_so_far : (old has : List Bool) (nsid : ℕ) → ((k : ℕ) → nsid ≤ k → get_or has k false ≡ get_or old k false)
-    → (k : ℕ) → nsid + 1 ≤ k → get_or (set has nsid true) k false ≡ get_or old k false
-left_so_far old has nsid left k behind =
-    let differs : k ≢ nsid = λ is. omega (arith, is) in
-    get_or-set_other has nsid k true false differs ∙ left k (omega arith)
-
--- ---- the page
-
-pub numbers_next : (first n : ℕ) → numbers_from first (suc n) ≡ numbers_from first n ++ (first + n) ∷ []
-numbers_next first zero = let same : first ≡ first + 0 = omega arith in ap (λ k. k ∷ []) same
-numbers_next first (suc n) =
-    let same : suc first + n ≡ first + suc n = omega arith in
-    ap (λ (l : List ℕ). first ∷ l) (numbers_next (suc first) n ∙ ap (λ k. numbers_from (suc first) n ++ k ∷ []) same)
-
-pub few_where : (p : ℕ → Bool) (n : ℕ) → length (list_page (filter p (numbers_from 1 n))) ≤ 4 * n
-few_where p n = omega (arith, length-page (filter p (numbers_from 1 n)), length-kept p (numbers_from 1 n), length-numbers 1 n)
 
 -- ---- what happened
 
 all_noted : (nsids : List ℕ) (p : ℕ → Bool) → with_nsids nsids (nsids_where p) ≡ nsids_where (λ n. list_any (nat_eq n) nsids || p n)
 all_noted [] p = refl
 all_noted (nsid ∷ nsids) p =
-    ap (with_nsids nsids) (one_noted p nsid)
+    ap (with_nsids nsids) (one_more p nsid)
     ∙ all_noted nsids (λ n. (n == nsid) || p n)
     ∙ nsids_alike (λ n. list_any (nat_eq n) nsids || ((n == nsid) || p n)) (λ n. list_any (nat_eq n) (nsid ∷ nsids) || p n) (λ k above below. regroup (list_any (nat_eq k) nsids) (k == nsid) (p k)) where
       regroup : (a b c : Bool) → (a || (b || c)) ≡ ((b || a) || c)
@@ -143,6 +52,9 @@ comes_back true b c h = refl
 comes_back false true c h = refl
 comes_back false false c h = cc
 
+none_is_set : nsids_where (λ _. false) ≡ []
+none_is_set = no_nsids (λ _. false) (λ k above below. refl)
+
 pub changes_are_noted : ChangesAreNoted
 changes_are_noted = record {
   first = λ subsystem. none_is_set;
@@ -156,68 +68,160 @@ changes_are_noted = record {
       comes_back (changes_namespace new old subsystem nsid) (changes_namespace old new subsystem nsid) (is_changed before subsystem nsid) changes;
 }
 
--- an array of `false` has no identifier
-pub none_at_first : (n : ℕ) → nsids_where (λ k. get_or (replicate n false) k false) ≡ []
-none_at_first n = nsids_alike (λ k. get_or (replicate n false) k false) (λ _. false) (λ k above below. elim (cases_lt k n) [
-  | inl within ↦ get_or-replicate n k false false within
-  | inr past ↦ get_or_past (replicate n false) k false (omega (arith, length-replicate {A = Bool} n false))
-]) ∙ none_is_set
+-- ---- what is in neither of two tables does not differ
 
--- ---- the page has its length
+differing_is_taken : (before after : List (Option Namespace)) (k : ℕ) → is_taken before k ≡ false → is_taken after k ≡ false → differs before after k ≡ false
+differing_is_taken before after k = neither (get_or before k None) (get_or after k None) where
+  neither : (a b : Option Namespace) → is_some a ≡ false → is_some b ≡ false → not (are_same (option_map attributes_of a) (option_map attributes_of b)) ≡ false
+  neither None None none_a none_b = refl
+  neither (Some a) b some none_b = absurd (cc)
+  neither None (Some b) none_a some = absurd (cc)
 
-pub page_is_whole : (bytes : List ℕ) → length bytes ≤ 4096 → length (padded 4096 0 bytes) ≡ 4096
-page_is_whole bytes fits = omega (arith, length-append bytes (replicate (4096 - length bytes) 0), length-replicate {A = ℕ} (4096 - length bytes) 0)
+-- so those of the one and those of the other that differ are all that do
+one_of_both : (p : ℕ → Bool) (a b : Bool) (k : ℕ) → (a ≡ false → b ≡ false → p k ≡ false) → ((p k && a) || (p k && b)) ≡ p k
+one_of_both p true b k none = with_true (p k) b where
+  with_true : (c b : Bool) → ((c && true) || (c && b)) ≡ c
+  with_true true b = refl
+  with_true false b = refl
+one_of_both p false true k none = with_second (p k) where
+  with_second : (c : Bool) → ((c && false) || (c && true)) ≡ c
+  with_second true = refl
+  with_second false = refl
+one_of_both p false false k none = with_none (p k) (none refl refl) where
+  with_none : (c : Bool) → c ≡ false → ((c && false) || (c && false)) ≡ c
+  with_none true h = cc
+  with_none false h = refl
 
-pub where_fits : (p : ℕ → Bool) → length (list_page (nsids_where p)) ≤ 4096
+-- those of a table that pass
+in_table : (p : ℕ → Bool) (table : List (Option Namespace)) (k : ℕ) → 1 ≤ k → k ≤ nsid_max → list_any (nat_eq k) (filter p (nsids_in table)) ≡ (p k && is_taken table k)
+in_table p table k above below = kept_where p (nsids_in table) k ∙ ap (λ b. p k && b) (is_where (is_taken table) k above below)
+
+pub both_noted : (before after : List (Option Namespace)) (set : List ℕ) → IsNsidSet set
+    → noted (differs before after) (nsids_in after) (noted (differs before after) (nsids_in before) set) ≡ nsids_where (λ n. differs before after n || list_any (nat_eq n) set)
+both_noted before after set is =
+    let p : ℕ → Bool = differs before after in
+    let first : List ℕ = filter p (nsids_in before) in
+    let second : List ℕ = filter p (nsids_in after) in
+    let old : ℕ → Bool = λ n. list_any (nat_eq n) set in
+    ap (λ s. with_nsids second (with_nsids first s)) (sym is)
+    ∙ ap (with_nsids second) (all_noted first old)
+    ∙ all_noted second (λ n. list_any (nat_eq n) first || old n)
+    ∙ nsids_alike (λ n. list_any (nat_eq n) second || (list_any (nat_eq n) first || old n)) (λ n. p n || old n) (λ k above below.
+    ap (λ b. b || (list_any (nat_eq k) first || old k)) (in_table p after k above below)
+    ∙ ap (λ b. (p k && is_taken after k) || (b || old k)) (in_table p before k above below)
+    ∙ regroup (p k && is_taken after k) (p k && is_taken before k) (old k)
+    ∙ ap (λ b. b || old k) (one_of_both p (is_taken after k) (is_taken before k) k (λ none_after none_before. differing_is_taken before after k none_before none_after))) where
+      regroup : (a b c : Bool) → (a || (b || c)) ≡ ((a || b) || c)
+      regroup true b c = refl
+      regroup false b c = refl
+
+-- ---- whether there is one
+
+any_passes : (p : ℕ → Bool) (xs : List ℕ) → list_any p xs ≡ list_any (λ _. true) (filter p xs)
+any_passes p [] = refl
+any_passes p (x ∷ xs) = by_test (p x) refl (any_passes p xs) where
+  by_test : (b : Bool) → p x ≡ b → list_any p xs ≡ list_any (λ _. true) (filter p xs) → list_any p (x ∷ xs) ≡ list_any (λ _. true) (filter p (x ∷ xs))
+  by_test true is rest = rw is refl
+  by_test false is rest = rw is rest
+
+any_kept : (p q : ℕ → Bool) (xs : List ℕ) → list_any p (filter q xs) ≡ list_any (λ k. p k && q k) xs
+any_kept p q [] = refl
+any_kept p q (x ∷ xs) = by_test (q x) refl (any_kept p q xs) where
+  by_test : (b : Bool) → q x ≡ b → list_any p (filter q xs) ≡ list_any (λ k. p k && q k) xs → list_any p (filter q (x ∷ xs)) ≡ list_any (λ k. p k && q k) (x ∷ xs)
+  by_test true is rest = rw is (ap (λ b. p x || b) rest ∙ with_true (p x) (list_any (λ k. p k && q k) xs)) where
+    with_true : (a c : Bool) → (a || c) ≡ ((a && true) || c)
+    with_true true c = refl
+    with_true false c = refl
+  by_test false is rest = rw is (rest ∙ with_false (p x) (list_any (λ k. p k && q k) xs)) where
+    with_false : (a c : Bool) → c ≡ ((a && false) || c)
+    with_false true c = refl
+    with_false false c = refl
+
+any_of_either : (p q : ℕ → Bool) (xs : List ℕ) → (list_any p xs || list_any q xs) ≡ list_any (λ k. p k || q k) xs
+any_of_either p q [] = refl
+any_of_either p q (x ∷ xs) =
+    regroup (p x) (list_any p xs) (q x) (list_any q xs) ∙ ap (λ b. (p x || q x) || b) (any_of_either p q xs) where
+      regroup : (a b c d : Bool) → ((a || b) || (c || d)) ≡ ((a || c) || (b || d))
+      regroup true b c d = refl
+      regroup false true true d = refl
+      regroup false true false d = refl
+      regroup false false c d = refl
+
+any_in_row : (p q : ℕ → Bool) (xs : List ℕ) → ((k : ℕ) → p k ≡ q k) → list_any p xs ≡ list_any q xs
+any_in_row p q [] same = refl
+any_in_row p q (x ∷ xs) same = rw (same x, any_in_row p q xs same) refl
+
+pub one_differs : (before after : List (Option Namespace))
+    → (list_any (differs before after) (nsids_in before) || list_any (differs before after) (nsids_in after)) ≡ list_any (λ _. true) (nsids_where (differs before after))
 unfolding nsids_where
-where_fits p = few_where p 1024
+one_differs before after =
+    let p : ℕ → Bool = differs before after in
+    let all : List ℕ = numbers_from 1 nsid_max in
+    ap (λ b. b || list_any p (filter (is_taken after) all)) (any_kept p (is_taken before) all)
+    ∙ ap (λ b. list_any (λ k. p k && is_taken before k) all || b) (any_kept p (is_taken after) all)
+    ∙ any_of_either (λ k. p k && is_taken before k) (λ k. p k && is_taken after k) all
+    ∙ any_in_row (λ k. (p k && is_taken before k) || (p k && is_taken after k)) p all (λ k. one_of_both p (is_taken before k) (is_taken after k) k (differing_is_taken before after k))
+    ∙ any_passes p all
 
--- one identifier more, which is in the set
-marked_more : (p : ℕ → Bool) (m : ℕ) → p (1 + m) ≡ true → list_page (filter p (numbers_from 1 (suc m))) ≡ list_page (filter p (numbers_from 1 m)) ++ to_le_bytes w32 (1 + m)
-marked_more p m there =
-    ap (λ (l : List ℕ). list_page (filter p l)) (numbers_next 1 m) ∙ rw (filter-append, there, flat_map-append, append-nil) refl
+-- ---- the list
 
-pub marked_next : (p : ℕ → Bool) (nsid : ℕ) → 1 ≤ nsid → p nsid ≡ true
-    → list_page (filter p (numbers_from 1 (nsid + 1 - 1))) ≡ list_page (filter p (numbers_from 1 (nsid - 1))) ++ to_le_bytes w32 nsid
-marked_next p nsid above there =
-    let more : nsid + 1 - 1 ≡ suc (nsid - 1) = omega arith in
-    let last : 1 + (nsid - 1) ≡ nsid = omega arith in
-    ap (λ k. list_page (filter p (numbers_from 1 k))) more
-    ∙ marked_more p (nsid - 1) (ap p last ∙ there)
-    ∙ ap (λ k. list_page (filter p (numbers_from 1 (nsid - 1))) ++ to_le_bytes w32 k) last
+told_fits : (set : List ℕ) → length (list_page (nsids_told set)) ≤ 4096
+told_fits set = elim (cases_Bool (nat_lt 1024 (length set))) [
+  | inl more ↦ rw more (omega (arith, length-page (0xFFFFFFFF ∷ [])))
+  | inr few ↦
+      let fits : length set ≤ 1024 = grind (arith, nat_tests, few) in
+      rw few (omega (arith, length-page set, fits))
+]
 
--- .. and so there is one
-pub any_marked : (p : ℕ → Bool) (nsid : ℕ) → 1 ≤ nsid → p nsid ≡ true → list_any (λ _. true) (filter p (numbers_from 1 (nsid + 1 - 1))) ≡ true
-any_marked p nsid above there =
-    let more : nsid + 1 - 1 ≡ suc (nsid - 1) = omega arith in
-    let last : p (1 + (nsid - 1)) ≡ true = ap p (omega arith) ∙ there in
-    let before : List ℕ = numbers_from 1 (nsid - 1) in
-    ap (λ k. list_any (λ _. true) (filter p (numbers_from 1 k))) more
-    ∙ ap (λ (l : List ℕ). list_any (λ _. true) (filter p l)) (numbers_next 1 (nsid - 1))
-    ∙ rw (filter-append, last) (list_any-append (λ _. true) (filter p before) ((1 + (nsid - 1)) ∷ []) ∙ or_true (list_any (λ _. true) (filter p before))) where
-      or_true : (b : Bool) → (b || true) ≡ true
-      or_true true = refl
-      or_true false = refl
+pub page_is_whole : (set : List ℕ) → length (changed_page set) ≡ 4096
+page_is_whole set =
+    let bytes : List ℕ = list_page (nsids_told set) in
+    omega (arith, told_fits set, length-append bytes (replicate (4096 - length bytes) 0), length-replicate {A = ℕ} (4096 - length bytes) 0)
 
--- or is not
-unmarked_more : (p : ℕ → Bool) (m : ℕ) → p (1 + m) ≡ false → filter p (numbers_from 1 (suc m)) ≡ filter p (numbers_from 1 m)
-unmarked_more p m absent = ap (filter p) (numbers_next 1 m) ∙ rw (filter-append, absent) (append-nil (filter p (numbers_from 1 m)))
+-- the entries, with the zeros behind them
+pub page_shown : (set entries out : List ℕ) (offset n : ℕ) → nsids_told set ≡ entries → out ≡ window (list_page entries) offset n → out ≡ window (changed_page set) offset n
+page_shown set entries out offset n told shown =
+    shown ∙ window-zeros (list_page entries) (4096 - length (list_page entries)) offset n ∙ ap (λ e. window (padded 4096 0 (list_page e)) offset n) (sym told)
 
-pub unmarked_next : (p : ℕ → Bool) (nsid : ℕ) → 1 ≤ nsid → p nsid ≡ false
-    → filter p (numbers_from 1 (nsid + 1 - 1)) ≡ filter p (numbers_from 1 (nsid - 1))
-unmarked_next p nsid above absent =
-    let more : nsid + 1 - 1 ≡ suc (nsid - 1) = omega arith in
-    let last : 1 + (nsid - 1) ≡ nsid = omega arith in
-    ap (λ k. filter p (numbers_from 1 k)) more ∙ unmarked_more p (nsid - 1) (ap p last ∙ absent)
+pub told_few : (set : List ℕ) → length set ≤ 1024 → nsids_told set ≡ set
+told_few set few = let test : nat_lt 1024 (length set) ≡ false = grind (arith, nat_tests, few) in rw test refl
 
--- all identifiers, with the zeros behind them
-pub any_of_all : (p : ℕ → Bool) (n : ℕ) → n ≡ 1024 → list_any (λ _. true) (filter p (numbers_from 1 n)) ≡ list_any (λ _. true) (nsids_where p)
-unfolding nsids_where
-any_of_all p n all = ap (λ m. list_any (λ _. true) (filter p (numbers_from 1 m))) all
+pub told_many : (set : List ℕ) → 1024 < length set → nsids_told set ≡ 0xFFFFFFFF ∷ []
+told_many set many = let test : nat_lt 1024 (length set) ≡ true = grind (arith, nat_tests, many) in rw test refl
 
-pub page_shown : (p : ℕ → Bool) (out : List ℕ) (offset n : ℕ) → out ≡ window (list_page (filter p (numbers_from 1 1024))) offset n
-    → out ≡ window (changed_page (nsids_where p)) offset n
-unfolding nsids_where
-page_shown p out offset n shown =
-    let bytes : List ℕ = list_page (filter p (numbers_from 1 1024)) in
-    shown ∙ window-zeros bytes (4096 - length bytes) offset n
+padded_by : (entries : List ℕ) → padded 4096 0 (list_page entries) ≡ list_page entries ++ replicate (4096 - 4 * length entries) 0
+padded_by entries = ap (λ n. list_page entries ++ replicate (4096 - n) 0) (length-page entries)
+
+pub changed_is_listed : ChangedIsListed
+changed_is_listed test = by_set (nsids_where test) where
+  by_set : (set : List ℕ) → IsChangedList set
+  by_set set = record {
+    whole = page_is_whole set;
+    listed = λ few. ap (λ e. padded 4096 0 (list_page e)) (told_few set few) ∙ padded_by set;
+    overflowed = λ many. ap (λ e. padded 4096 0 (list_page e)) (told_many set many) ∙ padded_by (0xFFFFFFFF ∷ []);
+  }
+
+-- ---- sets
+
+pub empty_is_set : (set : List ℕ) → set ≡ [] → IsNsidSet set
+empty_is_set set empty = rw empty none_is_set
+
+pub where_is_set : (p : ℕ → Bool) (set : List ℕ) → set ≡ nsids_where p → IsNsidSet set
+where_is_set p set is = rw is (set_is_where p)
+
+-- ---- those that are left to be noted
+
+pub noted_next : (p : ℕ → Bool) (nsid : ℕ) (rest set : List ℕ) → p nsid ≡ true → noted p (nsid ∷ rest) set ≡ noted p rest (with_nsid nsid set)
+noted_next p nsid rest set passes = rw passes refl
+
+pub passed_next : (p : ℕ → Bool) (nsid : ℕ) (rest set : List ℕ) → p nsid ≡ false → noted p (nsid ∷ rest) set ≡ noted p rest set
+passed_next p nsid rest set fails = rw fails refl
+
+pub found_next : (p : ℕ → Bool) (nsid : ℕ) (rest : List ℕ) (so_far all : Bool) → p nsid ≡ true → (so_far || list_any p (nsid ∷ rest)) ≡ all → (true || list_any p rest) ≡ all
+found_next p nsid rest so_far all passes is = sym (or_true so_far) ∙ ap (λ b. so_far || (b || list_any p rest)) (sym passes) ∙ is where
+  or_true : (b : Bool) → (b || true) ≡ true
+  or_true true = refl
+  or_true false = refl
+
+pub none_next : (p : ℕ → Bool) (nsid : ℕ) (rest : List ℕ) (so_far all : Bool) → p nsid ≡ false → (so_far || list_any p (nsid ∷ rest)) ≡ all → (so_far || list_any p rest) ≡ all
+none_next p nsid rest so_far all fails is = ap (λ b. so_far || (b || list_any p rest)) (sym fails) ∙ is

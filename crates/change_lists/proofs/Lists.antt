@@ -1,22 +1,23 @@
 -- The identifiers of a list rise, and are those of the subsystem's namespaces.
-use Rattle.std.proofs.Common.{◌≡◌, ◌==◌, ◌&&◌, ℕ, zero, suc, ◌+◌, ◌<◌, ◌≤◌, Bool, true, not, List, All, AllPairs, nat_lt, nat_eq, filter, refl, ap, sym, ◌∙◌, arith}
+use Rattle.std.proofs.Common.{◌≡◌, ◌==◌, ◌&&◌, ◌||◌, ℕ, zero, suc, ◌+◌, ◌<◌, ◌≤◌, Bool, true, false, not, List, [], ◌∷◌, All, AllPairs, nat_lt, nat_eq, filter, length, refl, ap, sym, ◌∙◌, arith}
 use Rattle.std.proofs.lemmas.Bool.{and_from, and_parts, lt-ltb, ltb-true}
 use Rattle.std.proofs.lemmas.Bool.Decides.{nat_tests}
 use Rattle.std.proofs.lemmas.List.Elements.{All-cons, All-contains, All-nil, All-weaker}
 use Rattle.std.proofs.lemmas.List.Folds.{Any-from_list_any, list_any-from_Any}
 use Rattle.std.proofs.lemmas.List.Kept.{AllPairs-cons, AllPairs-filter}
-use Rattle.std.proofs.lemmas.Map.Views.{Contains-from_any, any-filter_same, list_any-from_Contains}
+use Rattle.std.proofs.lemmas.Map.Views.{Contains-from_any, list_any-from_Contains}
 use Rattle.std.specs.Cmp.{nat_eq_equiv}
-use Rattle.std.specs.List.{list_any}
 use Rattle.std.specs.Str.{bytes_eq}
 use Rattle.config_lists.specs.declared.namespace.Namespace.{Namespace}
-use Rattle.config_lists.specs.Namespace.{is_named}
+use Rattle.config_lists.specs.Namespace.{is_named, nsid_max}
 use Rattle.config_lists.proofs.Names.{bytes_eq-same, same_name}
 use Rattle.config_rules.specs.Configuration.{Configuration}
 use Rattle.config_rules.specs.Valid.{IsNamespace, IsValid}
-use Rattle.config_words.specs.Numbered.{active_nsids, is_there, numbers_from}
+use Rattle.config_rules.proofs.Count.{namespaces_are_few}
+use Rattle.config_words.specs.Numbered.{active_nsids, is_there, nsids_where, numbers_from}
+use Rattle.config_words.proofs.Numbers.{kept_where, none_kept, numbers_between}
 use Rattle.change_lists.specs.ActiveList.{IsActive, IsActiveList, NsidsAreListed, nsids_above}
-use Rattle.change_lists.proofs.Pages.{few_from, length-kept, length-page}
+use Rattle.change_lists.proofs.Pages.{length-kept, length-page}
 
 -- numbers in a row rise, and are those between two
 All-above : (low first n : ℕ) → low < first → All (λ m. low < m) (numbers_from first n)
@@ -28,15 +29,6 @@ numbers_rise : (first n : ℕ) → AllPairs ◌<◌ (numbers_from first n)
 numbers_rise first zero = λ i j d less below. absurd (omega arith)
 numbers_rise first (suc n) =
     AllPairs-cons ◌<◌ first (numbers_from (suc first) n) (All-above first (suc first) n (omega arith)) (numbers_rise (suc first) n)
-
-pub numbers_between : (first n k : ℕ) → list_any (nat_eq k) (numbers_from first n) ≡ (nat_lt k (first + n) && not (nat_lt k first))
-numbers_between first zero k = grind (arith, nat_tests)
-numbers_between first (suc n) k = rw (numbers_between (suc first) n k) (grind (arith, nat_tests))
-
--- a number is kept where it passes
-pub kept_where : (test : ℕ → Bool) (xs : List ℕ) (k : ℕ) → list_any (nat_eq k) (filter test xs) ≡ (test k && list_any (nat_eq k) xs)
-kept_where test xs k =
-    any-filter_same (nat_eq k) test (test k) (λ j same. ap test (grind (arith, nat_tests, same))) xs
 
 -- a subsystem has a namespace of an identifier
 active_there : (c : Configuration) (subsystem : List ℕ) (k : ℕ) → IsActive c subsystem k → is_there c.namespaces subsystem k ≡ true
@@ -72,8 +64,48 @@ has_listed c subsystem above first n k within (over, (m, found, named, numbered)
     let range : (nat_lt k (first + n) && not (nat_lt k first)) ≡ true = grind (arith, nat_tests, between.0, between.1, numbered) in
     and_from (nat_lt above k) _ (lt-ltb above k over) (and_from (is_there c.namespaces subsystem k) _ there range)
 
-listed_from : (c : Configuration) (subsystem : List ℕ) (above first n : ℕ) → n ≤ 1024 → AreWithin first n c.namespaces → IsActiveList c subsystem above (nsids_above above (filter (is_there c.namespaces subsystem) (numbers_from first n)))
-listed_from c subsystem above first n few within =
+-- ---- a list is no longer than the namespaces are many
+
+-- those that pass one of two tests are no more than those that pass each
+few_of_either : (p q : ℕ → Bool) (xs : List ℕ) → length (filter (λ k. p k || q k) xs) ≤ length (filter p xs) + length (filter q xs)
+few_of_either p q [] = omega arith
+few_of_either p q (x ∷ xs) = by_tests (p x) (q x) refl refl (few_of_either p q xs) where
+  by_tests : (a b : Bool) → p x ≡ a → q x ≡ b → length (filter (λ k. p k || q k) xs) ≤ length (filter p xs) + length (filter q xs)
+      → length (filter (λ k. p k || q k) (x ∷ xs)) ≤ length (filter p (x ∷ xs)) + length (filter q (x ∷ xs))
+  by_tests true true pa qb rest = rw (pa, qb) (omega arith)
+  by_tests true false pa qb rest = rw (pa, qb) (omega arith)
+  by_tests false true pa qb rest = rw (pa, qb) (omega arith)
+  by_tests false false pa qb rest = rw (pa, qb) rest
+
+-- a namespace has one identifier
+at_most_one : (named : Bool) (nsid first n : ℕ) → length (filter (λ k. named && (nsid == k)) (numbers_from first n)) ≤ 1
+at_most_one named nsid first zero = omega arith
+at_most_one named nsid first (suc n) = by_test (named && (nsid == first)) refl (at_most_one named nsid (suc first) n) where
+  behind : (named && (nsid == first)) ≡ true → (k : ℕ) → suc first ≤ k → k < suc first + n → (named && (nsid == k)) ≡ false
+  behind is k above below =
+      let here : nsid ≡ first = grind (arith, nat_tests, (and_parts named (nsid == first) is).1) in
+      let apart : (nsid == k) ≡ false = grind (arith, nat_tests, here, above) in
+      ap (λ b. named && b) apart ∙ off named where
+        off : (b : Bool) → (b && false) ≡ false
+        off true = refl
+        off false = refl
+
+  by_test : (b : Bool) → (named && (nsid == first)) ≡ b → length (filter (λ k. named && (nsid == k)) (numbers_from (suc first) n)) ≤ 1 → length (filter (λ k. named && (nsid == k)) (numbers_from first (suc n))) ≤ 1
+  by_test true is rest = rw (is, none_kept (λ k. named && (nsid == k)) (suc first) n (behind is)) (omega arith)
+  by_test false is rest = rw is rest
+
+few_there : (namespaces : List Namespace) (subsystem : List ℕ) (first n : ℕ) → length (filter (is_there namespaces subsystem) (numbers_from first n)) ≤ length namespaces
+few_there [] subsystem first n = omega (arith, ap length (none_kept (λ _. false) first n (λ k above below. refl)))
+few_there (m ∷ namespaces) subsystem first n =
+    omega (
+      arith,
+      few_of_either (λ k. is_named subsystem k m) (is_there namespaces subsystem) (numbers_from first n),
+      at_most_one (bytes_eq m.subsystem subsystem) m.nsid first n,
+      few_there namespaces subsystem first n,
+    )
+
+listed_from : (c : Configuration) (subsystem : List ℕ) (above first n : ℕ) → IsValid c → AreWithin first n c.namespaces → IsActiveList c subsystem above (nsids_above above (filter (is_there c.namespaces subsystem) (numbers_from first n)))
+listed_from c subsystem above first n valid within =
     let there : ℕ → Bool = is_there c.namespaces subsystem in
     let numbers : List ℕ = numbers_from first n in
     let all : List ℕ = filter there numbers in
@@ -85,14 +117,14 @@ listed_from c subsystem above first n few within =
             λ found. is_listed c subsystem above first n k (sym counted ∙ list_any-from_Contains nat_eq_equiv k (filter over all) found),
             λ listed. Contains-from_any {eq = nat_eq} (λ i j same. grind (arith, nat_tests, same)) k (filter over all) (counted ∙ has_listed c subsystem above first n k within listed),
           );
-      fits = omega (arith, length-page (filter over all), length-kept over all, few_from c.namespaces subsystem first n, few);
+      fits = omega (arith, length-page (filter over all), length-kept over all, few_there c.namespaces subsystem first n, namespaces_are_few c valid);
     }
 
-nsids_within : (c : Configuration) → IsValid c → AreWithin 1 1024 c.namespaces
+nsids_within : (c : Configuration) → IsValid c → AreWithin 1 nsid_max c.namespaces
 nsids_within c valid =
-    All-weaker (IsNamespace c.units c.subsystems) (λ m. (1 ≤ m.nsid) × (m.nsid < 1025))
+    All-weaker (IsNamespace c.units c.subsystems) (λ m. (1 ≤ m.nsid) × (m.nsid < 1 + nsid_max))
     (λ m sound. (grind (arith, nat_tests, sound.nsid), grind (arith, nat_tests, sound.nsid))) c.namespaces valid.namespaces.sound
 
 pub nsids_listed : NsidsAreListed
-unfolding active_nsids
-nsids_listed c subsystem above valid = listed_from c subsystem above 1 1024 (omega arith) (nsids_within c valid)
+unfolding active_nsids nsids_where
+nsids_listed c subsystem above valid = listed_from c subsystem above 1 nsid_max valid (nsids_within c valid)

@@ -4,7 +4,8 @@ ghost use Rattle.config_words.specs.Numbered.{active_nsids};
 ghost use Rattle.name_table.specs.Table.{IsPut};
 ghost use Rattle.change_lists.specs.ActiveView.{ShowsActive, nsids_in};
 
-use config_tables::{NSID_END, NamespaceTable};
+use config_tables::NamespaceTable;
+use config_words::Nsids;
 use name_table::NameTable;
 use nvt_config::{Config, Namespace};
 use std::alloc::{AllocError, Global};
@@ -70,11 +71,16 @@ fn active_nsids(
     ensures { IfOk result (λ nsids. nsids.items ≡ active_nsids namespaces.now subsystem.now) }
 {
     let table = NamespaceTable::of(namespaces, subsystem);
+    listed(alloc, table.nsids())
+}
+
+// The identifiers that are left, as a list of their own.
+fn listed(alloc: Global, left: Nsids<'_>) -> Result<Vec<u32>, AllocError>
+    ensures { IfOk result (λ nsids. nsids.items ≡ left.entry) }
+{
     let mut nsids = Vec::new(alloc);
-    for nsid in 1..NSID_END {
-        if table.get(nsid).is_some() {
-            nsids.push(nsid)?;
-        }
+    for nsid in left {
+        nsids.push(nsid)?;
     }
     Ok(nsids)
 }

@@ -1,38 +1,50 @@
 //! The namespaces that changed since a host last read which, and the Changed Namespace List (Base 2.0,
 //! section 5.16.1.5).
-ghost use Rattle.std.specs.Prelude.{◌≡◌, [], ◌||◌, false, length, nat_lt, slice_index_or, slice_set, true};
+ghost use Rattle.std.specs.Prelude.{◌≡◌, ◌≤◌, [], ◌∷◌, ◌||◌, length, nat_eq, nat_lt, true};
 ghost use Rattle.std.specs.List.{list_any};
-ghost use Rattle.change_lists.specs.ChangedSet.{changed_page, empties, nsids_where, with_nsid};
+ghost use Rattle.config_words.specs.NsidSet.{IsNsidSet, with_nsid};
+ghost use Rattle.config_words.specs.Numbered.{nsids_where};
+ghost use Rattle.change_lists.specs.ActiveList.{list_page};
+ghost use Rattle.change_lists.specs.ChangedSet.{ChangedIsListed, changed_page, empties};
 ghost use Rattle.change_lists.specs.Changes.{ChangesAreNoted, changes_namespaces, with_changes};
-ghost use Rattle.change_lists.specs.Tables.{differs};
+ghost use Rattle.change_lists.specs.Tables.{differs, noted};
 ghost use Rattle.nvt_fields.specs.Window.{window};
 
 use crate::differences::is_same;
-use config_tables::{NSID_END, NamespaceTable};
+use config_tables::NamespaceTable;
+use config_words::{NsidSet, Nsids};
 use nvt_config::Config;
 use nvt_fields::write_part;
 use std::marker::Model;
 
-// How many bytes an identifier has.
-const NSID_LEN: u64 = 4;
+// How many bytes an entry of the list has.
+const ENTRY_LEN: u64 = 4;
+
+// The most identifiers that the list has.
+const ENTRIES_MAX: usize = 1_024;
+
+// The entry that stands for more.
+const OVERFLOWED: u32 = 0xFFFF_FFFF;
 
 /// How many bytes the Changed Namespace List has.
 const PAGE_LEN: u64 = 4_096;
 
-/// The identifiers of the namespaces that changed, for one controller. It takes no memory.
+/// The identifiers of the namespaces that changed, for one controller. It takes no memory, and forgets
+/// none, however many they are.
 #[derive(Drop)]
 pub struct ChangedSet {
-    // By identifier. Place 0 is never looked at.
-    has: [bool; NSID_END as usize],
+    nsids: NsidSet,
 }
 
 impl Model for ChangedSet {
-    ghost use Rattle.std.specs.Prelude.{ℕ, List, false, slice_index_or};
-    ghost use Rattle.change_lists.specs.ChangedSet.{nsids_where};
+    ghost use Rattle.std.specs.Prelude.{ℕ, List};
+    ghost use Rattle.config_words.specs.NsidSet.{IsNsidSet};
 
     ghost Value = { List ℕ };
 
-    ghost view = { λ s. nsids_where (λ n. slice_index_or s.has n false) };
+    ghost view = { λ s. s.nsids };
+
+    ghost invariant = { λ s. IsNsidSet s.nsids };
 }
 
 impl ChangedSet {
@@ -41,16 +53,16 @@ impl ChangedSet {
         ensures { result ≡ [] }
     {
         ChangedSet {
-            has: [false; NSID_END as usize],
+            nsids: NsidSet::new(),
         }
     }
 
     /// The namespace of this identifier has changed. It stays in the set, whatever else is noted. An
-    /// identifier that no namespace may have, outside 1 to 1,024, changes nothing.
+    /// identifier that no namespace may have, outside 1 to 4,096, changes nothing.
     pub fn note(&mut self, nsid: u32)
         ensures { self.new ≡ with_nsid nsid self.old }
     {
-        mark(&mut self.has, nsid);
+        self.nsids.insert(nsid);
     }
 
     /// Notes each namespace of the subsystem whose size, block size, UUID or presence an edit changes, from
@@ -61,22 +73,26 @@ impl ChangedSet {
     {
         let before = NamespaceTable::of(old.namespaces(), subsystem);
         let after = NamespaceTable::of(new.namespaces(), subsystem);
-        mark_changes(&mut self.has, &before, &after)
+        note_differences(&mut self.nsids, &before, &after)
     }
 
     /// Fills `out` with the list from an offset on: 4,096 bytes, the identifiers rising, 4 bytes each,
-    /// and zeros after them and past the end.
+    /// and zeros after them and past the end. Of more than 1,024 it lists none: it is FFFFFFFFh and zeros.
     pub fn page(&self, offset: u64, out: &mut [u8])
         ensures { out.new ≡ window (changed_page self.now) offset (length out.old) }
     {
-        write_marked(out, offset, &self.has);
+        if self.nsids.len() > ENTRIES_MAX {
+            write_overflow(out, offset);
+        } else {
+            write_nsids(out, offset, self.nsids.iter());
+        }
     }
 
     /// How many bytes the list has: 4,096, whatever the set has.
     pub fn len(&self) -> u64
         ensures { result ≡ length (changed_page self.now) }
     {
-        let _ = &self.has;
+        let _ = &self.nsids;
         PAGE_LEN
     }
 
@@ -95,48 +111,59 @@ impl ChangedSet {
     }
 }
 
-// Marks the place of an identifier, where it has one.
-fn mark(has: &mut [bool], nsid: u32)
-    ensures { has.new ≡ slice_set has.old nsid true }
-{
-    let at = nsid as usize;
-    if at < has.len() {
-        has[at] = true;
-    }
-}
-
-// Marks the places of the namespaces that are others after than before; whether there is one.
-fn mark_changes(
-    has: &mut [bool; NSID_END as usize],
+// Notes the namespaces that are others after than before; whether there is one. Each of them is in a table.
+fn note_differences(
+    set: &mut NsidSet,
     before: &NamespaceTable<'_>,
     after: &NamespaceTable<'_>,
 ) -> bool
+    requires { IsNsidSet set.old }
     ensures changed { result ≡ list_any (λ _. true) (nsids_where (differs before.now after.now)) }
-    ensures marked { nsids_where (λ n. slice_index_or has.new n false)
-        ≡ nsids_where (λ n. differs before.now after.now n || slice_index_or has.old n false) }
+    ensures noted { set.new ≡ nsids_where (λ n. differs before.now after.now n || list_any (nat_eq n) set.old) }
+{
+    let others = note_those(set, before.nsids(), before, after);
+    let come = note_those(set, after.nsids(), before, after);
+    others || come
+}
+
+// Notes those of these identifiers whose namespaces are others after than before; whether there is one.
+fn note_those(
+    set: &mut NsidSet,
+    nsids: Nsids<'_>,
+    before: &NamespaceTable<'_>,
+    after: &NamespaceTable<'_>,
+) -> bool
+    ensures changed { result ≡ list_any (differs before.now after.now) nsids.entry }
+    ensures noted { set.new ≡ noted (differs before.now after.now) nsids.entry set.old }
 {
     let mut changed = false;
-    for nsid in 1..NSID_END {
+    for nsid in nsids {
         if !is_same(before.get(nsid), after.get(nsid)) {
-            has[nsid as usize] = true;
+            set.insert(nsid);
             changed = true;
         }
     }
     changed
 }
 
-// Fills `out` with the list of the identifiers from 1 on that are marked, from an offset on.
-fn write_marked(out: &mut [u8], offset: u64, has: &[bool; NSID_END as usize])
-    ensures { out.new ≡ window (changed_page (nsids_where (λ n. slice_index_or has.now n false)))
-        offset (length out.old) }
+// Fills `out` with the list of more identifiers than it can have, from an offset on.
+fn write_overflow(out: &mut [u8], offset: u64)
+    ensures { out.new ≡ window (list_page (OVERFLOWED ∷ [])) offset (length out.old) }
+{
+    out.fill(0);
+    write_part(out, offset, 0, &OVERFLOWED.to_le_bytes());
+}
+
+// Fills `out` with the list of these identifiers, from an offset on.
+fn write_nsids(out: &mut [u8], offset: u64, nsids: Nsids<'_>)
+    requires { length nsids ≤ 1024 }
+    ensures { out.new ≡ window (list_page nsids.entry) offset (length out.old) }
 {
     out.fill(0);
     let mut at = 0;
-    for nsid in 1..NSID_END {
-        if has[nsid as usize] {
-            write_part(out, offset, at, &nsid.to_le_bytes());
-            at += NSID_LEN;
-        }
+    for nsid in nsids {
+        write_part(out, offset, at, &nsid.to_le_bytes());
+        at += ENTRY_LEN;
     }
 }
 
@@ -154,4 +181,11 @@ pub fn empties(offset: u64, len: u64) -> bool
 #[tactic(auto, using(crate::proofs::Changed::changes_are_noted))]
 pub fn changes_are_noted()
     ensures { ChangesAreNoted }
+{}
+
+/// Whatever changed, the list has 4,096 bytes. Up to 1,024 identifiers are listed, with zeros behind
+/// them; of more none is, and the first 4 bytes, FFFFFFFFh, say so. This is a fact of the definitions; a
+/// call does nothing.
+pub fn changed_is_listed()
+    ensures { ChangedIsListed }
 {}

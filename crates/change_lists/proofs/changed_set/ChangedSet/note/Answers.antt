@@ -1,5 +1,5 @@
-use Rattle.change_lists.proofs.Changed.{set_is_noted}
+use Rattle.change_lists.proofs.Changed.{where_is_set}
 use Rattle.change_lists.proofs.changed_set.ChangedSet.note.Goals as goal
 
-pub returns : goal.returns
-returns c = rw (c.mark.ensures, ← c.self.view_is) (set_is_noted c.self.inside.has c.args.nsid c.self.told)
+pub invariant_of-self : goal.invariant_of-self
+invariant_of-self c = where_is_set _ _ c.insert.ensures
