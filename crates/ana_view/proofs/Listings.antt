@@ -5,18 +5,19 @@ use Rattle.std.proofs.lemmas.Bool.Decides.{nat_tests}
 use Rattle.std.proofs.lemmas.List.{get_or_default}
 use Rattle.std.proofs.lemmas.List.Elements.{All-cons, All-contains, All-nil}
 use Rattle.std.proofs.lemmas.List.Kept.{AllPairs-cons, AllPairs-filter}
-use Rattle.std.proofs.lemmas.Map.Views.{Contains-from_any, any-filter_same, list_any-from_Contains}
+use Rattle.std.proofs.lemmas.Map.Views.{Contains-from_any, list_any-from_Contains}
 use Rattle.std.specs.Cmp.{nat_eq_equiv}
 use Rattle.std.specs.List.{cons_option, filter_map, list_any}
 use Rattle.std.specs.Str.{bytes_eq}
 use Rattle.config_lists.specs.declared.group_state.AnaState.{AnaState}
 use Rattle.config_lists.specs.declared.namespace.Namespace.{Namespace}
 use Rattle.config_lists.specs.GroupState.{state_for}
-use Rattle.config_lists.specs.Namespace.{is_named}
+use Rattle.config_lists.specs.Namespace.{is_named, nsid_max}
 use Rattle.config_lists.proofs.Names.{bytes_eq-same, same_name}
 use Rattle.config_rules.specs.Configuration.{Configuration}
 use Rattle.config_rules.specs.Valid.{IsNamespace, IsValid}
-use Rattle.config_words.specs.Numbered.{numbers_from}
+use Rattle.config_words.specs.Numbered.{nsids_where, numbers_from}
+use Rattle.config_words.proofs.Numbers.{kept_where, numbers_between}
 use Rattle.ana_view.specs.Group.{Descriptor, descriptor, descriptor_with, is_in_group, listed, listed_by, members}
 use Rattle.ana_view.specs.Laws.{GroupsAreListed, IsInGroup, IsShownAs}
 
@@ -31,14 +32,6 @@ numbers_rise : (first n : ℕ) → AllPairs ◌<◌ (numbers_from first n)
 numbers_rise first zero = λ i j d less below. absurd (omega arith)
 numbers_rise first (suc n) =
     AllPairs-cons ◌<◌ first (numbers_from (suc first) n) (All-above first (suc first) n (omega arith)) (numbers_rise (suc first) n)
-
-numbers_between : (first n k : ℕ) → list_any (nat_eq k) (numbers_from first n) ≡ (nat_lt k (first + n) && not (nat_lt k first))
-numbers_between first zero k = grind (arith, nat_tests)
-numbers_between first (suc n) k = rw (numbers_between (suc first) n k) (grind (arith, nat_tests))
-
-kept_where : (test : ℕ → Bool) (xs : List ℕ) (k : ℕ) → list_any (nat_eq k) (filter test xs) ≡ (test k && list_any (nat_eq k) xs)
-kept_where test xs k =
-    any-filter_same (nat_eq k) test (test k) (λ j same. ap test (grind (arith, nat_tests, same))) xs
 
 -- ---- what a list has
 
@@ -118,7 +111,7 @@ holds c subsystem group nsid h =
     let parts = and_parts (bytes_eq found.0.subsystem subsystem) (found.0.nsid == nsid) first.1 in
     (found.0, first.0, same_name found.0.subsystem subsystem parts.0, grind (arith, nat_tests, parts.1), found.2)
 
-in_range : (c : Configuration) (subsystem : List ℕ) (group nsid : ℕ) → IsValid c → IsInGroup c subsystem group nsid → (1 ≤ nsid) × (nsid ≤ 1024) × (1 ≤ group) × (group ≤ 32)
+in_range : (c : Configuration) (subsystem : List ℕ) (group nsid : ℕ) → IsValid c → IsInGroup c subsystem group nsid → (1 ≤ nsid) × (nsid ≤ nsid_max) × (1 ≤ group) × (group ≤ 32)
 in_range c subsystem group nsid valid (m, there, named, numbered, held) =
     let sound = All-contains (IsNamespace c.units c.subsystems) c.namespaces m valid.namespaces.sound there in
     (grind (arith, nat_tests, sound.nsid, numbered), grind (arith, nat_tests, sound.nsid, numbered), grind (arith, nat_tests, sound.group, held), grind (arith, nat_tests, sound.group, held))
@@ -137,20 +130,20 @@ is_kept test first n k above below passes =
     Contains-from_any {eq = nat_eq} (λ i j same. grind (arith, nat_tests, same)) k (filter test (numbers_from first n)) (counted ∙ and_from (test k) _ passes between)
 
 members_are : (c : Configuration) (subsystem : List ℕ) (group nsid : ℕ) → IsValid c → (Contains (members c subsystem group) nsid → IsInGroup c subsystem group nsid) × (IsInGroup c subsystem group nsid → Contains (members c subsystem group) nsid)
-unfolding members
+unfolding members nsids_where
 members_are c subsystem group nsid valid = (
-  λ found. holds c subsystem group nsid (kept_passes (λ n. is_in_group (find (is_named subsystem n) c.namespaces) group) 1 1024 nsid found),
+  λ found. holds c subsystem group nsid (kept_passes (λ n. is_in_group (find (is_named subsystem n) c.namespaces) group) 1 nsid_max nsid found),
   λ held.
       let range = in_range c subsystem group nsid valid held in
-      is_kept (λ n. is_in_group (find (is_named subsystem n) c.namespaces) group) 1 1024 nsid range.0 (below range.1) (is_held c subsystem group nsid valid held),
+      is_kept (λ n. is_in_group (find (is_named subsystem n) c.namespaces) group) 1 nsid_max nsid range.0 (below range.1) (is_held c subsystem group nsid valid held),
 ) where
-  below : nsid ≤ 1024 → nsid < 1 + 1024
+  below : nsid ≤ nsid_max → nsid < 1 + nsid_max
   below few = omega arith
 
 members_rise : (c : Configuration) (subsystem : List ℕ) (group : ℕ) → AllPairs ◌<◌ (members c subsystem group)
-unfolding members
+unfolding members nsids_where
 members_rise c subsystem group =
-    AllPairs-filter ◌<◌ (λ n. is_in_group (find (is_named subsystem n) c.namespaces) group) (numbers_from 1 1024) (numbers_rise 1 1024)
+    AllPairs-filter ◌<◌ (λ n. is_in_group (find (is_named subsystem n) c.namespaces) group) (numbers_from 1 nsid_max) (numbers_rise 1 nsid_max)
 
 -- ---- the listing
 

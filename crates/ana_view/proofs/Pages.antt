@@ -1,5 +1,5 @@
 -- The page as it goes on.
-use Rattle.std.proofs.Common.{◌≡◌, ℕ, ◌+◌, ◌-◌, ◌*◌, ◌<◌, ◌≤◌, Bool, true, false, Some, None, List, [], ◌∷◌, ◌++◌, filter, length, suc, take, get_or, replicate, refl, ap, sym, ◌∙◌, arith, append_assoc, length-append}
+use Rattle.std.proofs.Common.{◌≡◌, ℕ, ◌+◌, ◌-◌, ◌*◌, ◌<◌, ◌≤◌, Bool, true, false, Some, None, List, [], ◌∷◌, ◌++◌, length, suc, take, get_or, replicate, refl, ap, sym, ◌∙◌, arith, append_assoc, length-append}
 use Rattle.std.proofs.Math.Seq.{take-suc}
 use Rattle.std.proofs.lemmas.List.{append-nil}
 use Rattle.std.proofs.lemmas.List.Concat.{flat_map-append}
@@ -14,8 +14,8 @@ use Rattle.ana_view.specs.Counts.{Counts, count_in}
 use Rattle.ana_view.specs.Group.{Descriptor, descriptor_with, listed_by, state_code}
 use Rattle.ana_view.specs.Page.{ana_page, descriptor_bytes, descriptor_head, nsid_bytes}
 use Rattle.ana_view.specs.declared.groups.Groups.{Groups}
-use Rattle.ana_view.specs.Tables.{descriptor_of, is_member, listing_of, nsids_of, shown_of, state_of}
-use Rattle.ana_view.proofs.Numbers.{kept_next, up_to}
+use Rattle.ana_view.specs.Tables.{descriptor_of, listing_of, nsids_of, shown_of, state_of}
+use Rattle.ana_view.proofs.Numbers.{up_to}
 
 -- 4 bytes for each identifier
 pub length-nsid_bytes : (nsids : List ℕ) → length (nsid_bytes nsids) ≡ 4 * length nsids
@@ -31,10 +31,6 @@ take_next {X = X} xs i x below is =
 pub nsid_next : (nsids : List ℕ) (i n : ℕ) → i < length nsids → n ≡ get_or nsids i n
     → nsid_bytes (take (i + 1) nsids) ≡ nsid_bytes (take i nsids) ++ to_le_bytes w32 n
 nsid_next nsids i n below is = ap nsid_bytes (take_next nsids i n below is) ∙ rw (flat_map-append, append-nil) refl
-
-pub all_nsids : (t : Groups) (group n : ℕ) → n ≡ 1024 → filter (λ k. is_member t.namespaces k group) (numbers_from 1 n) ≡ nsids_of t group
-unfolding nsids_of
-all_nsids t group n all = ap (λ m. filter (λ k. is_member t.namespaces k group) (numbers_from 1 m)) all
 
 pub length_of_head : (id count changes state : ℕ) → length (descriptor_head id count changes state) ≡ 32
 unfolding descriptor_head

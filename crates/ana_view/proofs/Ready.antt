@@ -1,20 +1,19 @@
 -- The groups that are ready: each subsystem's are those that it shows, on each port.
-use Rattle.std.proofs.Common.{◌≡◌, ◌==◌, ◌&&◌, ◌||◌, ℕ, zero, suc, Bool, true, false, Option, Some, None, is_some, List, [], ◌∷◌, ◌++◌, IfSome, Ok, filter, find, map, bytes_eq, nat_eq, refl, ap, sym, subst, ◌∙◌, inl, inr, unwrap_or, arith, if◌then◌else◌}
+use Rattle.std.proofs.Common.{◌≡◌, ◌==◌, ◌&&◌, ◌||◌, ℕ, Bool, true, false, Option, Some, None, is_some, List, [], ◌∷◌, ◌++◌, IfSome, Ok, find, map, bytes_eq, nat_eq, refl, ap, sym, subst, ◌∙◌, inl, inr, unwrap_or, arith, if◌then◌else◌}
 use Rattle.std.proofs.lemmas.Bool.{both_ways, cases_Bool, false_from_ne_true}
 use Rattle.std.proofs.lemmas.Bool.Decides.{nat_tests}
 use Rattle.std.proofs.lemmas.List.Folds.{list_any-append}
 use Rattle.std.specs.List.{list_any}
 use Rattle.std.specs.Map.{lookup}
-use Rattle.config_lists.specs.declared.group_state.AnaState.{AnaState}
 use Rattle.config_lists.specs.declared.group_state.AnaState.TheVariants.{Optimized}
 use Rattle.config_lists.specs.declared.group_state.GroupState.{GroupState}
 use Rattle.config_lists.specs.declared.subsystem.Subsystem.{Subsystem}
-use Rattle.config_lists.specs.GroupState.{is_state_for, is_state_on, state_for, state_or}
+use Rattle.config_lists.specs.GroupState.{is_state_on, state_for}
 use Rattle.config_lists.specs.Namespace.{is_named}
 use Rattle.config_lists.proofs.Names.{bytes_eq-same, same_name}
 use Rattle.config_rules.specs.Configuration.{Configuration, has_subsystem}
 use Rattle.config_rules.specs.Valid.{IsValid}
-use Rattle.config_words.specs.Numbered.{numbers_from}
+use Rattle.config_words.proofs.Sets.{no_nsids, nsids_alike}
 use Rattle.config_edits.specs.declared.edit.Edit.{Edit}
 use Rattle.config_rules.specs.Accept.{accept}
 use Rattle.edit_reach.specs.Reach.{StaysAsItWas, is_reached, subsystem_reached}
@@ -26,7 +25,6 @@ use Rattle.ana_view.specs.Bodies.{AreListed, HasMore, IsAfter}
 use Rattle.ana_view.specs.Group.{Descriptor, descriptor, descriptor_with, is_in_group, listed, listed_by, members}
 use Rattle.ana_view.specs.View.{OfSubsystem, Shown, ShowsAna, groups_at, groups_in, groups_on}
 use Rattle.ana_view.proofs.Counting.{listed_alike}
-use Rattle.ana_view.proofs.Numbers.{kept_alike}
 
 -- ---- the ports of one subsystem
 
@@ -181,10 +179,8 @@ among (s ∷ subsystems) name there =
 
 no_members : (c : Configuration) (subsystem : List ℕ) (group : ℕ) → ((nsid : ℕ) → find (is_named subsystem nsid) c.namespaces ≡ None) → members c subsystem group ≡ []
 unfolding members
-no_members c subsystem group none = none_kept 1 1024 where
-  none_kept : (first n : ℕ) → filter (λ nsid. is_in_group (find (is_named subsystem nsid) c.namespaces) group) (numbers_from first n) ≡ []
-  none_kept first zero = refl
-  none_kept first (suc n) = rw (none first) (none_kept (suc first) n)
+no_members c subsystem group none =
+    no_nsids (λ nsid. is_in_group (find (is_named subsystem nsid) c.namespaces) group) (λ nsid above below. ap (λ o. is_in_group o group) (none nsid))
 
 none_listed : (c : Configuration) (subsystem : List ℕ) (port : ℕ) → IsValid c → has_subsystem c.subsystems subsystem ≡ false → listed c subsystem port ≡ []
 unfolding listed_by
@@ -207,7 +203,7 @@ shows_ana c v valid are = record {
 members_stay : (old new : Configuration) (subsystem : List ℕ) (group : ℕ) → StaysAsItWas old new subsystem → members new subsystem group ≡ members old subsystem group
 unfolding members
 members_stay old new subsystem group stays =
-    kept_alike (λ n. is_in_group (find (is_named subsystem n) new.namespaces) group) (λ n. is_in_group (find (is_named subsystem n) old.namespaces) group) 1 1024 (λ nsid above below.
+    nsids_alike (λ n. is_in_group (find (is_named subsystem n) new.namespaces) group) (λ n. is_in_group (find (is_named subsystem n) old.namespaces) group) (λ nsid above below.
     ap (λ o. is_in_group o group) (same_namespace old new subsystem stays nsid))
 
 listed_stays : (old new : Configuration) (subsystem : List ℕ) (port : ℕ) → StaysAsItWas old new subsystem → listed new subsystem port ≡ listed old subsystem port

@@ -4,7 +4,7 @@ ghost use Rattle.ana_view.specs.Tables.{listing_of, nsids_of};
 ghost use Rattle.ana_view.specs.View.{AreFew};
 
 use crate::groups::Groups;
-use config_tables::{GROUP_END, NSID_END};
+use config_tables::GROUP_END;
 use nvt_config::AnaState;
 use std::alloc::{AllocError, Global};
 use std::marker::Model;
@@ -99,7 +99,7 @@ fn members(alloc: Global, groups: &Groups<'_>, group: u32) -> Result<Vec<u32>, A
     ensures { IfOk result (λ nsids. nsids.items ≡ nsids_of groups.now group) }
 {
     let mut nsids = Vec::new(alloc);
-    for nsid in 1..NSID_END {
+    for nsid in groups.nsids() {
         if groups.has(nsid, group) {
             nsids.push(nsid)?;
         }

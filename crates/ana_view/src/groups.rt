@@ -1,12 +1,16 @@
 //! The ANA groups that the controllers of one subsystem on one port show.
 ghost use Rattle.std.specs.Prelude.{◌≡◌, ◌≤◌, ◌<◌, ◌+◌, ℕ, if◌then◌else◌, length, slice_index};
+ghost use Rattle.std.specs.List.{list_all};
 ghost use Rattle.std.specs.Option.{option_copied};
+ghost use Rattle.config_lists.specs.Namespace.{nsid_max};
 ghost use Rattle.config_lists.specs.declared.group_state.AnaState.TheVariants.{Optimized};
+ghost use Rattle.config_tables.specs.Nsids.{nsids_in};
 ghost use Rattle.ana_view.specs.Group.{are_same, are_same_numbers, descriptor, descriptor_with};
 ghost use Rattle.ana_view.specs.Group.{is_in_group, members};
 
 use crate::state::state_code;
-use config_tables::{GROUP_END, NSID_END, NamespaceTable, StateTable};
+use config_tables::{GROUP_END, NamespaceTable, StateTable};
+use config_words::Nsids;
 use nvt_config::{AnaState, Config, Namespace};
 
 /// Of a subsystem on a port, its namespaces, which say their groups, and the state of each group. It is
@@ -44,6 +48,14 @@ impl<'a> Groups<'a> {
         }
     }
 
+    /// The identifiers of the namespaces, rising.
+    pub(crate) fn nsids(&self) -> Nsids<'_>
+        ensures all { result ≡ nsids_in self.now.namespaces }
+        ensures few { length result ≤ nsid_max }
+    {
+        self.namespaces.nsids()
+    }
+
     /// Whether the namespace is in the group.
     pub(crate) fn has(&self, nsid: u32, group: u32) -> bool
         ensures { result ≡ is_member self.now.namespaces nsid group }
@@ -59,7 +71,7 @@ impl<'a> Groups<'a> {
         ensures { AreSizes self.now result }
     {
         let mut sizes = [0u32; GROUP_END as usize];
-        for nsid in 1..NSID_END {
+        for nsid in self.nsids() {
             count_member(&mut sizes, self.namespaces.get(nsid));
         }
         sizes
@@ -90,8 +102,16 @@ impl<'a> Groups<'a> {
     fn has_same_members(&self, other: &Groups<'_>, group: u32) -> bool
         ensures { result ≡ are_same_numbers (nsids_of self.now group) (nsids_of other.now group) }
     {
-        for nsid in 1..NSID_END {
-            if self.has(nsid, group) != other.has(nsid, group) {
+        self.are_in(other, group) && other.are_in(self, group)
+    }
+
+    // Whether its namespaces in the group are in it in the other too.
+    fn are_in(&self, other: &Groups<'_>, group: u32) -> bool
+        ensures { result ≡ list_all (λ n. is_member other.now.namespaces n group)
+            (nsids_of self.now group) }
+    {
+        for nsid in self.nsids() {
+            if self.has(nsid, group) && !other.has(nsid, group) {
                 return false;
             }
         }
@@ -101,7 +121,7 @@ impl<'a> Groups<'a> {
 
 // One more in the group of the namespace, where there is one.
 fn count_member(sizes: &mut [u32; GROUP_END as usize], namespace: Option<&Namespace>)
-    requires { (k : ℕ) → slice_index sizes.old k ≤ 1024 }
+    requires { (k : ℕ) → slice_index sizes.old k ≤ nsid_max }
     ensures { (k : ℕ) → k < 33
         → slice_index sizes.new k ≡ (if is_in_group (option_copied namespace.entry) k
         then slice_index sizes.old k + 1 else slice_index sizes.old k) }

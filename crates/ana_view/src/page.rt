@@ -1,6 +1,7 @@
 //! The bytes of the Asymmetric Namespace Access log page (Base 2.0, section 5.16.1.13).
 ghost use Rattle.std.specs.Prelude.{◌≡◌, ◌≤◌, ◌+◌, ◌*◌, ◌++◌, ◌^◌, ℕ, List, if◌then◌else◌, length};
 ghost use Rattle.nvt_fields.specs.Window.{window};
+ghost use Rattle.config_lists.specs.Namespace.{nsid_max};
 ghost use Rattle.ana_view.specs.Counts.{Counts, count_in};
 ghost use Rattle.ana_view.specs.Group.{state_code};
 ghost use Rattle.ana_view.specs.Page.{ana_page, descriptor_bytes, descriptor_head, nsid_bytes};
@@ -53,7 +54,7 @@ pub(crate) fn page_len(groups: &[AnaGroup], groups_only: bool) -> u64
 
 // How many bytes the descriptor of a group has.
 fn descriptor_len(group: &AnaGroup, groups_only: bool) -> u64
-    requires { length group.now.nsids ≤ 1024 }
+    requires { length group.now.nsids ≤ nsid_max }
     ensures { result ≡ (if groups_only then 32 else 32 + 4 * length group.now.nsids) }
 {
     if groups_only {
@@ -73,7 +74,7 @@ fn write_group(
     groups_only: bool,
 )
     requires place { at ≤ 2 ^ 32 }
-    requires few { length group.now.nsids ≤ 1024 }
+    requires few { length group.now.nsids ≤ nsid_max }
     ensures { (page : List ℕ) → length page ≡ at → out.old ≡ window page offset (length out.old)
         → out.new ≡ window (page ++ descriptor_bytes groups_only counts.now group.now) offset
         (length out.old) }
@@ -113,7 +114,7 @@ fn write_head(
 // .. with identifiers.
 fn write_nsids(out: &mut [u8], offset: u64, at: u64, nsids: &[u32])
     requires place { at ≤ 2 ^ 33 }
-    requires few { length nsids.now ≤ 1024 }
+    requires few { length nsids.now ≤ nsid_max }
     ensures { (page : List ℕ) → length page ≡ at → out.old ≡ window page offset (length out.old)
         → out.new ≡ window (page ++ nsid_bytes nsids.now) offset (length out.old) }
 {

@@ -2,6 +2,7 @@ use Rattle.std.proofs.Common.{◌≡◌, ◌+◌, ◌≤◌, ◌++◌, length, t
 use Rattle.std.proofs.lemmas.List.{take_all}
 use Rattle.std.proofs.lemmas.List.Elements.{All-get_or}
 use Rattle.std.specs.List.{flat_map}
+use Rattle.config_lists.specs.Namespace.{nsid_max}
 use Rattle.ana_view.specs.Group.{Descriptor}
 use Rattle.ana_view.specs.Page.{descriptor_bytes}
 use Rattle.ana_view.proofs.Pages.{header_of, len_bound, length_next, length_of_header, page_parts, take_next}
@@ -9,14 +10,14 @@ use Rattle.ana_view.proofs.page.page_len.Goals as goal
 
 pub descriptor_len-len-requires : goal.descriptor_len-len-requires
 descriptor_len-len-requires c =
-    rw (c.group-item.is) (All-get_or (λ (g : Descriptor). length g.nsids ≤ 1024) c.args.groups.now c.loop-group.group-index c.group-item.result c.loop-group-test.true c.requires.nsids)
+    rw (c.group-item.is) (All-get_or (λ (g : Descriptor). length g.nsids ≤ nsid_max) c.args.groups.now c.loop-group.group-index c.group-item.result c.loop-group-test.true c.requires.nsids)
 
 pub loop-group-preserved : goal.loop-group-preserved
 loop-group-preserved c =
     let groups = c.args.groups.now in
     let i = c.loop-group.group-index in
     let g : Descriptor = c.group-item.result in
-    let few : length g.nsids ≤ 1024 = rw (← c.group-item.is) at (All-get_or (λ (d : Descriptor). length d.nsids ≤ 1024) groups i g c.loop-group-test.true c.requires.nsids) in
+    let few : length g.nsids ≤ nsid_max = rw (← c.group-item.is) at (All-get_or (λ (d : Descriptor). length d.nsids ≤ nsid_max) groups i g c.loop-group-test.true c.requires.nsids) in
     let more = take_next groups i g c.loop-group-test.true c.group-item.is in
     record {
       len = λ counts. rw more (omega (arith, c.descriptor_len-len.ensures, length_next c.args.groups_only counts (take i groups) g, c.loop-group.invariant.len counts));

@@ -1,5 +1,6 @@
 use Rattle.std.proofs.Common.{◌≡◌, ◌+◌, ◌*◌, ◌≤◌, length, take}
 use Rattle.std.specs.List.{flat_map}
+use Rattle.config_lists.specs.Namespace.{nsid_max}
 use Rattle.ana_view.specs.Counts.{Counts}
 use Rattle.ana_view.specs.Page.{descriptor_bytes}
 use Rattle.ana_view.proofs.page.page_len.Given as goal
@@ -8,5 +9,5 @@ use Rattle.ana_view.proofs.page.page_len.Given as goal
 abbrev pub invariant-loop-group : goal.invariant-loop-group
 invariant-loop-group l = record {
   len : (counts : Counts) → l.len ≡ 16 + length (flat_map (descriptor_bytes l.groups_only counts) (take l.group-index l.groups));
-  bound : l.len ≤ 16 + 4128 * l.group-index;
+  bound : l.len ≤ 16 + (32 + 4 * nsid_max) * l.group-index;
 }

@@ -1,4 +1,4 @@
-use Rattle.std.proofs.Common.{◌≡◌, ◌++◌, length, take, arith, length-take}
+use Rattle.std.proofs.Common.{take, arith, length-take}
 use Rattle.ana_view.proofs.Pages.{length-nsid_bytes}
 use Rattle.ana_view.proofs.page.write_nsids.Goals as goal
 

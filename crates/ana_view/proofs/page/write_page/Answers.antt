@@ -4,6 +4,7 @@ use Rattle.std.proofs.lemmas.List.Elements.{All-get_or}
 use Rattle.std.specs.Int.{w64, to_le_bytes}
 use Rattle.std.specs.List.{flat_map}
 use Rattle.nvt_fields.proofs.Windows.{window_of_nothing}
+use Rattle.config_lists.specs.Namespace.{nsid_max}
 use Rattle.ana_view.specs.Group.{Descriptor}
 use Rattle.ana_view.specs.Page.{descriptor_bytes}
 use Rattle.ana_view.proofs.Pages.{header_of, header_shown, len_bound, length_of_descriptor, length_of_header, own_length, page_next, page_parts, take_next}
@@ -34,7 +35,7 @@ loop-group-preserved c =
     let only = c.args.groups_only in
     let i = c.loop-group.group-index in
     let g : Descriptor = c.group-item.result in
-    let few : length g.nsids ≤ 1024 = rw (← c.group-item.is) at (All-get_or (λ (d : Descriptor). length d.nsids ≤ 1024) groups i g c.loop-group-test.true c.requires.nsids) in
+    let few : length g.nsids ≤ nsid_max = rw (← c.group-item.is) at (All-get_or (λ (d : Descriptor). length d.nsids ≤ nsid_max) groups i g c.loop-group-test.true c.requires.nsids) in
     let header = header_of counts.changes (length groups) in
     let page = header ++ flat_map (descriptor_bytes only counts) (take i groups) in
     let len : length c.loop-group.out ≡ length c.args.out.now = omega arith in

@@ -1,8 +1,6 @@
-use Rattle.std.proofs.Common.{◌≡◌, ℕ, List, take, refl, ap, sym, ◌∙◌, subst}
+use Rattle.std.proofs.Common.{◌≡◌, List, take, refl, ◌∙◌}
 use Rattle.std.proofs.lemmas.List.{map-append, take_all}
 use Rattle.config_lists.specs.declared.subsystem.Subsystem.{Subsystem}
-use Rattle.ana_view.specs.Group.{listed}
-use Rattle.ana_view.specs.View.{groups_on}
 use Rattle.ana_view.proofs.Pages.{take_next}
 use Rattle.ana_view.proofs.Ready.{names_of, of_next, shows_ana}
 use Rattle.ana_view.proofs.bodies.Bodies.of.Goals as goal

@@ -1,9 +1,9 @@
-use Rattle.std.proofs.Common.{◌≡◌, ◌+◌, List, [], ◌∷◌, ◌++◌, take, Bool, true, false, bytes_eq, refl, ap, sym, ◌∙◌, arith}
+use Rattle.std.proofs.Common.{◌≡◌, List, take, bytes_eq, refl, ◌∙◌, arith}
 use Rattle.std.proofs.lemmas.List.{take_all}
 use Rattle.config_lists.specs.declared.group_state.GroupState.{GroupState}
 use Rattle.ana_view.proofs.Counting.{listed_alike}
 use Rattle.ana_view.proofs.Pages.{take_next}
-use Rattle.ana_view.proofs.Ready.{HasPorts, all_on, more_ports, plain_groups, same_ports}
+use Rattle.ana_view.proofs.Ready.{all_on, more_ports, plain_groups, same_ports}
 use Rattle.ana_view.proofs.bodies.SubsystemGroups.of.Goals as goal
 use Rattle.ana_view.proofs.bodies.SubsystemGroups.of.Goals.{then-eq+in_ok-add, else-eq}
 

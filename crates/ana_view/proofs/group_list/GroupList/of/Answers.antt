@@ -1,9 +1,8 @@
-use Rattle.std.proofs.Common.{◌≡◌, ◌<◌, ◌≤◌, List, [], ◌∷◌, ◌++◌, length, refl, ap, sym, ◌∙◌, arith}
+use Rattle.std.proofs.Common.{◌≡◌, ◌<◌, ◌≤◌, List, [], ◌∷◌, ◌++◌, length, ap, sym, ◌∙◌, arith}
 use Rattle.ana_view.specs.Group.{Descriptor}
 use Rattle.ana_view.specs.Tables.{nsids_of, shown_of}
-use Rattle.ana_view.specs.View.{AreFew}
 use Rattle.ana_view.proofs.Members.{listing_is_few}
-use Rattle.ana_view.proofs.Pages.{all_shown, passed_next, shown_next, shown_until}
+use Rattle.ana_view.proofs.Pages.{all_shown, passed_next, shown_next}
 use Rattle.ana_view.proofs.group_list.GroupList.of.Goals as goal
 use Rattle.ana_view.proofs.group_list.GroupList.of.Goals.{then-sizes-group-gt0+in_ok-members+in_ok-push, else-sizes-group-gt0}
 

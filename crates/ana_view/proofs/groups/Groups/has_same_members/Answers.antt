@@ -1,9 +1,19 @@
-use Rattle.std.proofs.Common.{sym, arith}
-use Rattle.ana_view.proofs.Members.{members_apart, members_same, told_apart}
+use Rattle.std.proofs.Common.{◌&&◌, ap, sym, ◌∙◌}
+use Rattle.std.specs.List.{list_all}
+use Rattle.ana_view.specs.Tables.{is_member, nsids_of}
+use Rattle.ana_view.proofs.Members.{same_members}
 use Rattle.ana_view.proofs.groups.Groups.has_same_members.Goals as goal
 
-pub returns-then-has : goal.returns-then-has
-returns-then-has c = sym (members_apart c.args.self.now c.args.other.now c.args.group c.loop-nsid.nsid (omega arith) (omega arith) (told_apart c.has.result c.has-in-loop-nsid.result _ _ c.has.ensures c.has-in-loop-nsid.ensures c.if-has.true))
+pub returns-then-are_in : goal.returns-then-are_in
+returns-then-are_in c =
+    let own = sym c.are_in.ensures ∙ c.if-are_in.true in
+    c.are_in-then-are_in.ensures
+    ∙ sym (ap (λ b. b && list_all (λ n. is_member c.args.self.now.namespaces n c.args.group) (nsids_of c.args.other.now c.args.group)) own)
+    ∙ same_members c.args.self.now c.args.other.now c.args.group
 
-pub returns : goal.returns
-returns c = sym (members_same c.args.self.now c.args.other.now c.args.group (λ k above below. c.loop-nsid.invariant k above (omega arith)))
+pub returns-else-are_in : goal.returns-else-are_in
+returns-else-are_in c =
+    let own = sym c.are_in.ensures ∙ c.if-are_in.false in
+    c.if-are_in.false
+    ∙ sym (ap (λ b. b && list_all (λ n. is_member c.args.self.now.namespaces n c.args.group) (nsids_of c.args.other.now c.args.group)) own)
+    ∙ same_members c.args.self.now c.args.other.now c.args.group
