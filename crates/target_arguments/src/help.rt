@@ -6,7 +6,8 @@ pub const HELP: &str = "EDITS has one edit a line, words with one space between:
   subsys set NQN ACCESS
   subsys del NQN
   ns add NQN NSID DISK BLOCKS BLOCKSIZE UUID GROUP
-                                   a namespace on a disk of its own; BLOCKSIZE: 512 or 4096
+                                   a namespace on a disk of its own; NSID: 1 to 4096;
+                                   BLOCKSIZE: 512 or 4096
   ns size NQN NSID BLOCKS
   ns group NQN NSID GROUP          GROUP: its ANA group, 1 to 32
   ns del NQN NSID
