@@ -299,7 +299,7 @@ impl Hosts {
             let empties = read.offset == 0 && read.len >= 4096;
             self.past
                 .hear(Happened::Read(queue, kind, read.retains, empties))?;
-            let has_some = kind == Kind::Namespace && !page.starts_with(&[0]);
+            let has_some = kind == Kind::Namespace && !page.starts_with(&[0; 4]);
             self.seen.read(empties && has_some && read.retains);
         }
         self.respond(queue, cid, 0, status)

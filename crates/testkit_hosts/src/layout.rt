@@ -73,6 +73,15 @@ pub struct Namespace {
     pub group: usize,
 }
 
+/// The identifiers of the three namespaces: the least, one more than a list has entries, and the greatest.
+pub fn nsid_of(namespace: usize) -> u32 {
+    match namespace {
+        1 => 1,
+        2 => 1_025,
+        _ => 4_096,
+    }
+}
+
 /// What an edit changes. Namespaces are 1 to 3, ports and referrals 1 and 2, hosts 0 and 1.
 #[derive(Clone, Copy)]
 pub enum Change {
@@ -130,10 +139,14 @@ pub const FIRST: &[Line<'static>] = &[
 /// The line of an edit.
 pub fn line_of(change: Change) -> Line<'static> {
     match change {
-        Change::Add(nsid, namespace) => Line::NamespaceAdd(A, blocks_of(nsid, namespace)),
-        Change::Delete(nsid) => Line::NamespaceDel(A, nsid as u64),
-        Change::Resize(nsid, blocks) => Line::NamespaceSize(A, nsid as u64, u64::from(blocks)),
-        Change::Regroup(nsid, group) => Line::NamespaceGroup(A, nsid as u64, group as u64),
+        Change::Add(at, namespace) => Line::NamespaceAdd(A, blocks_of(at, namespace)),
+        Change::Delete(at) => Line::NamespaceDel(A, u64::from(nsid_of(at))),
+        Change::Resize(at, blocks) => {
+            Line::NamespaceSize(A, u64::from(nsid_of(at)), u64::from(blocks))
+        }
+        Change::Regroup(at, group) => {
+            Line::NamespaceGroup(A, u64::from(nsid_of(at)), group as u64)
+        }
         Change::SetState(port, group, state) => {
             Line::AnaSet(port as u64, A, group as u64, state)
         }
@@ -156,13 +169,13 @@ pub fn line_of(change: Change) -> Line<'static> {
 }
 
 // Each namespace has a disk of its own.
-fn blocks_of(nsid: usize, namespace: Namespace) -> Blocks {
+fn blocks_of(at: usize, namespace: Namespace) -> Blocks {
     Blocks {
-        nsid: nsid as u64,
-        disk: nsid as u64,
+        nsid: u64::from(nsid_of(at)),
+        disk: at as u64,
         blocks: u64::from(namespace.blocks),
         block_size: if namespace.is_large { 4096 } else { 512 },
-        uuid: uuid_byte(nsid),
+        uuid: uuid_byte(at),
         group: namespace.group as u64,
     }
 }
@@ -172,8 +185,8 @@ pub const UNITS: &[u64] = &[64; 4];
 
 impl Layout {
     /// A namespace, if it is there.
-    pub fn namespace(&self, nsid: usize) -> Option<Namespace> {
-        self.namespaces.get(nsid).copied().flatten()
+    pub fn namespace(&self, at: usize) -> Option<Namespace> {
+        self.namespaces.get(at).copied().flatten()
     }
 
     /// Whether a host may use the subsystem by a port.
@@ -184,9 +197,9 @@ impl Layout {
     /// Whether the target accepts an edit.
     pub fn accepts(&self, change: Change) -> bool {
         match change {
-            Change::Add(nsid, _) => self.namespace(nsid).is_none(),
-            Change::Delete(nsid) | Change::Resize(nsid, _) | Change::Regroup(nsid, _) => {
-                self.namespace(nsid).is_some()
+            Change::Add(at, _) => self.namespace(at).is_none(),
+            Change::Delete(at) | Change::Resize(at, _) | Change::Regroup(at, _) => {
+                self.namespace(at).is_some()
             }
             Change::Link(port) => !self.linked[port % 4],
             Change::Unlink(port) | Change::SetState(port, _, _) => self.linked[port % 4],
@@ -204,16 +217,16 @@ impl Layout {
     pub fn after(&self, change: Change) -> Layout {
         let mut after = *self;
         match change {
-            Change::Add(nsid, namespace) => after.namespaces[nsid % 4] = Some(namespace),
-            Change::Delete(nsid) => after.namespaces[nsid % 4] = None,
-            Change::Resize(nsid, blocks) => {
-                if let Some(n) = self.namespace(nsid) {
-                    after.namespaces[nsid % 4] = Some(Namespace { blocks, ..n });
+            Change::Add(at, namespace) => after.namespaces[at % 4] = Some(namespace),
+            Change::Delete(at) => after.namespaces[at % 4] = None,
+            Change::Resize(at, blocks) => {
+                if let Some(n) = self.namespace(at) {
+                    after.namespaces[at % 4] = Some(Namespace { blocks, ..n });
                 }
             }
-            Change::Regroup(nsid, group) => {
-                if let Some(n) = self.namespace(nsid) {
-                    after.namespaces[nsid % 4] = Some(Namespace { group, ..n });
+            Change::Regroup(at, group) => {
+                if let Some(n) = self.namespace(at) {
+                    after.namespaces[at % 4] = Some(Namespace { group, ..n });
                 }
             }
             Change::SetState(port, group, state) => after.states[port % 4][group % 3] = state,
@@ -235,15 +248,15 @@ impl Layout {
     }
 
     /// Whether a namespace is there and of a group.
-    pub fn is_in(&self, nsid: usize, group: usize) -> bool {
-        self.namespace(nsid).is_some_and(|n| n.group == group)
+    pub fn is_in(&self, at: usize, group: usize) -> bool {
+        self.namespace(at).is_some_and(|n| n.group == group)
     }
 
     /// How many namespaces a group has.
     pub fn count_in(&self, group: usize) -> u8 {
         let mut count = 0u8;
-        for nsid in 1..4usize {
-            count = count.saturating_add(u8::from(self.is_in(nsid, group)));
+        for at in 1..4usize {
+            count = count.saturating_add(u8::from(self.is_in(at, group)));
         }
         count
     }
@@ -268,8 +281,8 @@ impl Layout {
 }
 
 /// Whether an edit changes the size, the block size or the presence of a namespace.
-pub fn changes_namespace(old: &Layout, new: &Layout, nsid: usize) -> bool {
-    match (old.namespace(nsid), new.namespace(nsid)) {
+pub fn changes_namespace(old: &Layout, new: &Layout, at: usize) -> bool {
+    match (old.namespace(at), new.namespace(at)) {
         (Some(old), Some(new)) => old.blocks != new.blocks || old.is_large != new.is_large,
         (None, None) => false,
         _ => true,
@@ -277,8 +290,8 @@ pub fn changes_namespace(old: &Layout, new: &Layout, nsid: usize) -> bool {
 }
 
 fn changes_namespaces(old: &Layout, new: &Layout) -> bool {
-    for nsid in 1..4 {
-        if changes_namespace(old, new, nsid) {
+    for at in 1..4 {
+        if changes_namespace(old, new, at) {
             return true;
         }
     }
@@ -287,8 +300,8 @@ fn changes_namespaces(old: &Layout, new: &Layout) -> bool {
 
 // Whether an edit moves a namespace into a group, or out of it.
 fn are_moved(old: &Layout, new: &Layout, group: usize) -> bool {
-    for nsid in 1..4 {
-        if old.is_in(nsid, group) != new.is_in(nsid, group) {
+    for at in 1..4 {
+        if old.is_in(at, group) != new.is_in(at, group) {
             return true;
         }
     }

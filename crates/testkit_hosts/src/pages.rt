@@ -1,6 +1,6 @@
 //! The bytes of log pages, typed from their formats.
 use super::bytes::put;
-use super::layout::{DISCOVERY_NQN, Layout, place_of};
+use super::layout::{DISCOVERY_NQN, Layout, nsid_of, place_of};
 use super::past::Past;
 use nvt_config::AnaState;
 use std::alloc::{AllocError, Global};
@@ -17,9 +17,9 @@ pub const DISCOVERY: u8 = 0x70;
 
 // The Changed Namespace List of a controller.
 fn changed_page(past: &Past, queue: usize, page: &mut Vec<u8>) -> Result<(), AllocError> {
-    for nsid in [1u8, 2, 3] {
-        if past.has_changed(queue, usize::from(nsid)) {
-            page.extend_from_slice(&[nsid, 0, 0, 0])?;
+    for at in 1..4usize {
+        if past.has_changed(queue, at) {
+            page.extend_from_slice(&nsid_of(at).to_le_bytes())?;
         }
     }
     page.resize(4096, 0)
@@ -52,9 +52,9 @@ fn group_head(past: &Past, queue: usize, group: u8, count: u8) -> [u8; 32] {
 }
 
 fn add_namespaces(layout: &Layout, group: u8, page: &mut Vec<u8>) -> Result<(), AllocError> {
-    for nsid in [1u8, 2, 3] {
-        if layout.is_in(usize::from(nsid), usize::from(group)) {
-            page.extend_from_slice(&[nsid, 0, 0, 0])?;
+    for at in 1..4usize {
+        if layout.is_in(at, usize::from(group)) {
+            page.extend_from_slice(&nsid_of(at).to_le_bytes())?;
         }
     }
     Ok(())

@@ -276,11 +276,11 @@ impl Past {
     }
 
     /// Whether a namespace changed since the list of a controller was emptied.
-    pub fn has_changed(&self, queue: usize, nsid: usize) -> bool {
+    pub fn has_changed(&self, queue: usize, at: usize) -> bool {
         let mut changed = false;
         for happened in &self.list {
             if let Happened::Edited(old, new) = happened {
-                changed = changed || changes_namespace(old, new, nsid);
+                changed = changed || changes_namespace(old, new, at);
             }
             changed = changed && !empties(happened, queue);
         }

@@ -4,7 +4,7 @@ use std::alloc::{AllocError, Global};
 use testkit_edits::{A, B};
 
 /// The identifiers that tests use.
-pub const NSIDS: [u32; 5] = [1, 2, 255, 256, 1_024];
+pub const NSIDS: [u32; 5] = [1, 255, 1_024, 1_025, 4_096];
 
 /// The groups that tests use.
 pub const GROUPS: [u32; 3] = [1, 2, 32];

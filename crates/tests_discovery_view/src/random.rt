@@ -52,7 +52,7 @@ fn service(random: &mut Pcg32) -> u64 {
 }
 
 fn nsid(random: &mut Pcg32) -> u64 {
-    pick(random, 1u64, &[1_024, 1, 1])
+    pick(random, 1u64, &[4_096, 1, 1])
 }
 
 fn state(random: &mut Pcg32) -> AnaState {

@@ -30,7 +30,8 @@ fn host(random: &mut Pcg32) -> usize {
     below(random, 2) as usize
 }
 
-fn nsid(random: &mut Pcg32) -> usize {
+// A namespace, by its place among the three.
+fn namespace_at(random: &mut Pcg32) -> usize {
     below(random, 3) as usize + 1
 }
 
@@ -62,12 +63,12 @@ fn service(random: &mut Pcg32) -> u16 {
 
 // An edit of a namespace or of the state of a group.
 fn blocks_change(random: &mut Pcg32) -> Change {
-    let nsid = nsid(random);
+    let at = namespace_at(random);
     match below(random, 8) {
-        0 => Change::Delete(nsid),
-        1 | 2 => Change::Add(nsid, namespace(random)),
-        3 => Change::Resize(nsid, blocks(random)),
-        4 => Change::Regroup(nsid, one(random)),
+        0 => Change::Delete(at),
+        1 | 2 => Change::Add(at, namespace(random)),
+        3 => Change::Resize(at, blocks(random)),
+        4 => Change::Regroup(at, one(random)),
         _ => Change::SetState(one(random), one(random), state(random)),
     }
 }

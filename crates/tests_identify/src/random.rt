@@ -13,10 +13,22 @@ const EDITS: usize = 30;
 
 const SEED: u64 = 0x6163_7469;
 
-const NSIDS: &[u32] = &[1, 2, 3, 4, 5, 255, 256, 257, 1_023, 1_024];
+const NSIDS: &[u32] = &[1, 2, 3, 64, 255, 256, 1_024, 1_025, 4_095, 4_096];
 
 // Below the least, at each of some, between them, and above all.
-const ABOVE: &[u32] = &[0, 1, 4, 100, 256, 1_023, 1_024, 0xFFFF_FFFD];
+const ABOVE: &[u32] = &[
+    0,
+    1,
+    63,
+    64,
+    100,
+    256,
+    1_024,
+    1_025,
+    4_095,
+    4_096,
+    0xFFFF_FFFD,
+];
 
 fn subsystem(random: &mut Pcg32) -> &'static [u8] {
     if random.next_word() % 3 == 0 { B } else { A }

@@ -133,7 +133,7 @@ const SECOND: Blocks = Blocks {
 
 // The last identifier, on the first one's disk and with its UUID.
 const THIRD: Blocks = Blocks {
-    nsid: 1_024,
+    nsid: 4_096,
     disk: 1,
     blocks: 7,
     block_size: 512,
@@ -164,10 +164,10 @@ const NAMESPACES: &[(Line<'static>, &[u8])] = &[
     (Line::NamespaceDel(b"nqn.a", 2), b" a b b2.0=1/32"),
     (
         Line::NamespaceAdd(b"nqn.a", THIRD),
-        b" a b b2.0=1/32 a1024.1=7/1",
+        b" a b b2.0=1/32 a4096.1=7/1",
     ),
-    (Line::NamespaceDel(b"nqn.b", 2), b" a b a1024.1=7/1"),
-    (Line::SubsystemDel(b"nqn.b"), b" a a1024.1=7/1"),
+    (Line::NamespaceDel(b"nqn.b", 2), b" a b a4096.1=7/1"),
+    (Line::SubsystemDel(b"nqn.b"), b" a a4096.1=7/1"),
 ];
 
 #[test]
