@@ -1,15 +1,19 @@
 //! Lists of namespace identifiers.
 ghost use Rattle.std.specs.Prelude.{◌≡◌};
 ghost use Rattle.std.specs.Iterator.{YieldsFirst, item_count};
-ghost use Rattle.host_pages.specs.NsList.{nsids_listed};
+ghost use Rattle.host_pages.specs.NsList.{is_overflowed, nsids_listed};
 
 use crate::bad_page::BadPage;
 use nvt_fields::u32_at;
 use std::marker::Model;
 
+/// The first entry of a list that overflowed (Base 2.0, section 5.16.1.5). It is the identifier of no
+/// namespace, and stands for all.
+const ALL_NAMESPACES: u32 = 0xFFFF_FFFF;
+
 /// A list of namespace identifiers, lent from the bytes that hold it: the Active Namespace ID list, and
 /// the Changed Namespace List (Base 2.0, sections 5.17.2.2 and 5.16.1.5). Its identifiers are the whole
-/// entries of 4 bytes before the first that is 0. A contract sees the bytes.
+/// entries of 4 bytes before the first that is 0, and none where it overflowed. A contract sees the bytes.
 #[derive(Drop)]
 pub struct NsList<'a> {
     bytes: &'a [u8],
@@ -31,14 +35,28 @@ impl<'a> NsList<'a> {
         Ok(NsList { bytes })
     }
 
-    /// The identifiers, in the list's order.
+    /// Whether more namespaces changed than a list has room for: its first entry is FFFFFFFFh then (Base
+    /// 2.0, section 5.16.1.5), and it names none of them.
+    pub fn overflowed(&self) -> bool
+        ensures { result ≡ is_overflowed self.now }
+    {
+        self.bytes.len() >= 4 && u32_at(self.bytes, 0) == ALL_NAMESPACES
+    }
+
+    /// The identifiers, in the list's order; none where it overflowed.
+    #[tactic(auto, using(crate::proofs::Lists::listed))]
     pub fn nsids(&self) -> ListedNsids<'a>
         ensures { result ≡ nsids_listed self.now }
     {
+        let left = if self.overflowed() {
+            0
+        } else {
+            self.bytes.len() / 4
+        };
         ListedNsids {
             bytes: self.bytes,
             done: 0,
-            left: self.bytes.len() / 4,
+            left,
         }
     }
 }
