@@ -1,5 +1,5 @@
 -- What the commands `ana` and `changed` do.
-use Rattle.std.specs.Prelude.{◌≡◌, ℕ, ◌%◌, ◌^◌, ◌==◌, ◌++◌, Bool, true, false, List, Option, Some, None, Result, Err, flat_map}
+use Rattle.std.specs.Prelude.{◌≡◌, ℕ, ◌==◌, ◌++◌, Bool, true, false, List, Option, Some, None, Result, Err, flat_map}
 use Rattle.host_pages.specs.AnaLog as ana
 use Rattle.host_link.specs.declared.fault.SessionFault.{SessionFault}
 use Rattle.host_link.specs.declared.fault.SessionFault.TheVariants.{BadPage}

@@ -1,5 +1,4 @@
 //! The command `changed`.
-ghost use Rattle.host_pages.specs.NsList.{nsids_listed};
 ghost use Rattle.host_program.specs.Lines.{changed_line};
 ghost use Rattle.host_program.specs.Pages.{AwaitsChange, ShowsChanged, TellsChange, TellsList};
 ghost use Rattle.host_program.specs.Printed.{Prints};
@@ -30,7 +29,8 @@ const CHANGED_NAMESPACES: u8 = 0x04;
 /// Its length, in bytes.
 const LIST_LEN: u32 = 4096;
 
-/// Waits for the event of a changed namespace, and prints which changed.
+/// Waits for the event of a changed namespace, and prints which changed, or `all` where more did than
+/// the list has room for.
 pub fn changed<L: Link + Drop, W: Write>(
     alloc: Global,
     link: L,
@@ -85,13 +85,13 @@ fn tell_list<L: Link + Drop, W: Write>(
 }
 
 fn print_changed<W: Write>(alloc: Global, list: &[u8], out: &mut W) -> Result<(), SessionFault>
-    ensures { Prints (changed_line (nsids_listed list.now)) result (W.contents out.old) (W.contents out.new) }
+    ensures { Prints (changed_line list.now) result (W.contents out.old) (W.contents out.new) }
 {
     let Ok(list) = NsList::read(list) else {
         return Err(SessionFault::BadPage);
     };
     let mut line = Vec::new(alloc);
-    match push_changed(&mut line, list.nsids()) {
+    match push_changed(&mut line, &list) {
         Ok(()) => print(out, &mut line),
         // To make a line wants memory alone.
         Err(_) => Err(SessionFault::Memory),

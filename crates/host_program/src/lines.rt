@@ -2,13 +2,13 @@
 ghost use Rattle.std.specs.Prelude.{◌≡◌, ◌++◌, ◌∷◌, [], IfOk, OnOk, map, string_bytes};
 ghost use Rattle.std.specs.Iterator.{item_count};
 ghost use Rattle.hex.specs.Hex.{encode_lower};
-ghost use Rattle.host_program.specs.Lines.{change_line, changed_line, genctr_line, group_head, group_line, hex_line};
+ghost use Rattle.host_program.specs.Lines.{change_line, changed_line, changed_words, genctr_line, group_head, group_line, hex_line};
 ghost use Rattle.host_program.specs.Lines.{is_padding, nsid_line, nsid_words, record_head, record_line, shown, text_of};
 ghost use Rattle.host_program.specs.Lines.{without_padding};
 
 use crate::printed::made;
 use host_link::SessionFault;
-use host_pages::{AnaGroup, DiscoveryRecord, ListedNsids, Nsids};
+use host_pages::{AnaGroup, DiscoveryRecord, ListedNsids, NsList, Nsids};
 use nvt_fields::up_to_zero;
 use std::alloc::{AllocError, Global};
 use std::io::Write;
@@ -79,16 +79,28 @@ fn push_nsids(line: &mut Vec<u8>, nsids: Nsids<'_>) -> Result<(), SessionFault>
     Ok(())
 }
 
-/// `changed NSID..`
-pub(crate) fn push_changed(line: &mut Vec<u8>, nsids: ListedNsids<'_>) -> Result<(), SessionFault>
-    ensures { OnOk result (line.new.items ≡ line.old.items ++ changed_line nsids.entry) }
+/// `changed NSID..`, or `changed all` where more changed than the list has room for
+pub(crate) fn push_changed(line: &mut Vec<u8>, list: &NsList<'_>) -> Result<(), SessionFault>
+    ensures { OnOk result (line.new.items ≡ line.old.items ++ changed_line list.now) }
 {
     made(write!(line, "changed"))?;
-    push_listed(line, nsids)?;
+    push_changed_words(line, list)?;
     push_byte(line, b'\n')?;
     Ok(())
 }
 
+// ` all` of a list that overflowed, else its identifiers.
+fn push_changed_words(line: &mut Vec<u8>, list: &NsList<'_>) -> Result<(), SessionFault>
+    ensures { OnOk result (line.new.items ≡ line.old.items ++ changed_words list.now) }
+{
+    if list.overflowed() {
+        made(write!(line, " all"))
+    } else {
+        push_listed(line, list.nsids())
+    }
+}
+
+// Each after a space.
 fn push_listed(line: &mut Vec<u8>, nsids: ListedNsids<'_>) -> Result<(), SessionFault>
     ensures { OnOk result (line.new.items ≡ line.old.items ++ nsid_words nsids.entry) }
 {
