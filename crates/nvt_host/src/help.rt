@@ -51,7 +51,10 @@ prints
   change 0 groups 1
   group 1 1 0 1";
 
-pub const CHANGED: &str = "Example:
+pub const CHANGED: &str =
+    "Prints `changed NSID..`, with the namespaces that changed, or `changed all` where more than 1024 did.
+
+Example:
   nvt_host changed 127.0.0.1 4420 nqn.2026-01.test:a nqn.2026-01.test:h1 --turns 60000
 waits up to a minute, and prints `changed 1` once namespace 1 is made larger.";
 
