@@ -129,7 +129,7 @@ fn see(plain: &Plain, seen: &mut Seen) {
 }
 
 fn act(random: &mut Pcg32, set: &mut ChangedSet, plain: &mut Plain) {
-    match below(random, 10) {
+    match below(random, 12) {
         0 => {
             set.clear();
             plain.clear();
@@ -138,7 +138,7 @@ fn act(random: &mut Pcg32, set: &mut ChangedSet, plain: &mut Plain) {
         _ => {
             let first = nsid(random);
             let step = if below(random, 2) == 0 { 1 } else { 2 };
-            note_run(set, plain, first, below(random, 300), step);
+            note_run(set, plain, first, below(random, 600), step);
         }
     }
 }
@@ -171,5 +171,13 @@ fn lists_are_those_of_a_plain_table(rt: HostRuntime) {
         let right = is_right(rt.alloc(), number, &mut seen);
         assert!(rt; right == Ok(true), "script {number} of seed {SEED}");
     }
-    assert!(rt; seen.some > 50 && seen.nearly_full > 10 && seen.overflowed > 50);
+    let Seen {
+        some,
+        nearly_full,
+        overflowed,
+    } = seen;
+    assert!(rt;
+        some > 50 && nearly_full > 10 && overflowed > 50,
+        "{some}, {nearly_full}, {overflowed}"
+    );
 }
