@@ -26,6 +26,16 @@ pub fn event_request(alloc: Global, cid: u8) -> Result<Vec<u8>, AllocError> {
     capsule(alloc, &entry, &[])
 }
 
+/// An Identify of CID 4: the list of all active namespaces.
+pub fn list_read(alloc: Global) -> Result<Vec<u8>, AllocError> {
+    let mut entry = [0u8; 64];
+    entry[..3].copy_from_slice(&[0x06, 0x40, 4]);
+    entry[33] = 0x10;
+    entry[39] = 0x5A;
+    entry[40] = 0x02;
+    capsule(alloc, &entry, &[])
+}
+
 /// A Get Log Page of CID 4 with RAE 0, of so many bytes from the beginning.
 pub fn log_read(alloc: Global, page: u8, len: u16) -> Result<Vec<u8>, AllocError> {
     let mut entry = [0u8; 64];

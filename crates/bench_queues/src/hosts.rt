@@ -1,5 +1,5 @@
 //! Hosts that wait to be told of edits.
-use crate::capsules::{enable_events, event_request, log_page, log_read};
+use crate::capsules::{enable_events, event_request, list_read, log_page, log_read};
 use block_store::MemoryDisk;
 use nvt_config::Edit;
 use std::alloc::{AllocError, Global};
@@ -22,11 +22,12 @@ const CHANGED_NAMESPACES: u8 = 0x04;
 
 const CHANGED_NAMESPACES_LEN: u16 = 4_096;
 
-const CHANGED_NAMESPACES_ANSWER: usize = 2 * HEADER_LEN + CHANGED_NAMESPACES_LEN as usize;
+// A list of namespaces has as many bytes, of those that are active and of those that changed.
+const LIST_ANSWER: usize = 2 * HEADER_LEN + CHANGED_NAMESPACES_LEN as usize;
 
 const ANA: u8 = 0x0C;
 
-// As much as the page of 32 groups and 1,024 namespaces has.
+// More than the page has: as much as that of 32 groups and 1,024 namespaces would.
 const ANA_LEN: u16 = 5_136;
 
 const ANA_ANSWER: usize = 2 * HEADER_LEN + ANA_LEN as usize;
@@ -37,6 +38,7 @@ struct Capsules {
     requests: Vec<Vec<u8>>,
     changed_namespaces: Vec<u8>,
     ana: Vec<u8>,
+    active_namespaces: Vec<u8>,
 }
 
 impl Capsules {
@@ -49,13 +51,14 @@ impl Capsules {
             requests,
             changed_namespaces: log_read(alloc, CHANGED_NAMESPACES, CHANGED_NAMESPACES_LEN)?,
             ana: log_read(alloc, ANA, ANA_LEN)?,
+            active_namespaces: list_read(alloc)?,
         })
     }
 
     // The read of a log page, and how many bytes it is answered.
     fn read(&self, page: u8) -> Option<(&[u8], usize)> {
         match page {
-            CHANGED_NAMESPACES => Some((&self.changed_namespaces, CHANGED_NAMESPACES_ANSWER)),
+            CHANGED_NAMESPACES => Some((&self.changed_namespaces, LIST_ANSWER)),
             ANA => Some((&self.ana, ANA_ANSWER)),
             _ => None,
         }
@@ -198,4 +201,52 @@ impl Hosts {
             && self.target.takes(k, request)
             && self.target.sent(k).is_empty()
     }
+
+    /// Whether the first host is sent its list of active namespaces, each of so many times.
+    pub fn reads_active(&mut self, times: u32) -> bool {
+        let mut reads = true;
+        for _ in 0..times {
+            reads &= self.target.takes(0, &self.capsules.active_namespaces)
+                && self.target.sent(0).len() == LIST_ANSWER
+                && self.target.empties(0);
+        }
+        reads
+    }
+
+    /// Whether each host was told that namespaces changed, and nothing else. It sends an event request for
+    /// the one that was completed.
+    pub fn wait_anew(&mut self) -> bool {
+        let mut wait = true;
+        for k in 0..self.count {
+            wait &= self.waits_anew(k);
+        }
+        wait
+    }
+
+    fn waits_anew(&mut self, k: usize) -> bool {
+        let sent = self.target.sent(k);
+        let (Some(CHANGED_NAMESPACES), Some(cid)) = (log_page(sent), sent.get(20)) else {
+            return false;
+        };
+        let Some(request) = self.capsules.request(*cid) else {
+            return false;
+        };
+        sent.len() == HEADER_LEN && self.target.empties(k) && self.target.takes(k, request)
+    }
+
+    /// Whether each host is sent its list of changed namespaces, which has three, each below 256.
+    pub fn read_changed(&mut self) -> bool {
+        let mut reads = true;
+        for k in 0..self.count {
+            reads &= self.target.takes(k, &self.capsules.changed_namespaces)
+                && has_three(self.target.sent(k))
+                && self.target.empties(k);
+        }
+        reads
+    }
+}
+
+// Whether a list of namespaces was sent in which the third entry is the last.
+fn has_three(sent: &[u8]) -> bool {
+    sent.len() == LIST_ANSWER && sent.get(32) != Some(&0) && sent.get(36) == Some(&0)
 }

@@ -1,10 +1,11 @@
 //! Measures the edit language: how many lines of edits a second are read, written back and checked
-//! against a configuration. `nvt_bench SETUP LINES SERVED CHANGES ONE ALL` takes six files of edits: SETUP
+//! against a configuration. `nvt_bench SETUP LINES SERVED CHANGES SIZES ONE ALL` takes seven files of edits: SETUP
 //! makes the configuration, over 256 disks, and the edits of LINES are measured. Then it measures I/O
 //! commands on a target over a disk in memory, against bare copies of as many bytes, and on a host that is
 //! joined to such a target. Then SERVED makes the configuration of a target with hosts, and the edits of
-//! CHANGES are measured, each told to the hosts, and what the hosts read; and that of a target with one
-//! host, which the edits of ONE change for one host, and those of ALL for all, and what that host reads.
+//! CHANGES are measured, each told to the hosts, and what the hosts read; so are those of SIZES, and reads of
+//! lists of namespaces; and that of a target with one host, which the edits of ONE change for one host, and
+//! those of ALL for all, and what that host reads.
 #![tactic(auto)]
 
 mod clock;
@@ -13,6 +14,7 @@ mod edits;
 mod fault;
 mod files;
 mod limits;
+mod lists;
 mod pairs;
 mod told;
 
@@ -38,7 +40,7 @@ fn run_on<R: Env + Files + Clock + Print + Eprint + AllocGlobal>(
     match read_paths(rt, words) {
         Some(paths) => finish(rt, run(rt, paths)),
         None => {
-            let _ = eprintln!(rt; "usage: nvt_bench SETUP LINES SERVED CHANGES ONE ALL");
+            let _ = eprintln!(rt; "usage: nvt_bench SETUP LINES SERVED CHANGES SIZES ONE ALL");
             ExitCode::from(BAD_ARGUMENTS)
         }
     }
@@ -61,6 +63,7 @@ struct Paths<'a> {
     lines: &'a str,
     served: &'a str,
     changes: &'a str,
+    sizes: &'a str,
     one: &'a str,
     all: &'a str,
 }
@@ -75,11 +78,12 @@ fn read_paths<'a, R: Env + AllocGlobal>(rt: &R, words: &'a mut Vec<String>) -> O
 
 fn paths_of(words: &[String]) -> Option<Paths<'_>> {
     match words {
-        [_, setup, lines, served, changes, one, all] => Some(Paths {
+        [_, setup, lines, served, changes, sizes, one, all] => Some(Paths {
             setup,
             lines,
             served,
             changes,
+            sizes,
             one,
             all,
         }),
@@ -92,6 +96,7 @@ fn run<R: Files + Clock + Print + AllocGlobal>(rt: &R, paths: Paths<'_>) -> Resu
     commands::measure(rt)?;
     pairs::measure(rt)?;
     measure_told(rt, paths)?;
+    measure_lists(rt, paths)?;
     measure_limits(rt, paths)
 }
 
@@ -111,6 +116,15 @@ fn measure_told<R: Files + Clock + Print + AllocGlobal>(
     let served = read_file(rt, rt.alloc(), paths.served)?;
     let changes = read_file(rt, rt.alloc(), paths.changes)?;
     told::measure(rt, &served, &changes)
+}
+
+fn measure_lists<R: Files + Clock + Print + AllocGlobal>(
+    rt: &R,
+    paths: Paths<'_>,
+) -> Result<(), BenchFault> {
+    let served = read_file(rt, rt.alloc(), paths.served)?;
+    let sizes = read_file(rt, rt.alloc(), paths.sizes)?;
+    lists::measure(rt, &served, &sizes)
 }
 
 fn measure_limits<R: Files + Clock + Print + AllocGlobal>(
