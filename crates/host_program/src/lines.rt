@@ -1,5 +1,5 @@
 //! The lines that commands print.
-ghost use Rattle.std.specs.Prelude.{◌≡◌, ◌++◌, ◌∷◌, [], IfOk, OnOk, map, string_bytes};
+ghost use Rattle.std.specs.Prelude.{◌≡◌, ◌++◌, ◌∷◌, [], IfErr, IfOk, OnOk, map, string_bytes};
 ghost use Rattle.std.specs.Iterator.{item_count};
 ghost use Rattle.hex.specs.Hex.{encode_lower};
 ghost use Rattle.host_program.specs.Lines.{change_line, changed_line, changed_words, genctr_line, group_head, group_line, hex_line};
@@ -81,7 +81,8 @@ fn push_nsids(line: &mut Vec<u8>, nsids: Nsids<'_>) -> Result<(), SessionFault>
 
 /// `changed NSID..`, or `changed all` where more changed than the list has room for
 pub(crate) fn push_changed(line: &mut Vec<u8>, list: &NsList<'_>) -> Result<(), SessionFault>
-    ensures { OnOk result (line.new.items ≡ line.old.items ++ changed_line list.now) }
+    ensures line { OnOk result (line.new.items ≡ line.old.items ++ changed_line list.now) }
+    ensures fault { IfErr result (λ fault. fault ≡ SessionFault.Memory) }
 {
     made(write!(line, "changed"))?;
     push_changed_words(line, list)?;
@@ -91,7 +92,8 @@ pub(crate) fn push_changed(line: &mut Vec<u8>, list: &NsList<'_>) -> Result<(), 
 
 // ` all` of a list that overflowed, else its identifiers.
 fn push_changed_words(line: &mut Vec<u8>, list: &NsList<'_>) -> Result<(), SessionFault>
-    ensures { OnOk result (line.new.items ≡ line.old.items ++ changed_words list.now) }
+    ensures line { OnOk result (line.new.items ≡ line.old.items ++ changed_words list.now) }
+    ensures fault { IfErr result (λ fault. fault ≡ SessionFault.Memory) }
 {
     if list.overflowed() {
         made(write!(line, " all"))
@@ -102,7 +104,8 @@ fn push_changed_words(line: &mut Vec<u8>, list: &NsList<'_>) -> Result<(), Sessi
 
 // Each after a space.
 fn push_listed(line: &mut Vec<u8>, nsids: ListedNsids<'_>) -> Result<(), SessionFault>
-    ensures { OnOk result (line.new.items ≡ line.old.items ++ nsid_words nsids.entry) }
+    ensures line { OnOk result (line.new.items ≡ line.old.items ++ nsid_words nsids.entry) }
+    ensures fault { IfErr result (λ fault. fault ≡ SessionFault.Memory) }
 {
     for listed in nsids {
         made(write!(line, " {listed}"))?;
