@@ -72,5 +72,8 @@ class Run:
 class Case:
     """A command with a name, and what is wrong with a run of it: of one with ample memory, and of one beside that."""
 
+    # Whether a run may make other growths than another: what comes over sockets and pipes comes in pieces that differ.
+    may_differ = False
+
     def run(self, shim, refused):
         return Run(shim, self.command, refused)

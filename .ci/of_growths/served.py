@@ -24,6 +24,8 @@ class Command(Case):
     """A command of nvt_host. How many growths there are is a matter of what comes at once: where the one that is
     refused is not made, all is as with ample memory."""
 
+    may_differ = True
+
     def __init__(self, program, port, name, words):
         self.name = f"nvt_host {name}"
         subsystem = [word.decode() for word in words[:1]]
@@ -117,6 +119,7 @@ class Serving(Case):
     target that did not begin to serve ends."""
 
     name = "served target"
+    may_differ = True
 
     def __init__(self, program):
         self.program = program

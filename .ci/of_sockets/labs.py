@@ -13,12 +13,13 @@ ENDED = (1, b"", [b"error: lab"])
 TURNS = 2_000_000
 
 
-def lab(host, target, ports, turns=TURNS):
-    """Runs the lab in a process group of its own: its exit status, what it prints, and the lines of standard error. No
-    process of the group is left behind it; where one is, it is ended and the test fails."""
+def lab(host, target, ports, turns=TURNS, environment=None):
+    """Runs the lab in a process group of its own, in this environment, where it is not the usual one: its exit status,
+    what it prints, and the lines of standard error. No process of the group is left behind it; where one is, it is
+    ended and the test fails."""
     words = [host, "lab", target, "--port", str(ports[0]), "--control", str(ports[1]), "--turns", str(turns)]
     pipes = {"stdin": subprocess.DEVNULL, "stdout": subprocess.PIPE, "stderr": subprocess.PIPE}
-    with subprocess.Popen(words, **pipes, start_new_session=True) as process:
+    with subprocess.Popen(words, **pipes, env=environment, start_new_session=True) as process:
         try:
             out, err = process.communicate(timeout=6 * SECONDS)
         finally:

@@ -4,6 +4,7 @@ import os
 import socket
 import subprocess
 import tempfile
+import threading
 import time
 from pathlib import Path
 
@@ -12,6 +13,8 @@ SECONDS = 10
 NQN = b"nqn.2026-01.test:a"
 # What a segment has on Ethernet.
 ETHERNET = 1448
+# The ports that were given, which several threads may ask for.
+GIVEN, ONE_AT_A_TIME = set(), threading.Lock()
 
 
 def check(holds, what):
@@ -42,11 +45,18 @@ def shown(value):
 
 
 def free_ports(count):
-    """As many port numbers that nobody listens to now."""
-    sockets = [socket.create_server(("127.0.0.1", 0)) for _ in range(count)]
-    numbers = [each.getsockname()[1] for each in sockets]
-    for each in sockets:
-        each.close()
+    """As many port numbers that nobody listens to now, and that were not given before: who was given one may not listen
+    to it yet."""
+    sockets, numbers = [], []
+    with ONE_AT_A_TIME:
+        while len(numbers) < count:
+            sockets.append(socket.create_server(("127.0.0.1", 0)))
+            number = sockets[-1].getsockname()[1]
+            if number not in GIVEN:
+                GIVEN.add(number)
+                numbers.append(number)
+        for each in sockets:
+            each.close()
     return numbers
 
 

@@ -8,6 +8,8 @@
  * byte order: how many growths there were, and how many of them were refused. The file is shared with
  * the program's memory, so that the numbers are there however the program ends.
  *
+ * It takes what it was told out of the environment, so that what the program starts runs without it.
+ *
  * It prints nothing, and ends the program with status 125 where it cannot count.
  */
 #define _GNU_SOURCE
@@ -70,6 +72,9 @@ __attribute__((constructor)) static void begin(void)
     refused_number = number == NULL ? 0 : strtoull(number, NULL, 10);
     dl_iterate_phdr(find_program, NULL);
     numbers = shared_numbers(getenv("GROWTHS_FILE"));
+    unsetenv("LD_PRELOAD");
+    unsetenv("REFUSE_GROWTH");
+    unsetenv("GROWTHS_FILE");
 }
 
 /* Counts a growth that the code at this address asks for; whether it is refused. */
