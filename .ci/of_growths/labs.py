@@ -78,7 +78,7 @@ class Lab(Case):
 
     A lab that passes over a refusal is found by its `lab ok`, or by what a process prints only where something went
     wrong; one that does not end a process where it is refused memory, by the process that is left in its group. Two
-    that were made wrong so were found. Where a line cannot be echoed it is left out, and the lab goes on."""
+    that were made wrong so were found."""
 
     may_differ = True
 
@@ -97,22 +97,13 @@ class Lab(Case):
             is_done = run.growths > 0 and run.end() == self.end
             return None if is_done else "the lab ends otherwise than with ample memory, or no growth is counted"
         if run.status == 0:
-            return None if self.loses_lines(run) else "the lab ends with status 0: the refusal was swallowed"
+            return "the lab ends with status 0: the refusal was swallowed"
         told, last = run.lines[:-1], run.lines[-1:]
         if run.status != 1 or run.out or last not in (WANTED, FAULT):
             return "the lab does not end with status 1 and `error: memory` or `error: lab`"
         if last == WANTED:
             return "something was started" if told else None
         return None if are_parts(told, self.end[2]) else "a process prints what it does not with ample memory"
-
-    def loses_lines(self, run):
-        """Whether it did its work and prints all lines but one that it had no memory for, or none that the target
-        left."""
-        status, out, lines = self.end
-        if status or run.out != out or len(run.lines) >= len(lines):
-            return False
-        first = next(at for at, line in enumerate(lines) if run.lines[at : at + 1] != [line])
-        return run.lines in (lines[:first] + lines[first + 1 :], lines[:-2])
 
 
 def labs(host, target, scratch):

@@ -30,8 +30,8 @@ pub fn end<R: Eprint + AllocGlobal, P: OpenProcess + Drop>(
     // One that was waited for is not killed: it is gone.
     let killed = child.kill();
     let waited = child.wait();
-    echo_child(rt, name, child);
-    if killed.is_ok() && waited.is_ok() {
+    let echoed = echo_child(rt, name, child);
+    if killed.is_ok() && waited.is_ok() && echoed.is_ok() {
         Ok(())
     } else {
         Err(LabFault)
@@ -42,15 +42,16 @@ fn echo_child<R: Eprint + AllocGlobal, P: OpenProcess + Drop>(
     rt: &R,
     name: &str,
     child: &mut Child<P>,
-)
+) -> Result<(), LabFault>
     ensures { child_status child.new ≡ child_status child.old }
 {
     if let Some(stdout) = &mut child.stdout {
-        echo_rest(rt, name, stdout);
+        echo_rest(rt, name, stdout)?;
     }
     if let Some(stderr) = &mut child.stderr {
-        echo_rest(rt, name, stderr);
+        echo_rest(rt, name, stderr)?;
     }
+    Ok(())
 }
 
 /// Waits for a line of a process.
@@ -64,7 +65,7 @@ pub fn line_of<R: Eprint + AllocGlobal, P: OpenProcess + Drop>(
     };
     match next_line(rt.alloc(), stdout) {
         Ok(Some(line)) => {
-            echo(rt, name, &line);
+            echo(rt, name, &line)?;
             Ok(line)
         }
         Ok(None) | Err(_) => Err(LabFault),

@@ -86,7 +86,7 @@ fn make_edit<R: Eprint + AllocGlobal, S: Read + Write>(
     }
     match next_line(rt.alloc(), stream) {
         Ok(Some(answer)) => {
-            echo(rt, "control", &answer);
+            echo(rt, "control", &answer)?;
             if answer.as_slice() == b"ok".as_slice() {
                 Ok(())
             } else {

@@ -3,6 +3,7 @@ ghost use Rattle.std.specs.Prelude.{◌∷◌, [], IfOk, MatchOption};
 ghost use Rattle.std.specs.Io.KnownBytes.{Consumes};
 ghost use Rattle.host_lab.specs.Lines.{TakesLine, TakesNone};
 
+use crate::course::LabFault;
 use std::alloc::Global;
 use std::io::{self, Eprint, Read};
 
@@ -42,10 +43,14 @@ fn next_byte<S: Read>(stream: &mut S) -> io::Result<Option<u8>>
     })
 }
 
-/// Prints a line after the name of its process.
-pub fn echo<R: Eprint + AllocGlobal>(rt: &R, name: &str, line: &[u8]) {
-    if let Ok(text) = text_of(rt.alloc(), line) {
-        let _ = eprintln!(rt; "{name}: {text}");
+/// Prints a line after the name of its process, where anything can be printed; a fault where memory is wanted for it.
+pub fn echo<R: Eprint + AllocGlobal>(rt: &R, name: &str, line: &[u8]) -> Result<(), LabFault> {
+    match text_of(rt.alloc(), line) {
+        Ok(text) => {
+            let _ = eprintln!(rt; "{name}: {text}");
+            Ok(())
+        }
+        Err(_) => Err(LabFault),
     }
 }
 
@@ -60,11 +65,17 @@ fn text_of(alloc: Global, line: &[u8]) -> io::Result<String> {
 }
 
 /// Prints the lines that are left of a stream.
-pub fn echo_rest<R: Eprint + AllocGlobal, S: Read>(rt: &R, name: &str, stream: &mut S) {
+pub fn echo_rest<R: Eprint + AllocGlobal, S: Read>(
+    rt: &R,
+    name: &str,
+    stream: &mut S,
+) -> Result<(), LabFault> {
     for _ in 0..LINES_MAX {
         match next_line(rt.alloc(), stream) {
-            Ok(Some(line)) => echo(rt, name, &line),
-            Ok(None) | Err(_) => break,
+            Ok(Some(line)) => echo(rt, name, &line)?,
+            Ok(None) => break,
+            Err(_) => return Err(LabFault),
         }
     }
+    Ok(())
 }
