@@ -1,10 +1,12 @@
 """A program that serves, and connections to it."""
 
+import errno
+import itertools
 import os
+import random
 import socket
 import subprocess
 import tempfile
-import threading
 import time
 from pathlib import Path
 
@@ -13,8 +15,8 @@ SECONDS = 10
 NQN = b"nqn.2026-01.test:a"
 # What a segment has on Ethernet.
 ETHERNET = 1448
-# The ports that were given, which several threads may ask for.
-GIVEN, ONE_AT_A_TIME = set(), threading.Lock()
+# The first port that is given, and the one that follows the last: below those that a system gives out by itself.
+PORTS = 10_000, 32_768
 
 
 def check(holds, what):
@@ -44,20 +46,39 @@ def shown(value):
     return text if len(text) < 300 else f"{text[:300]} .. ({len(value)} long)"
 
 
+def port_numbers():
+    """The numbers of ports, each in its turn, from any of them on."""
+    numbers = [*range(*PORTS)]
+    first = random.randrange(len(numbers))
+    return itertools.cycle(numbers[first:] + numbers[:first])
+
+
+NUMBERS = port_numbers()
+
+
 def free_ports(count):
-    """As many port numbers that nobody listens to now, and that were not given before: who was given one may not listen
-    to it yet."""
-    sockets, numbers = [], []
-    with ONE_AT_A_TIME:
-        while len(numbers) < count:
-            sockets.append(socket.create_server(("127.0.0.1", 0)))
-            number = sockets[-1].getsockname()[1]
-            if number not in GIVEN:
-                GIVEN.add(number)
-                numbers.append(number)
-        for each in sockets:
-            each.close()
+    """As many port numbers that nobody listens to now. None is tried that was given before, since who was given it may
+    not listen to it yet."""
+    numbers = []
+    while len(numbers) < count:
+        number = next(NUMBERS)
+        if is_free(number):
+            numbers.append(number)
     return numbers
+
+
+def is_free(number):
+    """Whether a port can be listened to. It is not listened to here: what is open here a process that another thread
+    starts has open a moment longer."""
+    with socket.socket() as trial:
+        trial.setsockopt(socket.SOL_SOCKET, socket.SO_REUSEADDR, 1)
+        try:
+            trial.bind(("127.0.0.1", number))
+        except OSError as why:
+            if why.errno != errno.EADDRINUSE:
+                raise
+            return False
+    return True
 
 
 def one_disk(service, blocks=2048):
