@@ -1,6 +1,6 @@
 -- What a change of the hosts keeps.
 use Rattle.std.proofs.Common.{◌≡◌, ◌≤◌, ◌&&◌, ◌++◌, ◌∷◌, [], ℕ, Bool, true, false, not, List, nat_le, length, get_or, refl, sym, ◌∙◌, subst, inl, inr, arith}
-use Rattle.std.proofs.lemmas.Bool.{and_cases, and_from, and_left, and_parts, both_ways, cond_both, false_from_ne_true, not-false, or_left}
+use Rattle.std.proofs.lemmas.Bool.{and_cases, and_from, and_left, and_parts, both_ways, cases_Bool, cond_both, false_from_ne_true, not-false, or_left}
 use Rattle.std.proofs.lemmas.Grind.{common_steps}
 use Rattle.std.proofs.lemmas.List.Folds.{list_any-append}
 use Rattle.std.specs.Str.{bytes_eq}
@@ -30,6 +30,10 @@ AreHosts-set hosts nqn live valid =
       count = subst (λ n. n ≤ 256) (sym (length-changed_where named (live_set live) hosts)) valid.count;
       distinct = distinct-changed_where (λ h. h.nqn) named (live_set live) (λ h _. refl) hosts valid.distinct;
     }
+
+-- a host that is added changes the hosts alone
+pub hosts_alone : (c : Configuration) (nqn : List ℕ) → with_host c nqn ≡ record c { hosts = (with_host c nqn).hosts }
+hosts_alone c nqn = elim (cases_Bool (has_host c.hosts nqn)) [ inl back ↦ rw back refl | inr new ↦ rw new refl ]
 
 -- what is true of a configuration stays where its hosts alone change, and those that are allowed are live
 with_hosts : (c : Configuration) (hosts : List Host) → IsValid c → AreHosts hosts → AreAllows c.subsystems hosts c.allows → IsValid (record c { hosts = hosts })

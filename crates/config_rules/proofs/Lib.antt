@@ -5,6 +5,7 @@ pub mod Hosts
 pub mod Links
 pub mod Namespaces
 pub mod Ports
+pub mod Refusals
 pub mod States
 pub mod Subsystems
 pub mod Valid

@@ -1,6 +1,6 @@
 -- What a change of the ANA states keeps.
-use Rattle.std.proofs.Common.{◌≡◌, ◌==◌, ◌++◌, ◌∷◌, [], ℕ, Bool, true, false, not, List, IsFalse, get_or, if◌then◌else◌}
-use Rattle.std.proofs.lemmas.Bool.{and_from, cond_both, eq-eqb, not-true}
+use Rattle.std.proofs.Common.{◌≡◌, ◌==◌, ◌++◌, ◌∷◌, [], ℕ, Bool, true, false, not, List, IsFalse, get_or, refl, inl, inr, if◌then◌else◌}
+use Rattle.std.proofs.lemmas.Bool.{and_from, cases_Bool, cond_both, eq-eqb, not-true}
 use Rattle.std.proofs.lemmas.List.Elements.{All-push, All-filter, filter_passes}
 use Rattle.std.proofs.lemmas.List.Kept.{AllPairs-filter}
 use Rattle.std.specs.Str.{bytes_eq}
@@ -62,6 +62,14 @@ AreStates-more ks ls states stay valid = record {
       record { link = stay (get_or states k d) old.link; group = old.group; state = old.state };
   distinct = valid.distinct;
 }
+
+-- a state that is set changes the states alone
+pub states_alone : (c : Configuration) (port : ℕ) (nqn : List ℕ) (group : ℕ) (state : AnaState) → with_ana_state c port nqn group state ≡ record c { states = (with_ana_state c port nqn group state).states }
+states_alone c port nqn group state =
+    elim (cases_Bool (is_optimized state)) [
+      | inl optimized ↦ rw optimized refl
+      | inr set ↦ rw set (elim (cases_Bool (has_state c.states port nqn group)) [ inl there ↦ rw there refl | inr new ↦ rw new refl ])
+    ]
 
 -- what is true of a configuration stays where its states alone change
 with_states : (c : Configuration) (states : List GroupState) → IsValid c → AreStates c.links states → IsValid (record c { states = states })

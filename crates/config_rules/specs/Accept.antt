@@ -1,5 +1,5 @@
 -- Which edits a configuration accepts, and what it is after them.
-use Rattle.std.specs.Prelude.{ℕ, ◌*◌, ◌==◌, Bool, false, not, ◌&&◌, ◌||◌, nat_le, nat_lt, length, slice_get, find, Option, Some, None, is_none, Result, Ok, Err, IfOk, unwrap_or, if◌then◌else◌}
+use Rattle.std.specs.Prelude.{ℕ, ◌*◌, ◌==◌, Bool, false, not, ◌&&◌, ◌||◌, nat_le, nat_lt, List, [], ◌∷◌, length, slice_get, find, Option, Some, None, is_none, Result, Ok, Err, IfOk, unwrap_or, if◌then◌else◌}
 use Rattle.uuid.specs.Parts.{is_nil_bytes}
 use Rattle.config_lists.specs.declared.namespace.BlockSize.{BlockSize}
 use Rattle.config_lists.specs.declared.namespace.BlockSize.TheVariants.{Bytes4096}
@@ -58,117 +58,149 @@ namespace_of n = record {
 abbrev pub port_of : Endpoint → Port
 port_of e = record { id = e.id; family = e.family; address = e.address; service = e.service }
 
+-- a reason against an edit: a test, and the fault where that passes
+abbrev pub Refusal : Type 0
+Refusal = Bool × EditFault
+
+-- the reasons against an edit, in the order in which they count
+abbrev pub refusals : Configuration → Edit → List Refusal
+refusals c (SubsystemAdd nqn serial access) =
+    (is_discovery nqn, BadValue value.Nqn)
+    ∷ (not (is_serial serial), BadValue value.Serial)
+    ∷ (has_subsystem c.subsystems nqn, Exists item.Subsystem)
+    ∷ (nat_le 32 (length c.subsystems), Full item.Subsystem)
+    ∷ []
+refusals c (SubsystemSet nqn access) = (not (has_subsystem c.subsystems nqn), NoSuch item.Subsystem) ∷ []
+refusals c (SubsystemDel nqn) =
+    (not (has_subsystem c.subsystems nqn), NoSuch item.Subsystem)
+    ∷ (has_namespaces c.namespaces nqn, InUse item.Namespace)
+    ∷ (is_subsystem_linked c.links nqn, InUse item.Link)
+    ∷ (is_subsystem_allowing c.allows nqn, InUse item.Allow)
+    ∷ []
+refusals c (NamespaceAdd n) =
+    (not (is_nsid n.nsid), BadValue value.Nsid)
+    ∷ (are_bad_blocks c n.disk n.blocks n.block_size, BadValue value.Blocks)
+    ∷ (is_none (block_size_of n.block_size), BadValue value.BlockSize)
+    ∷ (is_nil_bytes n.uuid, BadValue value.Uuid)
+    ∷ (not (is_group n.group), BadValue value.Group)
+    ∷ (not (has_subsystem c.subsystems n.subsystem), NoSuch item.Subsystem)
+    ∷ (nat_le (length c.units) n.disk, NoSuch item.Disk)
+    ∷ (has_namespace c.namespaces n.subsystem n.nsid, Exists item.Namespace)
+    ∷ (has_uuid c.namespaces n.uuid, Exists item.Uuid)
+    ∷ (is_disk_used c.namespaces n.disk, DiskInUse)
+    ∷ []
+refusals c (NamespaceSize nqn nsid blocks) =
+    (are_bad_blocks_of c (find (is_named nqn nsid) c.namespaces) blocks, BadValue value.Blocks)
+    ∷ (not (has_subsystem c.subsystems nqn), NoSuch item.Subsystem)
+    ∷ (not (has_namespace c.namespaces nqn nsid), NoSuch item.Namespace)
+    ∷ []
+refusals c (NamespaceGroup nqn nsid group) =
+    (not (is_group group), BadValue value.Group)
+    ∷ (not (has_subsystem c.subsystems nqn), NoSuch item.Subsystem)
+    ∷ (not (has_namespace c.namespaces nqn nsid), NoSuch item.Namespace)
+    ∷ []
+refusals c (NamespaceDel nqn nsid) =
+    (not (has_subsystem c.subsystems nqn), NoSuch item.Subsystem)
+    ∷ (not (has_namespace c.namespaces nqn nsid), NoSuch item.Namespace)
+    ∷ []
+refusals c (PortAdd e) =
+    (not (is_port_number e.id), BadValue value.Port)
+    ∷ (not (is_address e.address), BadValue value.Address)
+    ∷ (not (is_port_number e.service), BadValue value.Service)
+    ∷ (has_port c.ports e.id, Exists item.Port)
+    ∷ (nat_le 16 (length c.ports), Full item.Port)
+    ∷ []
+refusals c (PortSet e) =
+    (not (is_port_number e.id), BadValue value.Port)
+    ∷ (not (is_address e.address), BadValue value.Address)
+    ∷ (not (is_port_number e.service), BadValue value.Service)
+    ∷ (not (has_port c.ports e.id), NoSuch item.Port)
+    ∷ []
+refusals c (PortDel id) =
+    (not (has_port c.ports id), NoSuch item.Port)
+    ∷ (is_port_linked c.links id, InUse item.Link)
+    ∷ []
+refusals c (LinkAdd port nqn) =
+    (not (has_port c.ports port), NoSuch item.Port)
+    ∷ (not (has_subsystem c.subsystems nqn), NoSuch item.Subsystem)
+    ∷ (has_link c.links port nqn, Exists item.Link)
+    ∷ []
+refusals c (LinkDel port nqn) =
+    (not (has_port c.ports port), NoSuch item.Port)
+    ∷ (not (has_subsystem c.subsystems nqn), NoSuch item.Subsystem)
+    ∷ (not (has_link c.links port nqn), NoSuch item.Link)
+    ∷ []
+refusals c (HostAdd nqn) =
+    (has_live_host c.hosts nqn, Exists item.Host)
+    ∷ (not (has_host c.hosts nqn) && nat_le 256 (length c.hosts), Full item.Host)
+    ∷ []
+refusals c (HostDel nqn) =
+    (not (has_live_host c.hosts nqn), NoSuch item.Host)
+    ∷ (is_host_allowed c.allows nqn, InUse item.Allow)
+    ∷ []
+refusals c (AllowAdd nqn host) =
+    (not (has_subsystem c.subsystems nqn), NoSuch item.Subsystem)
+    ∷ (not (has_live_host c.hosts host), NoSuch item.Host)
+    ∷ (has_allow c.allows nqn host, Exists item.Allow)
+    ∷ (nat_le 1024 (length c.allows), Full item.Allow)
+    ∷ []
+refusals c (AllowDel nqn host) =
+    (not (has_subsystem c.subsystems nqn), NoSuch item.Subsystem)
+    ∷ (not (has_live_host c.hosts host), NoSuch item.Host)
+    ∷ (not (has_allow c.allows nqn host), NoSuch item.Allow)
+    ∷ []
+refusals c (AnaSet port nqn group state) =
+    (not (is_group group), BadValue value.Group)
+    ∷ (not (has_port c.ports port), NoSuch item.Port)
+    ∷ (not (has_subsystem c.subsystems nqn), NoSuch item.Subsystem)
+    ∷ (not (has_link c.links port nqn), NoSuch item.Link)
+    ∷ []
+refusals c (ReferralAdd e) =
+    (not (is_port_number e.id), BadValue value.Port)
+    ∷ (not (is_address e.address), BadValue value.Address)
+    ∷ (not (is_port_number e.service), BadValue value.Service)
+    ∷ (has_port c.referrals e.id, Exists item.Referral)
+    ∷ (nat_le 16 (length c.referrals), Full item.Referral)
+    ∷ []
+refusals c (ReferralSet e) =
+    (not (is_port_number e.id), BadValue value.Port)
+    ∷ (not (is_address e.address), BadValue value.Address)
+    ∷ (not (is_port_number e.service), BadValue value.Service)
+    ∷ (not (has_port c.referrals e.id), NoSuch item.Referral)
+    ∷ []
+refusals c (ReferralDel id) = (not (has_port c.referrals id), NoSuch item.Referral) ∷ []
+
+-- what an edit makes of the configuration, where nothing is against it
+abbrev pub effect : Configuration → Edit → Configuration
+effect c (SubsystemAdd nqn serial access) = with_subsystem c (record { nqn = nqn; serial = serial; access = access })
+effect c (SubsystemSet nqn access) = with_access c nqn access
+effect c (SubsystemDel nqn) = without_subsystem c nqn
+effect c (NamespaceAdd n) = with_namespace c (namespace_of n)
+effect c (NamespaceSize nqn nsid blocks) = with_namespace_set c nqn nsid (Blocks blocks)
+effect c (NamespaceGroup nqn nsid group) = with_namespace_set c nqn nsid (Group group)
+effect c (NamespaceDel nqn nsid) = without_namespace c nqn nsid
+effect c (PortAdd e) = with_port c (port_of e)
+effect c (PortSet e) = with_port_set c (port_of e)
+effect c (PortDel id) = without_port c id
+effect c (LinkAdd port nqn) = with_link c (record { port = port; subsystem = nqn })
+effect c (LinkDel port nqn) = without_link c port nqn
+effect c (HostAdd nqn) = with_host c nqn
+effect c (HostDel nqn) = without_host c nqn
+effect c (AllowAdd nqn host) = with_allow c (record { subsystem = nqn; host = host })
+effect c (AllowDel nqn host) = without_allow c nqn host
+effect c (AnaSet port nqn group state) = with_ana_state c port nqn group state
+effect c (ReferralAdd e) = with_referral c (port_of e)
+effect c (ReferralSet e) = with_referral_set c (port_of e)
+effect c (ReferralDel id) = without_referral c id
+
+-- the fault of the first reason whose test passes, and else the value
+abbrev pub unless_refused : List Refusal → Configuration → Result Configuration EditFault
+unless_refused [] next = Ok next
+unless_refused (refusal ∷ others) next = refuse refusal.0 refusal.1 (unless_refused others next)
+
 -- the configuration after the edit, or the first reason against it
 abbrev pub accept : Configuration → Edit → Result Configuration EditFault
-accept c (SubsystemAdd nqn serial access) =
-    refuse (is_discovery nqn) (BadValue value.Nqn) (
-    refuse (not (is_serial serial)) (BadValue value.Serial) (
-    refuse (has_subsystem c.subsystems nqn) (Exists item.Subsystem) (
-    refuse (nat_le 32 (length c.subsystems)) (Full item.Subsystem) (
-    Ok (with_subsystem c (record { nqn = nqn; serial = serial; access = access }))))))
-accept c (SubsystemSet nqn access) =
-    refuse (not (has_subsystem c.subsystems nqn)) (NoSuch item.Subsystem) (
-    Ok (with_access c nqn access))
-accept c (SubsystemDel nqn) =
-    refuse (not (has_subsystem c.subsystems nqn)) (NoSuch item.Subsystem) (
-    refuse (has_namespaces c.namespaces nqn) (InUse item.Namespace) (
-    refuse (is_subsystem_linked c.links nqn) (InUse item.Link) (
-    refuse (is_subsystem_allowing c.allows nqn) (InUse item.Allow) (
-    Ok (without_subsystem c nqn)))))
-accept c (NamespaceAdd n) =
-    refuse (not (is_nsid n.nsid)) (BadValue value.Nsid) (
-    refuse (are_bad_blocks c n.disk n.blocks n.block_size) (BadValue value.Blocks) (
-    refuse (is_none (block_size_of n.block_size)) (BadValue value.BlockSize) (
-    refuse (is_nil_bytes n.uuid) (BadValue value.Uuid) (
-    refuse (not (is_group n.group)) (BadValue value.Group) (
-    refuse (not (has_subsystem c.subsystems n.subsystem)) (NoSuch item.Subsystem) (
-    refuse (nat_le (length c.units) n.disk) (NoSuch item.Disk) (
-    refuse (has_namespace c.namespaces n.subsystem n.nsid) (Exists item.Namespace) (
-    refuse (has_uuid c.namespaces n.uuid) (Exists item.Uuid) (
-    refuse (is_disk_used c.namespaces n.disk) DiskInUse (
-    Ok (with_namespace c (namespace_of n))))))))))))
-accept c (NamespaceSize nqn nsid blocks) =
-    refuse (are_bad_blocks_of c (find (is_named nqn nsid) c.namespaces) blocks) (BadValue value.Blocks) (
-    refuse (not (has_subsystem c.subsystems nqn)) (NoSuch item.Subsystem) (
-    refuse (not (has_namespace c.namespaces nqn nsid)) (NoSuch item.Namespace) (
-    Ok (with_namespace_set c nqn nsid (Blocks blocks)))))
-accept c (NamespaceGroup nqn nsid group) =
-    refuse (not (is_group group)) (BadValue value.Group) (
-    refuse (not (has_subsystem c.subsystems nqn)) (NoSuch item.Subsystem) (
-    refuse (not (has_namespace c.namespaces nqn nsid)) (NoSuch item.Namespace) (
-    Ok (with_namespace_set c nqn nsid (Group group)))))
-accept c (NamespaceDel nqn nsid) =
-    refuse (not (has_subsystem c.subsystems nqn)) (NoSuch item.Subsystem) (
-    refuse (not (has_namespace c.namespaces nqn nsid)) (NoSuch item.Namespace) (
-    Ok (without_namespace c nqn nsid)))
-accept c (PortAdd e) =
-    refuse (not (is_port_number e.id)) (BadValue value.Port) (
-    refuse (not (is_address e.address)) (BadValue value.Address) (
-    refuse (not (is_port_number e.service)) (BadValue value.Service) (
-    refuse (has_port c.ports e.id) (Exists item.Port) (
-    refuse (nat_le 16 (length c.ports)) (Full item.Port) (
-    Ok (with_port c (port_of e)))))))
-accept c (PortSet e) =
-    refuse (not (is_port_number e.id)) (BadValue value.Port) (
-    refuse (not (is_address e.address)) (BadValue value.Address) (
-    refuse (not (is_port_number e.service)) (BadValue value.Service) (
-    refuse (not (has_port c.ports e.id)) (NoSuch item.Port) (
-    Ok (with_port_set c (port_of e))))))
-accept c (PortDel id) =
-    refuse (not (has_port c.ports id)) (NoSuch item.Port) (
-    refuse (is_port_linked c.links id) (InUse item.Link) (
-    Ok (without_port c id)))
-accept c (LinkAdd port nqn) =
-    refuse (not (has_port c.ports port)) (NoSuch item.Port) (
-    refuse (not (has_subsystem c.subsystems nqn)) (NoSuch item.Subsystem) (
-    refuse (has_link c.links port nqn) (Exists item.Link) (
-    Ok (with_link c (record { port = port; subsystem = nqn })))))
-accept c (LinkDel port nqn) =
-    refuse (not (has_port c.ports port)) (NoSuch item.Port) (
-    refuse (not (has_subsystem c.subsystems nqn)) (NoSuch item.Subsystem) (
-    refuse (not (has_link c.links port nqn)) (NoSuch item.Link) (
-    Ok (without_link c port nqn))))
-accept c (HostAdd nqn) =
-    refuse (has_live_host c.hosts nqn) (Exists item.Host) (
-    refuse (not (has_host c.hosts nqn) && nat_le 256 (length c.hosts)) (Full item.Host) (
-    Ok (with_host c nqn)))
-accept c (HostDel nqn) =
-    refuse (not (has_live_host c.hosts nqn)) (NoSuch item.Host) (
-    refuse (is_host_allowed c.allows nqn) (InUse item.Allow) (
-    Ok (without_host c nqn)))
-accept c (AllowAdd nqn host) =
-    refuse (not (has_subsystem c.subsystems nqn)) (NoSuch item.Subsystem) (
-    refuse (not (has_live_host c.hosts host)) (NoSuch item.Host) (
-    refuse (has_allow c.allows nqn host) (Exists item.Allow) (
-    refuse (nat_le 1024 (length c.allows)) (Full item.Allow) (
-    Ok (with_allow c (record { subsystem = nqn; host = host }))))))
-accept c (AllowDel nqn host) =
-    refuse (not (has_subsystem c.subsystems nqn)) (NoSuch item.Subsystem) (
-    refuse (not (has_live_host c.hosts host)) (NoSuch item.Host) (
-    refuse (not (has_allow c.allows nqn host)) (NoSuch item.Allow) (
-    Ok (without_allow c nqn host))))
-accept c (AnaSet port nqn group state) =
-    refuse (not (is_group group)) (BadValue value.Group) (
-    refuse (not (has_port c.ports port)) (NoSuch item.Port) (
-    refuse (not (has_subsystem c.subsystems nqn)) (NoSuch item.Subsystem) (
-    refuse (not (has_link c.links port nqn)) (NoSuch item.Link) (
-    Ok (with_ana_state c port nqn group state)))))
-accept c (ReferralAdd e) =
-    refuse (not (is_port_number e.id)) (BadValue value.Port) (
-    refuse (not (is_address e.address)) (BadValue value.Address) (
-    refuse (not (is_port_number e.service)) (BadValue value.Service) (
-    refuse (has_port c.referrals e.id) (Exists item.Referral) (
-    refuse (nat_le 16 (length c.referrals)) (Full item.Referral) (
-    Ok (with_referral c (port_of e)))))))
-accept c (ReferralSet e) =
-    refuse (not (is_port_number e.id)) (BadValue value.Port) (
-    refuse (not (is_address e.address)) (BadValue value.Address) (
-    refuse (not (is_port_number e.service)) (BadValue value.Service) (
-    refuse (not (has_port c.referrals e.id)) (NoSuch item.Referral) (
-    Ok (with_referral_set c (port_of e))))))
-accept c (ReferralDel id) =
-    refuse (not (has_port c.referrals id)) (NoSuch item.Referral) (
-    Ok (without_referral c id))
+accept c edit = unless_refused (refusals c edit) (effect c edit)
 
 -- the reason against the edit, if there is one
 abbrev pub verdict : Result Configuration EditFault → Result (Unit {0}) EditFault

@@ -1,41 +1,23 @@
 -- Ports by their numbers, subsystems by their names, and the links between them.
-use Rattle.std.proofs.Common.{◌≡◌, ◌≢◌, ◌⊎◌, ℕ, suc, ◌≤◌, ◌+◌, ◌==◌, ◌&&◌, ◌||◌, Bool, true, false, not, nat_lt, List, [], ◌∷◌, ◌++◌, All, AllPairs, length, filter, map, Result, Ok, Err, IfOk, refl, sym, ap, ◌∙◌, inl, inr, arith, append-nil, bytes_eq}
-use lib.Pointwise.{bytes_decides}
-use Rattle.std.specs.Prelude.{if◌then◌else◌}
+use Rattle.std.proofs.Common.{◌≡◌, ◌≢◌, ℕ, ◌≤◌, ◌+◌, ◌==◌, ◌&&◌, ◌||◌, Bool, true, false, nat_lt, List, [], ◌∷◌, ◌++◌, All, AllPairs, length, filter, refl, sym, ap, ◌∙◌, inl, inr, arith, bytes_eq}
 use Rattle.std.specs.List.{list_any}
-use Rattle.std.proofs.lemmas.Bool.{cases_Bool, both_ways, eq-eqb, eqb-true, false_from_ne_true}
+use Rattle.std.proofs.lemmas.Bool.{cases_Bool, both_ways, eqb-true, false_from_ne_true}
 use Rattle.std.proofs.lemmas.Bool.Decides.{nat_tests}
 use Rattle.std.proofs.lemmas.List.{length-map}
 use Rattle.std.proofs.lemmas.List.Elements.{All-head, All-tail}
 use Rattle.std.proofs.lemmas.List.Folds.{list_any-append}
-use Rattle.config_edits.specs.declared.edit.Edit.{Edit}
-use Rattle.config_edits.specs.declared.edit.Edit.TheVariants.{SubsystemAdd, SubsystemSet, SubsystemDel, NamespaceAdd, NamespaceSize, NamespaceGroup, NamespaceDel, PortAdd, PortSet, PortDel, LinkAdd, LinkDel, HostAdd, HostDel, AllowAdd, AllowDel, AnaSet, ReferralAdd, ReferralSet, ReferralDel}
-use Rattle.config_edits.specs.declared.edit.Endpoint.{Endpoint}
-use Rattle.config_edits.specs.declared.edit.NewNamespace.{NewNamespace}
-use Rattle.config_edits.specs.declared.fault.EditFault.{EditFault}
-use Rattle.config_lists.specs.declared.allow.Allow.{Allow}
-use Rattle.config_lists.specs.declared.group_state.AnaState.{AnaState}
-use Rattle.config_lists.specs.declared.group_state.GroupState.{GroupState}
-use Rattle.config_lists.specs.declared.host.Host.{Host}
 use Rattle.config_lists.specs.declared.link.Link.{Link}
-use Rattle.config_lists.specs.declared.namespace.Namespace.{Namespace}
 use Rattle.config_lists.specs.declared.port.Port.{Port}
-use Rattle.config_lists.specs.declared.subsystem.Access.{Access}
 use Rattle.config_lists.specs.declared.subsystem.Subsystem.{Subsystem}
-use Rattle.config_lists.specs.Lists.{changed_where, without}
-use Rattle.config_rules.specs.Accept.{accept, port_of, refuse}
-use Rattle.config_rules.specs.Configuration.{Configuration, has_link, has_port, has_subsystem, is_port_linked, is_subsystem_linked}
-use Rattle.config_rules.specs.Valid.{ArePorts, AreSubsystems, IsLink, IsValid}
-use Rattle.discovery_view.specs.Catalog.{catalog_of}
+use Rattle.config_lists.specs.Lists.{without}
+use Rattle.config_rules.specs.Configuration.{has_link, has_port, has_subsystem, is_subsystem_linked}
+use Rattle.config_rules.specs.Valid.{ArePorts, AreSubsystems, IsLink}
 use Rattle.discovery_view.specs.Order.{in_order, name_below}
-use Rattle.discovery_view.specs.Plan.{IsLeast, Planned}
 use Rattle.discovery_view.specs.Records.{parts_of}
-use Rattle.discovery_view.specs.Forming.{EditsFormTheirReach, links_of_port, reach}
-use Rattle.discovery_view.proofs.Changing.{Changes, changes_where, unchanged}
 use Rattle.discovery_view.proofs.Rows.{own_name, same_name}
 use Rattle.discovery_view.proofs.Ordering.{Apart, name_chain, names_apart, number_chain, numbers_apart}
-use Rattle.discovery_view.proofs.Records.{LinksDiffer, linked, links_changed, no_record, port_added, port_removed, port_replaced, records, referral_added, referral_removed, referral_replaced, same_name_same_records}
-use Rattle.discovery_view.proofs.Splitting.{Fail, NotBoth, Ordered, Split, at_most_one, length_ordered, none_passes, ordered, split, with_it_changed, without_it}
+use Rattle.discovery_view.proofs.Records.{LinksDiffer, linked}
+use Rattle.discovery_view.proofs.Splitting.{Fail, NotBoth, Ordered, at_most_one, length_ordered, ordered}
 
 -- ---- ports and referrals, by their numbers
 

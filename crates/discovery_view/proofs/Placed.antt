@@ -1,17 +1,18 @@
 -- Which edits change what records tell, and not which of them a host is shown.
-use Rattle.std.proofs.Common.{◌≡◌, ℕ, ◌+◌, ◌==◌, ◌⊎◌, Bool, true, false, List, [], ◌∷◌, ◌++◌, map, filter, Result, Ok, IfOk, nat_lt, refl, ap, sym, subst, ◌∙◌, inl, inr}
+use Rattle.std.proofs.Common.{◌≡◌, ℕ, ◌+◌, ◌==◌, ◌⊎◌, List, [], ◌∷◌, ◌++◌, map, filter, Ok, nat_lt, refl, ap, sym, subst, ◌∙◌, inl, inr}
 use Rattle.std.proofs.lemmas.Bool.{cases_Bool, eqb-true}
 use Rattle.std.specs.Prelude.{if◌then◌else◌}
 use Rattle.std.specs.List.{flat_map}
 use Rattle.config_edits.specs.declared.edit.Edit.{Edit}
 use Rattle.config_edits.specs.declared.edit.Edit.TheVariants.{PortSet, ReferralSet, HostAdd}
 use Rattle.config_edits.specs.declared.edit.Endpoint.{Endpoint}
-use Rattle.config_edits.specs.declared.fault.EditFault.{EditFault}
 use Rattle.config_lists.specs.declared.host.Host.{Host}
 use Rattle.config_lists.specs.declared.port.Port.{Port}
 use Rattle.config_lists.specs.declared.subsystem.Subsystem.{Subsystem}
-use Rattle.config_rules.specs.Accept.{accept, refuse}
-use Rattle.config_rules.specs.Configuration.{Configuration, has_link, with_port_set, with_referral_set}
+use Rattle.config_rules.specs.Accept.{accept, effect, port_of}
+use Rattle.config_rules.specs.Configuration.{Configuration, has_link, with_host, with_port_set, with_referral_set}
+use Rattle.config_rules.proofs.Hosts.{hosts_alone}
+use Rattle.config_rules.proofs.Refusals.{is_effect}
 use Rattle.discovery_view.specs.Catalog.{is_shown, linked_among, places_from, places_of}
 use Rattle.discovery_view.specs.Order.{in_order, put_in_order}
 use Rattle.discovery_view.specs.Record.{Parts}
@@ -113,31 +114,12 @@ referral_placed c q host =
 hosts_placed : (c : Configuration) (hosts : List Host) → ArePlaced c (record c { hosts = hosts })
 hosts_placed c hosts host = refl
 
-abbrev PlacedIn : Configuration → Result Configuration EditFault → Type 0
-PlacedIn c made = IfOk made (ArePlaced c)
-
-either_placed : (test : Bool) (fault : EditFault) (made : Result Configuration EditFault) (c : Configuration) → PlacedIn c made → PlacedIn c (refuse test fault made)
-either_placed true fault made c h = tt
-either_placed false fault made c h = h
-
-either_host : (test : Bool) (a b c : Configuration) → ArePlaced c a → ArePlaced c b → ArePlaced c (if test then a else b)
-either_host true a b c h k = h
-either_host false a b c h k = k
-
-port_set : (c : Configuration) (e : Endpoint) → PlacedIn c (accept c (PortSet e))
-port_set c e = search (either_placed, port_placed)
-
-referral_set : (c : Configuration) (e : Endpoint) → PlacedIn c (accept c (ReferralSet e))
-referral_set c e = search (either_placed, referral_placed)
-
-host_added : (c : Configuration) (nqn : List ℕ) → PlacedIn c (accept c (HostAdd nqn))
-host_added c nqn = search (either_placed, either_host, hosts_placed) depth 12
-
-then_placed : (c d : Configuration) (made : Result Configuration EditFault) → made ≡ Ok d → PlacedIn c made → ArePlaced c d
-then_placed c d made is h = rw is at h
+then_placed : (c d : Configuration) (edit was : Edit) → edit ≡ was → accept c edit ≡ Ok d → ArePlaced c (effect c was) → ArePlaced c d
+then_placed c d edit was is ok placed = subst (ArePlaced c) (sym (is_effect c d edit ok ∙ ap (effect c) is)) placed
 
 pub records_reached : (edit : Edit) → ((e : Endpoint) × (edit ≡ PortSet e)) ⊎ (((nqn : List ℕ) × (edit ≡ HostAdd nqn)) ⊎ ((e : Endpoint) × (edit ≡ ReferralSet e)))
     → (c d : Configuration) → accept c edit ≡ Ok d → (host : List ℕ) → places_of d host ≡ places_of c host
-records_reached edit (inl (e, is)) c d ok = then_placed c d _ (rw is at ok) (port_set c e)
-records_reached edit (inr (inl (nqn, is))) c d ok = then_placed c d _ (rw is at ok) (host_added c nqn)
-records_reached edit (inr (inr (e, is))) c d ok = then_placed c d _ (rw is at ok) (referral_set c e)
+records_reached edit (inl (e, is)) c d ok = then_placed c d edit (PortSet e) is ok (port_placed c (port_of e))
+records_reached edit (inr (inl (nqn, is))) c d ok =
+    then_placed c d edit (HostAdd nqn) is ok (subst (ArePlaced c) (sym (hosts_alone c nqn)) (hosts_placed c (with_host c nqn).hosts))
+records_reached edit (inr (inr (e, is))) c d ok = then_placed c d edit (ReferralSet e) is ok (referral_placed c (port_of e))

@@ -1,26 +1,20 @@
 -- An edit forms no more records than it reaches.
-use Rattle.std.proofs.Common.{◌≡◌, ℕ, ◌≤◌, ◌+◌, ◌==◌, Bool, true, false, List, [], ◌∷◌, ◌++◌, length, filter, Result, Ok, Err, IfOk, IsOk, refl, sym, ap, ◌∙◌, arith, append-nil, bytes_eq}
-use Rattle.std.specs.Prelude.{if◌then◌else◌}
-use Rattle.std.specs.List.{list_any}
-use Rattle.std.proofs.lemmas.Bool.{eq-eqb, eqb-true}
+use Rattle.std.proofs.Common.{◌≡◌, ℕ, ◌≤◌, ◌+◌, Bool, true, false, List, [], ◌∷◌, ◌++◌, length, filter, Result, Ok, Err, IfOk, IsOk, refl, sym, ap, subst, ◌∙◌, arith, append-nil}
+use Rattle.std.proofs.lemmas.Bool.{eq-eqb, eqb-true, not-false}
 use Rattle.config_edits.specs.declared.edit.Edit.{Edit}
-use Rattle.config_edits.specs.declared.edit.Edit.TheVariants.{SubsystemAdd, SubsystemSet, SubsystemDel, NamespaceAdd, NamespaceSize, NamespaceGroup, NamespaceDel, PortAdd, PortSet, PortDel, LinkAdd, LinkDel, HostAdd, HostDel, AllowAdd, AllowDel, AnaSet, ReferralAdd, ReferralSet, ReferralDel}
-use Rattle.config_edits.specs.declared.edit.Endpoint.{Endpoint}
-use Rattle.config_edits.specs.declared.edit.NewNamespace.{NewNamespace}
+use Rattle.config_edits.specs.declared.edit.Edit.TheVariants.{SubsystemAdd, SubsystemSet, SubsystemDel, PortAdd, PortSet, PortDel, LinkAdd, LinkDel, HostAdd, AnaSet, ReferralAdd, ReferralSet, ReferralDel}
 use Rattle.config_edits.specs.declared.fault.EditFault.{EditFault}
-use Rattle.config_lists.specs.declared.allow.Allow.{Allow}
-use Rattle.config_lists.specs.declared.group_state.AnaState.{AnaState}
-use Rattle.config_lists.specs.declared.group_state.GroupState.{GroupState}
-use Rattle.config_lists.specs.declared.host.Host.{Host}
 use Rattle.config_lists.specs.declared.link.Link.{Link}
-use Rattle.config_lists.specs.declared.namespace.Namespace.{Namespace}
 use Rattle.config_lists.specs.declared.port.Port.{Port}
 use Rattle.config_lists.specs.declared.subsystem.Access.{Access}
 use Rattle.config_lists.specs.declared.subsystem.Subsystem.{Subsystem}
 use Rattle.config_lists.specs.Lists.{without}
-use Rattle.config_rules.specs.Accept.{accept, port_of, refuse}
+use Rattle.config_rules.specs.Accept.{accept, effect, port_of, refusals}
 use Rattle.config_rules.specs.Configuration.{Configuration, has_link, has_port, has_subsystem, is_subsystem_linked, with_access, with_link, with_port, with_port_set, with_referral, with_referral_set, with_subsystem, without_link, without_port, without_referral, without_subsystem}
 use Rattle.config_rules.specs.Valid.{IsValid}
+use Rattle.config_rules.proofs.Hosts.{hosts_alone}
+use Rattle.config_rules.proofs.Refusals.{Unless, accepted, whatever}
+use Rattle.config_rules.proofs.States.{states_alone}
 use Rattle.discovery_view.specs.Catalog.{catalog_of}
 use Rattle.discovery_view.specs.Order.{in_order}
 use Rattle.discovery_view.specs.Plan.{IsLeast, LeadsTo, Planned}
@@ -35,17 +29,6 @@ use Rattle.discovery_view.proofs.Named.{is_name, is_number, its, link_added, lin
 use Rattle.discovery_view.proofs.Records.{links_changed, no_record, port_added, port_removed, port_replaced, records, referral_added, referral_removed, referral_replaced, same_name_same_records}
 use Rattle.discovery_view.proofs.Rows.{own_name, same_name}
 use Rattle.discovery_view.proofs.Splitting.{none_passes, split, with_it_changed, without_it}
-
--- where an edit is accepted, it changes so many records in one stretch
-abbrev Within : ℕ → Configuration → Result Configuration EditFault → Type 0
-Within n c made = IfOk made (λ d. Changes n (catalog_of c) (catalog_of d))
-
-refused : (n : ℕ) (c : Configuration) (fault : EditFault) → Within n c (Err fault)
-refused n c fault = tt
-
-whatever : (test : Bool) (fault : EditFault) (n : ℕ) (c : Configuration) (made : Result Configuration EditFault) → Within n c made → Within n c (refuse test fault made)
-whatever true fault n c made h = tt
-whatever false fault n c made h = h
 
 -- ---- subsystems
 
@@ -184,131 +167,31 @@ link_gone c port nqn valid ports names =
     (links_changed port nqn c.links links o.front s.it o.rest u.front t.it u.rest R 0 (link_removed c.links port nqn) o.none_before o.none_after u.none_before u.none_after
     (none_left (λ (x : Subsystem). has_link links s.it.id x.nqn) t.it (gone_too c.links s.it.id port t.it.nqn nqn (eqb-true s.it.id port s.passes) (same_name t.it.nqn nqn t.passes))))
 
--- ---- what no record tells of
-
-other_namespaces : (c : Configuration) (n : ℕ) (namespaces : List Namespace) → Changes n (catalog_of c) (catalog_of (record c { namespaces = namespaces }))
-other_namespaces c n namespaces = unchanged n _ _ refl
-
-other_states : (c : Configuration) (n : ℕ) (states : List GroupState) → Changes n (catalog_of c) (catalog_of (record c { states = states }))
-other_states c n states = unchanged n _ _ refl
-
-other_hosts : (c : Configuration) (n : ℕ) (hosts : List Host) → Changes n (catalog_of c) (catalog_of (record c { hosts = hosts }))
-other_hosts c n hosts = unchanged n _ _ refl
-
-other_allows : (c : Configuration) (n : ℕ) (allows : List Allow) → Changes n (catalog_of c) (catalog_of (record c { allows = allows }))
-other_allows c n allows = unchanged n _ _ refl
-
-either_way : (test : Bool) (n : ℕ) (c a b : Configuration) → Changes n (catalog_of c) (catalog_of a) → Changes n (catalog_of c) (catalog_of b)
-    → Changes n (catalog_of c) (catalog_of (if test then a else b))
-either_way true n c a b h k = h
-either_way false n c a b h k = k
-
--- ---- each edit that changes records, by whether what it names is there
-
-add_subsystem : (c : Configuration) (nqn serial : List ℕ) (access : Access) (b : Bool) → IsValid c → has_subsystem c.subsystems nqn ≡ b
-    → Within 0 c (accept c (SubsystemAdd nqn serial access))
-add_subsystem c nqn serial access true valid is = rw is (search (whatever, refused))
-add_subsystem c nqn serial access false valid is =
-    let done = subsystem_added c (record { nqn = nqn; serial = serial; access = access }) valid is in
-    search (whatever, done)
-
-set_subsystem : (c : Configuration) (nqn : List ℕ) (access : Access) (b : Bool) → IsValid c → has_subsystem c.subsystems nqn ≡ b
-    → Within (links_of_subsystem c nqn) c (accept c (SubsystemSet nqn access))
-set_subsystem c nqn access false valid is = rw is (search (whatever, refused))
-set_subsystem c nqn access true valid is =
-    let done = subsystem_set c nqn access (links_of_subsystem c nqn) valid is in
-    search (whatever, done)
-
-remove_subsystem : (c : Configuration) (nqn : List ℕ) (b d : Bool) → IsValid c → has_subsystem c.subsystems nqn ≡ b → is_subsystem_linked c.links nqn ≡ d
-    → Within 0 c (accept c (SubsystemDel nqn))
-remove_subsystem c nqn false d valid is linked = rw is (search (whatever, refused))
-remove_subsystem c nqn true true valid is linked = rw linked (search (whatever, refused))
-remove_subsystem c nqn true false valid is linked =
-    let done = subsystem_removed c nqn valid is linked in
-    search (whatever, done)
-
-add_port : (c : Configuration) (e : Endpoint) (b : Bool) → IsValid c → has_port c.ports e.id ≡ b → Within 0 c (accept c (PortAdd e))
-add_port c e true valid is = rw is (search (whatever, refused))
-add_port c e false valid is =
-    let done = port_put c (port_of e) valid is in
-    search (whatever, done)
-
-set_port : (c : Configuration) (e : Endpoint) (b : Bool) → IsValid c → has_port c.ports e.id ≡ b → Within (links_of_port c e.id) c (accept c (PortSet e))
-set_port c e false valid is = rw is (search (whatever, refused))
-set_port c e true valid is =
-    let done = port_set c (port_of e) valid is in
-    search (whatever, done)
-
-remove_port : (c : Configuration) (id : ℕ) (b : Bool) → IsValid c → has_port c.ports id ≡ b → Within 0 c (accept c (PortDel id))
-remove_port c id false valid is = rw is (search (whatever, refused))
-remove_port c id true valid is =
-    let done = port_gone c id valid is in
-    search (whatever, done)
-
-add_link : (c : Configuration) (port : ℕ) (nqn : List ℕ) (b d : Bool) → IsValid c → has_port c.ports port ≡ b → has_subsystem c.subsystems nqn ≡ d
-    → Within 1 c (accept c (LinkAdd port nqn))
-add_link c port nqn false d valid ports names = rw ports (search (whatever, refused))
-add_link c port nqn true false valid ports names = rw names (search (whatever, refused))
-add_link c port nqn true true valid ports names =
-    let done = link_put c port nqn valid ports names in
-    search (whatever, done)
-
-remove_link : (c : Configuration) (port : ℕ) (nqn : List ℕ) (b d : Bool) → IsValid c → has_port c.ports port ≡ b → has_subsystem c.subsystems nqn ≡ d
-    → Within 0 c (accept c (LinkDel port nqn))
-remove_link c port nqn false d valid ports names = rw ports (search (whatever, refused))
-remove_link c port nqn true false valid ports names = rw names (search (whatever, refused))
-remove_link c port nqn true true valid ports names =
-    let done = link_gone c port nqn valid ports names in
-    search (whatever, done)
-
-add_referral : (c : Configuration) (e : Endpoint) (b : Bool) → IsValid c → has_port c.referrals e.id ≡ b → Within 1 c (accept c (ReferralAdd e))
-add_referral c e true valid is = rw is (search (whatever, refused))
-add_referral c e false valid is =
-    let done = referral_put c (port_of e) valid is in
-    search (whatever, done)
-
-set_referral : (c : Configuration) (e : Endpoint) (b : Bool) → IsValid c → has_port c.referrals e.id ≡ b → Within 1 c (accept c (ReferralSet e))
-set_referral c e false valid is = rw is (search (whatever, refused))
-set_referral c e true valid is =
-    let done = referral_set c (port_of e) valid is in
-    search (whatever, done)
-
-remove_referral : (c : Configuration) (id : ℕ) (b : Bool) → IsValid c → has_port c.referrals id ≡ b → Within 0 c (accept c (ReferralDel id))
-remove_referral c id false valid is = rw is (search (whatever, refused))
-remove_referral c id true valid is =
-    let done = referral_gone c id valid is in
-    search (whatever, done)
-
 -- ---- each edit
 
-reaches : (c : Configuration) (edit : Edit) → IsValid c → Within (reach c edit) c (accept c edit)
-reaches c (SubsystemAdd nqn serial access) valid = add_subsystem c nqn serial access _ valid refl
-reaches c (SubsystemSet nqn access) valid = set_subsystem c nqn access _ valid refl
-reaches c (SubsystemDel nqn) valid = remove_subsystem c nqn _ _ valid refl refl
-reaches c (NamespaceAdd n) valid = search (whatever, other_namespaces) depth 12
-reaches c (NamespaceSize nqn nsid blocks) valid = search (whatever, other_namespaces)
-reaches c (NamespaceGroup nqn nsid group) valid = search (whatever, other_namespaces)
-reaches c (NamespaceDel nqn nsid) valid = search (whatever, other_namespaces)
-reaches c (PortAdd e) valid = add_port c e _ valid refl
-reaches c (PortSet e) valid = set_port c e _ valid refl
-reaches c (PortDel id) valid = remove_port c id _ valid refl
-reaches c (LinkAdd port nqn) valid = add_link c port nqn _ _ valid refl refl
-reaches c (LinkDel port nqn) valid = remove_link c port nqn _ _ valid refl refl
-reaches c (HostAdd nqn) valid = search (whatever, either_way, other_hosts) depth 10
-reaches c (HostDel nqn) valid = search (whatever, other_hosts)
-reaches c (AllowAdd nqn host) valid = search (whatever, other_allows)
-reaches c (AllowDel nqn host) valid = search (whatever, other_allows)
-reaches c (AnaSet port nqn group state) valid = search (whatever, either_way, other_states) depth 12
-reaches c (ReferralAdd e) valid = add_referral c e _ valid refl
-reaches c (ReferralSet e) valid = set_referral c e _ valid refl
-reaches c (ReferralDel id) valid = remove_referral c id _ valid refl
+-- it changes so many records in one stretch
+abbrev Within : ℕ → Configuration → Configuration → Type 0
+Within n c d = Changes n (catalog_of c) (catalog_of d)
 
-then_within : (n : ℕ) (c d : Configuration) (made : Result Configuration EditFault) → made ≡ Ok d → Within n c made → Changes n (catalog_of c) (catalog_of d)
-then_within n c d made is h = rw is at h
+changed : (c : Configuration) (edit : Edit) → IsValid c → Unless (refusals c edit) (Within (reach c edit) c (effect c edit))
+changed c (SubsystemAdd nqn serial access) valid = λ ordinary text absent room. subsystem_added c (record { nqn = nqn; serial = serial; access = access }) valid absent
+changed c (SubsystemSet nqn access) valid = λ there. subsystem_set c nqn access (links_of_subsystem c nqn) valid (not-false (has_subsystem c.subsystems nqn) there)
+changed c (SubsystemDel nqn) valid = λ there empty unlinked unallowed. subsystem_removed c nqn valid (not-false (has_subsystem c.subsystems nqn) there) unlinked
+changed c (PortAdd e) valid = λ number text listens absent room. port_put c (port_of e) valid absent
+changed c (PortSet e) valid = λ number text listens there. port_set c (port_of e) valid (not-false (has_port c.ports e.id) there)
+changed c (PortDel id) valid = λ there unlinked. port_gone c id valid (not-false (has_port c.ports id) there)
+changed c (LinkAdd port nqn) valid = λ there subsystem absent. link_put c port nqn valid (not-false (has_port c.ports port) there) (not-false (has_subsystem c.subsystems nqn) subsystem)
+changed c (LinkDel port nqn) valid = λ there subsystem linked. link_gone c port nqn valid (not-false (has_port c.ports port) there) (not-false (has_subsystem c.subsystems nqn) subsystem)
+changed c (HostAdd nqn) valid = λ absent room. subst (Within 0 c) (sym (hosts_alone c nqn)) (unchanged 0 _ _ refl)
+changed c (AnaSet port nqn group state) valid = λ sound there subsystem linked. subst (Within 0 c) (sym (states_alone c port nqn group state)) (unchanged 0 _ _ refl)
+changed c (ReferralAdd e) valid = λ number text listens absent room. referral_put c (port_of e) valid absent
+changed c (ReferralSet e) valid = λ number text listens there. referral_set c (port_of e) valid (not-false (has_port c.referrals e.id) there)
+changed c (ReferralDel id) valid = λ there. referral_gone c id valid (not-false (has_port c.referrals id) there)
+changed c edit valid = whatever (refusals c edit) (Within (reach c edit) c (effect c edit)) (unchanged (reach c edit) _ _ refl)
 
 pub edits_form_their_reach : EditsFormTheirReach
 edits_form_their_reach c d edit plan valid ok least =
-    fresh_few (reach c edit) (catalog_of c) (catalog_of d) plan (then_within (reach c edit) c d (accept c edit) ok (reaches c edit valid)) least
+    fresh_few (reach c edit) (catalog_of c) (catalog_of d) plan (accepted c d edit (Within (reach c edit) c) ok (changed c edit valid)) least
 
 -- what a plan for the next configuration forms
 pub reach_met : (c : Configuration) (edit : Edit) (shown : Shown) (slots : List Parts) (rows : Rows Places) (plan : Planned) (old new : ℕ) → IsValid c → IsOk (accept c edit)

@@ -1,26 +1,23 @@
 -- What an edit leaves of every subsystem that it does not reach.
-use Rattle.std.proofs.Common.{◌≡◌, ◌==◌, ◌&&◌, ℕ, Bool, true, false, not, Option, Some, None, Result, List, [], ◌∷◌, ◌++◌, IfOk, filter, find, length, nat_le, bytes_eq, refl, ap, sym, subst, ◌∙◌, inl, inr}
+use Rattle.std.proofs.Common.{◌≡◌, ◌==◌, ℕ, Bool, true, false, List, [], ◌∷◌, ◌++◌, filter, bytes_eq, refl, ap, sym, subst, inl, inr}
 use Rattle.std.proofs.lemmas.Bool.{and_parts, cases_Bool}
 use Rattle.std.proofs.lemmas.List.{append-nil}
 use Rattle.std.proofs.lemmas.List.Elements.{filter-append}
-use Rattle.std.specs.Option.{is_none}
-use Rattle.uuid.specs.Parts.{is_nil_bytes}
 use Rattle.config_lists.specs.declared.group_state.AnaState.{AnaState}
 use Rattle.config_lists.specs.declared.group_state.GroupState.{GroupState}
 use Rattle.config_lists.specs.declared.namespace.Namespace.{Namespace}
-use Rattle.config_lists.specs.declared.namespace.Setting.{Setting}
 use Rattle.config_lists.specs.declared.namespace.Setting.TheVariants.{Blocks, Group}
 use Rattle.config_lists.specs.GroupState.{is_optimized, is_state_for, is_state_on, with_state}
 use Rattle.config_lists.specs.Lists.{changed_where, without}
-use Rattle.config_lists.specs.Namespace.{block_size_of, is_group, is_named, is_nsid, with_setting}
-use Rattle.config_lists.specs.Port.{is_address, is_port_number}
-use Rattle.config_lists.specs.Subsystem.{is_discovery, is_serial}
+use Rattle.config_lists.specs.Namespace.{is_named, with_setting}
 use Rattle.config_lists.proofs.Names.{same_name}
 use Rattle.config_edits.specs.declared.edit.Edit.{Edit}
-use Rattle.config_edits.specs.declared.edit.Edit.TheVariants.{SubsystemAdd, SubsystemSet, SubsystemDel, NamespaceAdd, NamespaceSize, NamespaceGroup, NamespaceDel, PortAdd, PortSet, PortDel, LinkAdd, LinkDel, HostAdd, HostDel, AllowAdd, AllowDel, AnaSet, ReferralAdd, ReferralSet, ReferralDel}
-use Rattle.config_rules.specs.Accept.{accept, are_bad_blocks, are_bad_blocks_of, namespace_of, port_of, refuse}
-use Rattle.config_rules.specs.Configuration.{Configuration, has_allow, has_host, has_link, has_live_host, has_namespace, has_namespaces, has_port, has_state, has_subsystem, has_uuid, is_disk_used, is_host_allowed, is_port_linked, is_subsystem_allowing, is_subsystem_linked, with_access, with_allow, with_ana_state, with_host, with_link, with_namespace, with_namespace_set, with_port, with_port_set, with_referral, with_referral_set, with_subsystem, without_allow, without_host, without_link, without_namespace, without_port, without_referral, without_subsystem}
-use Rattle.edit_reach.specs.Reach.{OthersStay, StaysAsItWas}
+use Rattle.config_edits.specs.declared.edit.Edit.TheVariants.{NamespaceAdd, NamespaceSize, NamespaceGroup, NamespaceDel, LinkDel, HostAdd, AnaSet}
+use Rattle.config_rules.specs.Accept.{effect, namespace_of}
+use Rattle.config_rules.specs.Configuration.{Configuration, has_state, with_ana_state, with_host, with_namespace, with_namespace_set, without_link, without_namespace}
+use Rattle.config_rules.proofs.Hosts.{hosts_alone}
+use Rattle.config_rules.proofs.Refusals.{IfOk-effect}
+use Rattle.edit_reach.specs.Reach.{OthersStay, StaysAsItWas, is_reached, subsystem_reached}
 
 -- ---- what passes a test, after a change of items that fail it
 
@@ -52,10 +49,6 @@ module _ {X : Type 0} (p : X → Bool) where
         ]
 
 -- ---- what an accepted edit leaves
-
-unless : {T E : Type 0} (test : Bool) (fault : E) (next : Result T E) (P : T → Type 0) → IfOk next P → IfOk (refuse test fault next) P
-unless true fault next P holds = tt
-unless false fault next P holds = holds
 
 module _ (c : Configuration) (subsystem : List ℕ) where
   abbrev Stays : Configuration → Type 0
@@ -89,13 +82,6 @@ module _ (c : Configuration) (subsystem : List ℕ) where
   -- neither namespaces nor states change
   same : (next : Configuration) → next.namespaces ≡ c.namespaces → next.states ≡ c.states → Stays next
   same next namespaces states = record { namespaces = ap (filter own) namespaces; states = ap (filter own_state) states }
-
-  host_added : (nqn : List ℕ) → Stays (with_host c nqn)
-  host_added nqn =
-      elim (cases_Bool (has_host c.hosts nqn)) [
-        | inl back ↦ rw back (record { namespaces = refl; states = refl })
-        | inr new ↦ rw new (record { namespaces = refl; states = refl })
-      ]
 
   added : (n : Namespace) → own n ≡ false → Stays (with_namespace c n)
   added n apart = record { namespaces = kept_push own c.namespaces n apart; states = refl }
@@ -132,133 +118,17 @@ module _ (c : Configuration) (subsystem : List ℕ) where
         ])
       ]
 
+left : (c : Configuration) (edit : Edit) (subsystem : List ℕ) → is_reached (subsystem_reached edit) subsystem ≡ false → StaysAsItWas c (effect c edit) subsystem
+left c (NamespaceAdd n) subsystem apart = added c subsystem (namespace_of n) apart
+left c (NamespaceSize nqn nsid blocks) subsystem apart = blocks_set c subsystem nqn nsid blocks apart
+left c (NamespaceGroup nqn nsid group) subsystem apart = group_set c subsystem nqn nsid group apart
+left c (NamespaceDel nqn nsid) subsystem apart = removed c subsystem nqn nsid apart
+left c (LinkDel port nqn) subsystem apart = unlinked c subsystem port nqn apart
+left c (HostAdd nqn) subsystem apart =
+    let alone = hosts_alone c nqn in
+    same c subsystem (with_host c nqn) (ap (λ d. d.namespaces) alone) (ap (λ d. d.states) alone)
+left c (AnaSet port nqn group state) subsystem apart = state_set c subsystem port nqn group state apart
+left c edit subsystem apart = same c subsystem (effect c edit) refl refl
+
 pub stays : OthersStay
-stays c (SubsystemAdd nqn serial access) subsystem apart =
-    let P : Configuration → Type 0 = λ next. StaysAsItWas c next subsystem in
-    unless (is_discovery nqn) _ _ P (
-    unless (not (is_serial serial)) _ _ P (
-    unless (has_subsystem c.subsystems nqn) _ _ P (
-    unless (nat_le 32 (length c.subsystems)) _ _ P (
-    same c subsystem (with_subsystem c (record { nqn = nqn; serial = serial; access = access })) refl refl))))
-stays c (SubsystemSet nqn access) subsystem apart =
-    let P : Configuration → Type 0 = λ next. StaysAsItWas c next subsystem in
-    unless (not (has_subsystem c.subsystems nqn)) _ _ P (
-    same c subsystem (with_access c nqn access) refl refl)
-stays c (SubsystemDel nqn) subsystem apart =
-    let P : Configuration → Type 0 = λ next. StaysAsItWas c next subsystem in
-    unless (not (has_subsystem c.subsystems nqn)) _ _ P (
-    unless (has_namespaces c.namespaces nqn) _ _ P (
-    unless (is_subsystem_linked c.links nqn) _ _ P (
-    unless (is_subsystem_allowing c.allows nqn) _ _ P (
-    same c subsystem (without_subsystem c nqn) refl refl))))
-stays c (NamespaceAdd n) subsystem apart =
-    let P : Configuration → Type 0 = λ next. StaysAsItWas c next subsystem in
-    unless (not (is_nsid n.nsid)) _ _ P (
-    unless (are_bad_blocks c n.disk n.blocks n.block_size) _ _ P (
-    unless (is_none (block_size_of n.block_size)) _ _ P (
-    unless (is_nil_bytes n.uuid) _ _ P (
-    unless (not (is_group n.group)) _ _ P (
-    unless (not (has_subsystem c.subsystems n.subsystem)) _ _ P (
-    unless (nat_le (length c.units) n.disk) _ _ P (
-    unless (has_namespace c.namespaces n.subsystem n.nsid) _ _ P (
-    unless (has_uuid c.namespaces n.uuid) _ _ P (
-    unless (is_disk_used c.namespaces n.disk) _ _ P (
-    added c subsystem (namespace_of n) apart))))))))))
-stays c (NamespaceSize nqn nsid blocks) subsystem apart =
-    let P : Configuration → Type 0 = λ next. StaysAsItWas c next subsystem in
-    unless (are_bad_blocks_of c (find (is_named nqn nsid) c.namespaces) blocks) _ _ P (
-    unless (not (has_subsystem c.subsystems nqn)) _ _ P (
-    unless (not (has_namespace c.namespaces nqn nsid)) _ _ P (
-    blocks_set c subsystem nqn nsid blocks apart)))
-stays c (NamespaceGroup nqn nsid group) subsystem apart =
-    let P : Configuration → Type 0 = λ next. StaysAsItWas c next subsystem in
-    unless (not (is_group group)) _ _ P (
-    unless (not (has_subsystem c.subsystems nqn)) _ _ P (
-    unless (not (has_namespace c.namespaces nqn nsid)) _ _ P (
-    group_set c subsystem nqn nsid group apart)))
-stays c (NamespaceDel nqn nsid) subsystem apart =
-    let P : Configuration → Type 0 = λ next. StaysAsItWas c next subsystem in
-    unless (not (has_subsystem c.subsystems nqn)) _ _ P (
-    unless (not (has_namespace c.namespaces nqn nsid)) _ _ P (
-    removed c subsystem nqn nsid apart))
-stays c (PortAdd e) subsystem apart =
-    let P : Configuration → Type 0 = λ next. StaysAsItWas c next subsystem in
-    unless (not (is_port_number e.id)) _ _ P (
-    unless (not (is_address e.address)) _ _ P (
-    unless (not (is_port_number e.service)) _ _ P (
-    unless (has_port c.ports e.id) _ _ P (
-    unless (nat_le 16 (length c.ports)) _ _ P (
-    same c subsystem (with_port c (port_of e)) refl refl)))))
-stays c (PortSet e) subsystem apart =
-    let P : Configuration → Type 0 = λ next. StaysAsItWas c next subsystem in
-    unless (not (is_port_number e.id)) _ _ P (
-    unless (not (is_address e.address)) _ _ P (
-    unless (not (is_port_number e.service)) _ _ P (
-    unless (not (has_port c.ports e.id)) _ _ P (
-    same c subsystem (with_port_set c (port_of e)) refl refl))))
-stays c (PortDel id) subsystem apart =
-    let P : Configuration → Type 0 = λ next. StaysAsItWas c next subsystem in
-    unless (not (has_port c.ports id)) _ _ P (
-    unless (is_port_linked c.links id) _ _ P (
-    same c subsystem (without_port c id) refl refl))
-stays c (LinkAdd port nqn) subsystem apart =
-    let P : Configuration → Type 0 = λ next. StaysAsItWas c next subsystem in
-    unless (not (has_port c.ports port)) _ _ P (
-    unless (not (has_subsystem c.subsystems nqn)) _ _ P (
-    unless (has_link c.links port nqn) _ _ P (
-    same c subsystem (with_link c (record { port = port; subsystem = nqn })) refl refl)))
-stays c (LinkDel port nqn) subsystem apart =
-    let P : Configuration → Type 0 = λ next. StaysAsItWas c next subsystem in
-    unless (not (has_port c.ports port)) _ _ P (
-    unless (not (has_subsystem c.subsystems nqn)) _ _ P (
-    unless (not (has_link c.links port nqn)) _ _ P (
-    unlinked c subsystem port nqn apart)))
-stays c (HostAdd nqn) subsystem apart =
-    let P : Configuration → Type 0 = λ next. StaysAsItWas c next subsystem in
-    unless (has_live_host c.hosts nqn) _ _ P (
-    unless (not (has_host c.hosts nqn) && nat_le 256 (length c.hosts)) _ _ P (
-    host_added c subsystem nqn))
-stays c (HostDel nqn) subsystem apart =
-    let P : Configuration → Type 0 = λ next. StaysAsItWas c next subsystem in
-    unless (not (has_live_host c.hosts nqn)) _ _ P (
-    unless (is_host_allowed c.allows nqn) _ _ P (
-    same c subsystem (without_host c nqn) refl refl))
-stays c (AllowAdd nqn host) subsystem apart =
-    let P : Configuration → Type 0 = λ next. StaysAsItWas c next subsystem in
-    unless (not (has_subsystem c.subsystems nqn)) _ _ P (
-    unless (not (has_live_host c.hosts host)) _ _ P (
-    unless (has_allow c.allows nqn host) _ _ P (
-    unless (nat_le 1024 (length c.allows)) _ _ P (
-    same c subsystem (with_allow c (record { subsystem = nqn; host = host })) refl refl))))
-stays c (AllowDel nqn host) subsystem apart =
-    let P : Configuration → Type 0 = λ next. StaysAsItWas c next subsystem in
-    unless (not (has_subsystem c.subsystems nqn)) _ _ P (
-    unless (not (has_live_host c.hosts host)) _ _ P (
-    unless (not (has_allow c.allows nqn host)) _ _ P (
-    same c subsystem (without_allow c nqn host) refl refl)))
-stays c (AnaSet port nqn group state) subsystem apart =
-    let P : Configuration → Type 0 = λ next. StaysAsItWas c next subsystem in
-    unless (not (is_group group)) _ _ P (
-    unless (not (has_port c.ports port)) _ _ P (
-    unless (not (has_subsystem c.subsystems nqn)) _ _ P (
-    unless (not (has_link c.links port nqn)) _ _ P (
-    state_set c subsystem port nqn group state apart))))
-stays c (ReferralAdd e) subsystem apart =
-    let P : Configuration → Type 0 = λ next. StaysAsItWas c next subsystem in
-    unless (not (is_port_number e.id)) _ _ P (
-    unless (not (is_address e.address)) _ _ P (
-    unless (not (is_port_number e.service)) _ _ P (
-    unless (has_port c.referrals e.id) _ _ P (
-    unless (nat_le 16 (length c.referrals)) _ _ P (
-    same c subsystem (with_referral c (port_of e)) refl refl)))))
-stays c (ReferralSet e) subsystem apart =
-    let P : Configuration → Type 0 = λ next. StaysAsItWas c next subsystem in
-    unless (not (is_port_number e.id)) _ _ P (
-    unless (not (is_address e.address)) _ _ P (
-    unless (not (is_port_number e.service)) _ _ P (
-    unless (not (has_port c.referrals e.id)) _ _ P (
-    same c subsystem (with_referral_set c (port_of e)) refl refl))))
-stays c (ReferralDel id) subsystem apart =
-    let P : Configuration → Type 0 = λ next. StaysAsItWas c next subsystem in
-    unless (not (has_port c.referrals id)) _ _ P (
-    same c subsystem (without_referral c id) refl refl)
+stays c edit subsystem apart = IfOk-effect c edit (λ next. StaysAsItWas c next subsystem) (left c edit subsystem apart)
