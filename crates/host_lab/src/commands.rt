@@ -18,12 +18,7 @@ pub fn target_command(alloc: Global, plan: &Plan<'_>) -> Result<Command, AllocEr
     ensures { IfOk result (Starts plan.now.target.now (target_words plan.now)) }
 {
     let mut command = Command::new(alloc, plan.target)?;
-    push_word(&mut command, "run")?;
-    push_word(&mut command, "/dev/null")?;
-    push_word(&mut command, "--control")?;
-    push_number(&mut command, u64::from(plan.control))?;
-    push_word(&mut command, "--turns")?;
-    push_number(&mut command, plan.turns)?;
+    push_target_words(&mut command, plan)?;
     command.stdin(Stdio::null());
     Ok(with_pipes(command))
 }
@@ -33,9 +28,7 @@ pub fn writer_command(alloc: Global, plan: &Plan<'_>) -> Result<Command, AllocEr
     ensures { IfOk result (Starts plan.now.host.now (writer_words plan.now)) }
 {
     let mut command = host_command(alloc, plan, "write")?;
-    push_word(&mut command, "16")?;
-    push_word(&mut command, "5")?;
-    push_word(&mut command, "--hold")?;
+    push_writer_words(&mut command)?;
     command.stdin(Stdio::piped());
     Ok(command)
 }
@@ -55,16 +48,62 @@ fn host_command(alloc: Global, plan: &Plan<'_>, verb: &str) -> Result<Command, A
     ensures { IfOk result (Starts plan.now.host.now (host_words verb.now plan.now)) }
 {
     let mut command = Command::new(alloc, plan.host)?;
-    push_word(&mut command, verb)?;
-    push_word(&mut command, "--turns")?;
-    push_number(&mut command, plan.turns)?;
-    push_word(&mut command, "127.0.0.1")?;
-    push_number(&mut command, u64::from(plan.port))?;
-    push_word(&mut command, SUBSYSTEM)?;
-    push_word(&mut command, HOST)?;
-    push_word(&mut command, "1")?;
-    push_word(&mut command, "0")?;
+    push_host_words(&mut command, plan, verb)?;
     Ok(with_pipes(command))
+}
+
+fn push_target_words(command: &mut Command, plan: &Plan<'_>) -> Result<(), AllocError>
+    ensures program { OnOk result (command_program command.new ≡ command_program command.old) }
+    ensures words { OnOk result (command_args command.new ≡ command_args command.old ++ target_words plan.now) }
+{
+    push_pair(command, "run", "/dev/null")?;
+    push_option(command, "--control", u64::from(plan.control))?;
+    push_option(command, "--turns", plan.turns)
+}
+
+fn push_host_words(command: &mut Command, plan: &Plan<'_>, verb: &str) -> Result<(), AllocError>
+    ensures program { OnOk result (command_program command.new ≡ command_program command.old) }
+    ensures words { OnOk result (command_args command.new ≡ command_args command.old ++ host_words verb.now plan.now) }
+{
+    push_way(command, plan, verb)?;
+    push_pair(command, SUBSYSTEM, HOST)?;
+    push_pair(command, "1", "0")
+}
+
+// The verb, and where the target is.
+fn push_way(command: &mut Command, plan: &Plan<'_>, verb: &str) -> Result<(), AllocError>
+    ensures program { OnOk result (command_program command.new ≡ command_program command.old) }
+    ensures words { OnOk result (command_args command.new ≡ command_args command.old
+        ++ verb.now ∷ codes "--turns" ∷ decimal plan.now.turns ∷ codes "127.0.0.1" ∷ decimal plan.now.port ∷ []) }
+{
+    push_word(command, verb)?;
+    push_option(command, "--turns", plan.turns)?;
+    push_option(command, "127.0.0.1", u64::from(plan.port))
+}
+
+fn push_writer_words(command: &mut Command) -> Result<(), AllocError>
+    ensures program { OnOk result (command_program command.new ≡ command_program command.old) }
+    ensures words { OnOk result (command_args command.new ≡ command_args command.old
+        ++ codes "16" ∷ codes "5" ∷ codes "--hold" ∷ []) }
+{
+    push_pair(command, "16", "5")?;
+    push_word(command, "--hold")
+}
+
+fn push_pair(command: &mut Command, first: &str, second: &str) -> Result<(), AllocError>
+    ensures program { OnOk result (command_program command.new ≡ command_program command.old) }
+    ensures words { OnOk result (command_args command.new ≡ command_args command.old ++ first.now ∷ second.now ∷ []) }
+{
+    push_word(command, first)?;
+    push_word(command, second)
+}
+
+fn push_option(command: &mut Command, word: &str, number: u64) -> Result<(), AllocError>
+    ensures program { OnOk result (command_program command.new ≡ command_program command.old) }
+    ensures words { OnOk result (command_args command.new ≡ command_args command.old ++ word.now ∷ decimal number ∷ []) }
+{
+    push_word(command, word)?;
+    push_number(command, number)
 }
 
 fn push_word(command: &mut Command, word: &str) -> Result<(), AllocError>
