@@ -1,8 +1,8 @@
 -- A table with a word for each of its values in the place of the value.
-use Rattle.std.proofs.Common.{◌≡◌, ℕ, Option, Some, None, List, [], ◌∷◌, map, bytes_eq, refl, ap, sym, ◌∙◌, inl, inr, if◌then◌else◌}
+use Rattle.std.proofs.Common.{◌≡◌, ℕ, List, [], ◌∷◌, map, bytes_eq, refl, ap, sym, ◌∙◌, inl, inr}
 use Rattle.std.proofs.lemmas.Bool.{cases_Bool}
 use Rattle.std.specs.Option.{option_map}
-use Rattle.name_table.specs.Table.{IsPut, value_of}
+use Rattle.name_table.specs.Table.{IsPut, IsRemoved, value_of}
 
 module _ {T U : Type 0} (word : T → U) where
   abbrev pub each : List (List ℕ × T) → List (List ℕ × U)
@@ -19,6 +19,13 @@ module _ {T U : Type 0} (word : T → U) where
   pub put_each : (old new : List (List ℕ × T)) (name : List ℕ) (value : T) → IsPut old new name value → IsPut (each old) (each new) name (word value)
   put_each old new name value put other =
       value_of_each new other ∙ ap (option_map word) (put other) ∙ elim (cases_Bool (bytes_eq other name)) [
+        | inl same ↦ rw same refl
+        | inr apart ↦ rw apart (sym (value_of_each old other))
+      ]
+
+  pub removed_each : (old new : List (List ℕ × T)) (name : List ℕ) → IsRemoved old new name → IsRemoved (each old) (each new) name
+  removed_each old new name removed other =
+      value_of_each new other ∙ ap (option_map word) (removed other) ∙ elim (cases_Bool (bytes_eq other name)) [
         | inl same ↦ rw same refl
         | inr apart ↦ rw apart (sym (value_of_each old other))
       ]

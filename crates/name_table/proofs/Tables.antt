@@ -1,12 +1,12 @@
 -- Where a name has its value, and what becomes of it where a value is put.
 use lib.Pointwise.{bytes_decides}
-use Rattle.std.proofs.Common.{◌≡◌, ℕ, Bool, true, false, Option, Some, None, List, [], ◌∷◌, Vec, Global, map, bytes_eq, refl, ap, sym, ◌∙◌, subst, inl, inr, if◌then◌else◌}
+use Rattle.std.proofs.Common.{◌≡◌, ℕ, true, false, Some, None, List, [], ◌∷◌, Vec, Global, map, bytes_eq, refl, ap, sym, ◌∙◌, inl, inr, if◌then◌else◌}
 use Rattle.std.proofs.lemmas.Bool.{cases_Bool, both_ways}
 use Rattle.std.specs.Map.{lookup}
 use Rattle.indexmap.specs.IndexMap.{insert_entry}
-use Rattle.name_table.specs.Table.{IsPut, value_of}
+use Rattle.name_table.specs.Table.{IsPut, IsRemoved, value_of}
 
-same_name : (a b : List ℕ) → bytes_eq a b ≡ true → a ≡ b
+pub same_name : (a b : List ℕ) → bytes_eq a b ≡ true → a ≡ b
 same_name a b same = (bytes_decides a b).0 same
 
 module _ {T : Type 0} where
@@ -43,4 +43,15 @@ module _ {T : Type 0} where
                   ]
               | inr there ↦ rw there (put es key value other)
             ])
+      ]
+
+  pub removed : (es left : List (Vec ℕ Global × T)) (name : List ℕ) → lookup (λ key. bytes_eq name key.items) left ≡ None
+      → ((other : List ℕ) → bytes_eq other name ≡ false → lookup (λ key. bytes_eq other key.items) left ≡ lookup (λ key. bytes_eq other key.items) es)
+      → IsRemoved (table_of es) (table_of left) name
+  removed es left name gone kept other =
+      found left other ∙ elim (cases_Bool (bytes_eq other name)) [
+        | inl same ↦
+            let is : other ≡ name = same_name other name same in
+            rw same (ap (λ (n : List ℕ). lookup (λ key. bytes_eq n key.items) left) is ∙ gone)
+        | inr apart ↦ rw apart (kept other apart ∙ sym (found es other))
       ]

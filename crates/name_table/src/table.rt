@@ -1,30 +1,36 @@
 //! A table of values by name.
-ghost use Rattle.std.specs.Prelude.{◌≡◌, [], OnErr, OnOk};
+ghost use Rattle.std.specs.Prelude.{◌≡◌, ◌≤◌, [], OnErr, OnOk};
 ghost use Rattle.std.specs.Option.{option_copied};
-ghost use Rattle.name_table.specs.Table.{IsPut, value_of};
+ghost use Rattle.name_table.specs.Table.{IsPut, IsRemoved, value_of};
 
 use indexmap::IndexMap;
 use std::alloc::{AllocError, Global};
 use std::marker::Model;
 
-/// A value for each of some names. A contract sees the list of them, and goes by what a name has there.
+/// A value for each of some names. A contract sees the list of them, and goes by what a name has there;
+/// and for how many more names there is room.
 #[derive(Drop)]
 pub struct NameTable<T> {
     values: IndexMap<Vec<u8>, T>,
 }
 
 impl<T> Model for NameTable<T> {
-    ghost use Rattle.std.specs.Prelude.{ℕ, List, map};
+    ghost use Rattle.std.specs.Prelude.{map};
+    ghost use Rattle.indexmap.specs.IndexMap.{spare};
+    ghost use Rattle.name_table.specs.Table.{Table};
 
-    ghost Value = { List (List ℕ × T) };
+    ghost Value = { Table T };
 
-    ghost view = { λ t. map (λ e. (e.0.items, e.1)) t.values.entries };
+    ghost view = { λ t. record {
+      values = map (λ e. (e.0.items, e.1)) t.values.entries;
+      room = spare t.values;
+    } };
 }
 
 impl<T: Drop> NameTable<T> {
     /// A table without a name.
     pub fn new(alloc: Global) -> NameTable<T>
-        ensures { result ≡ [] }
+        ensures { result.values ≡ [] }
     {
         NameTable {
             values: IndexMap::new(alloc),
@@ -33,18 +39,43 @@ impl<T: Drop> NameTable<T> {
 
     /// The value of the name, if it has one.
     pub fn get(&self, name: &[u8]) -> Option<&T>
-        ensures { option_copied result ≡ value_of self.now name.now }
+        ensures { option_copied result ≡ value_of self.now.values name.now }
     {
         self.values.get(name)
     }
 
     /// Puts a value under the name, in the place of the one that it has.
     pub fn put(&mut self, alloc: Global, name: &[u8], value: T) -> Result<(), AllocError>
-        ensures put { OnOk result (IsPut self.old self.new name.now value) }
-        ensures kept { OnErr result (self.new ≡ self.old) }
+        ensures put { OnOk result (IsPut self.old.values self.new.values name.now value) }
+        ensures kept { OnErr result (self.new.values ≡ self.old.values) }
     {
         let name = Vec::from_slice(alloc, name)?;
         self.values.insert(name, value)?;
         Ok(())
+    }
+
+    /// Makes room for one name more.
+    pub fn reserve(&mut self) -> Result<(), AllocError>
+        ensures room { OnOk result (1 ≤ self.new.room) }
+        ensures kept { self.new.values ≡ self.old.values }
+    {
+        self.values.reserve(1)
+    }
+
+    /// Puts a value under the name, in the place of the one that it has. There is room; so this takes no
+    /// memory.
+    pub fn put_within(&mut self, name: Vec<u8>, value: T)
+        requires { 1 ≤ self.old.room }
+        ensures { IsPut self.old.values self.new.values name.items value }
+    {
+        self.values.insert(name, value).unwrap();
+    }
+
+    /// Takes the name away with its value, where it has one.
+    pub fn remove(&mut self, name: &[u8])
+        ensures removed { IsRemoved self.old.values self.new.values name.now }
+        ensures room { self.old.room ≤ self.new.room }
+    {
+        drop(self.values.swap_remove(name));
     }
 }

@@ -1,6 +1,4 @@
-use Rattle.std.proofs.Common.{◌≡◌, ap, sym, ◌∙◌, subst}
-use Rattle.name_table.specs.Table.{IsPut}
-use Rattle.name_table.proofs.Tables.{put, table_of}
+use Rattle.name_table.proofs.Tables.{put}
 use Rattle.name_table.proofs.table.NameTable.put.Goals as goal
 
 pub returns-clause-put : goal.returns-clause-put
