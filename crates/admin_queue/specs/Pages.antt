@@ -22,8 +22,8 @@ pub record Pages : Type 0 where
 abbrev pub pages_in : PagesLent → Pages
 pages_in p = record {
   discovery = page_in p.discovery.now.shown;
-  active = active_page p.active.now;
-  ana = ana_page_in p.ana.now;
+  active = active_page p.active.now.shown;
+  ana = ana_page_in p.ana.now.shown;
 }
 
 -- a discovery controller has no ANA groups

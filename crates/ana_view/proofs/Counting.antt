@@ -7,7 +7,9 @@ use Rattle.std.proofs.lemmas.List.{ext_get_or, get_or-set_other, get_or-set_same
 use Rattle.std.specs.List.{filter_map, list_any}
 use Rattle.config_words.specs.Numbered.{numbers_from}
 use Rattle.ana_view.specs.Changes.{changes_since, counts_of, edited, group_changes_since, one_where}
-use Rattle.ana_view.specs.Counts.{count_after, count_in, for_each_group}
+use Rattle.config_rules.specs.Configuration.{Configuration}
+use Rattle.ana_view.specs.Counts.{Counts, count_after, count_in, counts_after, counts_with, for_each_group}
+use Rattle.ana_view.specs.GroupChanges.{AreChanges, has_changed}
 use Rattle.ana_view.specs.Group.{Descriptor, any_group, changes_ana, changes_group, listed_by}
 use Rattle.ana_view.specs.Laws.{ChangesAreCounted}
 use Rattle.ana_view.proofs.Numbers.{up_to}
@@ -119,6 +121,19 @@ changes_are_counted = record {
       let changes = counted_more (changes_ana old new subsystem port) (changes_since before subsystem port) (2 ^ 64) refl in
       rw (groups, changes) refl;
 }
+
+-- ---- what an edit changes
+
+pub any_changed : (old new : Configuration) (subsystem : List ℕ) (port : ℕ) (changes : List Bool) → AreChanges old new subsystem port changes
+    → any_group (has_changed changes) ≡ changes_ana old new subsystem port
+any_changed old new subsystem port changes are = any_alike (has_changed changes) (changes_group old new subsystem port) are
+
+pub counted_changes : (old new : Configuration) (subsystem : List ℕ) (port : ℕ) (changes : List Bool) (counts : Counts) → AreChanges old new subsystem port changes
+    → counts_with (has_changed changes) counts ≡ counts_after old new subsystem port counts
+counted_changes old new subsystem port changes counts are =
+    let groups = each_alike (λ group. count_after (has_changed changes group) (count_in counts.groups group)) (λ group. count_after (changes_group old new subsystem port group) (count_in counts.groups group))
+    (λ group above below. ap (λ b. count_after b (count_in counts.groups group)) (are group above below)) in
+    rw (groups, any_changed old new subsystem port changes are) refl
 
 -- ---- group by group
 

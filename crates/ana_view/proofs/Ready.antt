@@ -1,5 +1,5 @@
 -- The groups that are ready: each subsystem's are those that it shows, on each port.
-use Rattle.std.proofs.Common.{◌≡◌, ◌==◌, ◌&&◌, ◌||◌, ℕ, Bool, true, false, Option, Some, None, is_some, List, [], ◌∷◌, ◌++◌, IfSome, Ok, find, map, bytes_eq, nat_eq, refl, ap, sym, subst, ◌∙◌, inl, inr, unwrap_or, arith, if◌then◌else◌}
+use Rattle.std.proofs.Common.{◌≡◌, ◌≢◌, ◌==◌, ◌&&◌, ◌||◌, ℕ, Bool, true, false, Option, Some, None, is_some, List, [], ◌∷◌, ◌++◌, IfSome, find, map, bytes_eq, nat_eq, refl, ap, sym, subst, ◌∙◌, inl, inr, unwrap_or, arith, if◌then◌else◌}
 use Rattle.std.proofs.lemmas.Bool.{both_ways, cases_Bool, false_from_ne_true}
 use Rattle.std.proofs.lemmas.Bool.Decides.{nat_tests}
 use Rattle.std.proofs.lemmas.List.Folds.{list_any-append}
@@ -13,18 +13,15 @@ use Rattle.config_lists.specs.Namespace.{is_named}
 use Rattle.config_lists.proofs.Names.{bytes_eq-same, same_name}
 use Rattle.config_rules.specs.Configuration.{Configuration, has_subsystem}
 use Rattle.config_rules.specs.Valid.{IsValid}
-use Rattle.config_words.proofs.Sets.{no_nsids, nsids_alike}
-use Rattle.config_edits.specs.declared.edit.Edit.{Edit}
-use Rattle.config_rules.specs.Accept.{accept}
-use Rattle.edit_reach.specs.Reach.{StaysAsItWas, is_reached, subsystem_reached}
-use Rattle.edit_reach.proofs.Found.{none_found, same_namespace, same_state}
-use Rattle.edit_reach.proofs.Others.{stays}
+use Rattle.config_words.proofs.Sets.{no_nsids}
+use Rattle.edit_reach.proofs.Found.{none_found}
 use Rattle.indexmap.specs.IndexMap.{insert_entry}
-use Rattle.name_table.specs.Table.{IsPut, value_of}
-use Rattle.ana_view.specs.Bodies.{AreListed, HasMore, IsAfter}
+use Rattle.name_table.specs.Table.{IsPut, IsRemoved, value_of}
+use Rattle.ana_view.specs.Bodies.{AddsGroups, AreListed, HasMore, HasPorts, no_groups}
 use Rattle.ana_view.specs.Group.{Descriptor, descriptor, descriptor_with, is_in_group, listed, listed_by, members}
-use Rattle.ana_view.specs.View.{OfSubsystem, Shown, ShowsAna, groups_at, groups_in, groups_on}
+use Rattle.ana_view.specs.View.{AreGroupsOf, AreSet, OfSubsystem, Shown, ShowsAna, groups_at, groups_in}
 use Rattle.ana_view.proofs.Counting.{listed_alike}
+use Rattle.ana_view.proofs.Listed.{none_on, plain_groups}
 
 -- ---- the ports of one subsystem
 
@@ -79,10 +76,6 @@ there_already es port there p =
 
 -- ---- a port without a state
 
--- a port has an entry exactly where a state was set on it
-abbrev pub HasPorts : List ℕ → List GroupState → Ports → Type 0
-HasPorts subsystem states ports = (port : ℕ) → list_any (is_state_on port subsystem) states ≡ is_some (lookup (nat_eq port) ports)
-
 pub more_ports : (subsystem : List ℕ) (states : List GroupState) (s : GroupState) (old new : Ports) → bytes_eq s.subsystem subsystem ≡ true → HasMore old new s.port → HasPorts subsystem states old → HasPorts subsystem (states ++ s ∷ []) new
 more_ports subsystem states s old new own more has port =
     let on : is_state_on port subsystem s ≡ nat_eq port s.port = ap (λ b. (s.port == port) && b) own ∙ turned s.port port in
@@ -122,44 +115,56 @@ none_set port subsystem group (s ∷ states) none =
       | inr off ↦ rw off (none_set port subsystem group states (sym (ap (λ b. b || list_any (is_state_on port subsystem) states) off) ∙ none))
     ]
 
--- the groups as they are where no state was set
-abbrev pub plain_groups : Configuration → List ℕ → List Descriptor
-plain_groups c subsystem = listed_by (λ group. descriptor_with group Optimized (members c subsystem group))
-
-pub all_on : (c : Configuration) (subsystem : List ℕ) (v : OfSubsystem) → v.plain ≡ plain_groups c subsystem → AreListed c subsystem v.ports → HasPorts subsystem c.states v.ports
-    → (port : ℕ) → groups_on v port ≡ listed c subsystem port
-all_on c subsystem v plain are has port = by_entry (lookup (nat_eq port) v.ports) (are port) (has port) where
-  by_entry : (o : Option (List Descriptor)) → IfSome o (λ groups. groups ≡ listed c subsystem port) → list_any (is_state_on port subsystem) c.states ≡ is_some o → unwrap_or o v.plain ≡ listed c subsystem port
-  by_entry None are none =
+all_on : (c : Configuration) (subsystem : List ℕ) (v : OfSubsystem) → v.plain ≡ plain_groups c subsystem → AreListed c subsystem v.ports → HasPorts subsystem c.states v.ports
+    → AreGroupsOf c subsystem v
+all_on c subsystem v plain are has = record {
+  on_each = λ port. by_entry port (lookup (nat_eq port) v.ports) (are port) (has port);
+} where
+  by_entry : (port : ℕ) (o : Option (List Descriptor)) → IfSome o (λ groups. groups ≡ listed c subsystem port) → list_any (is_state_on port subsystem) c.states ≡ is_some o → unwrap_or o v.plain ≡ listed c subsystem port
+  by_entry port None are none =
       plain ∙ listed_alike (λ group. descriptor_with group Optimized (members c subsystem group)) (descriptor c subsystem port)
       (λ group above below. ap (λ s. descriptor_with group s (members c subsystem group)) (sym (none_set port subsystem group c.states none)))
-  by_entry (Some groups) is some = is
+  by_entry port (Some groups) is some = is
+
+-- a subsystem without a namespace has no groups
+none_at_all : (c : Configuration) (subsystem : List ℕ) (v : OfSubsystem) → v.plain ≡ plain_groups c subsystem → v.plain ≡ [] → v.ports ≡ [] → AreGroupsOf c subsystem v
+none_at_all c subsystem v plain empty ports = record {
+  on_each = λ port.
+      ap (λ (ps : Ports). unwrap_or (lookup (nat_eq port) ps) v.plain) ports ∙ empty ∙ sym (none_on c subsystem port (sym plain ∙ empty));
+}
+
+pub groups_of : (c : Configuration) (subsystem : List ℕ) (v : OfSubsystem) → v.plain ≡ plain_groups c subsystem → AreListed c subsystem v.ports → (v.plain ≢ [] → HasPorts subsystem c.states v.ports)
+    → (v.plain ≡ [] → v.ports ≡ []) → AreGroupsOf c subsystem v
+groups_of c subsystem v plain are has sparse = by_list v.plain refl where
+  by_list : (l : List Descriptor) → v.plain ≡ l → AreGroupsOf c subsystem v
+  by_list [] empty = none_at_all c subsystem v plain empty (sparse empty)
+  by_list (d ∷ ds) some = all_on c subsystem v plain are (has (λ none. absurd (cc (some, none))))
 
 -- ---- the subsystems
 
 abbrev pub names_of : List Subsystem → List (List ℕ)
 names_of subsystems = map (λ s. s.nqn) subsystems
 
--- what a table has for a name: the groups of that subsystem, or nothing for one that is not among these
-abbrev IsOf : Configuration → List (List ℕ) → List ℕ → Option OfSubsystem → Type 0
-IsOf c names name None = list_any (bytes_eq name) names ≡ false
-IsOf c names name (Some v) = (port : ℕ) → groups_on v port ≡ listed c name port
+-- of these subsystems are shown the groups that they have in a configuration, and of no other any
+abbrev pub AreShown : Configuration → List (List ℕ) → Shown → Type 0
+AreShown c names v = (name : List ℕ) (port : ℕ) → groups_in v name port ≡ (if list_any (bytes_eq name) names then listed c name port else [])
 
-abbrev pub AreOf : Configuration → List (List ℕ) → List (List ℕ × OfSubsystem) → Type 0
-AreOf c names table = (name : List ℕ) → IsOf c names name (value_of table name)
-
-pub of_next : (c : Configuration) (names : List (List ℕ)) (name : List ℕ) (v : OfSubsystem) (old new : List (List ℕ × OfSubsystem)) → AreOf c names old → IsPut old new name v
-    → ((port : ℕ) → groups_on v port ≡ listed c name port) → AreOf c (names ++ name ∷ []) new
-of_next c names name v old new are put groups other =
-    rw (put other) (elim (cases_Bool (bytes_eq other name)) [
+pub shown_next : (c : Configuration) (names : List (List ℕ)) (name : List ℕ) (old new : Shown) → AreShown c names old → AddsGroups c old name new → AreShown c (names ++ name ∷ []) new
+shown_next c names name old new are adds other port =
+    adds other port ∙ rw (list_any-append (bytes_eq other) names (name ∷ [])) (
+    elim (cases_Bool (bytes_eq other name)) [
       | inl same ↦
           let is : name ≡ other = sym (same_name other name same) in
-          rw same (λ port. groups port ∙ ap (λ (l : List ℕ). listed c l port) is)
-      | inr apart ↦ rw apart (still (value_of old other) (are other) apart)
+          rw (same, or_true (list_any (bytes_eq other) names)) (ap (λ (l : List ℕ). listed c l port) is)
+      | inr apart ↦ rw (apart, or_false (list_any (bytes_eq other) names)) (are other port)
     ]) where
-      still : (o : Option OfSubsystem) → IsOf c names other o → bytes_eq other name ≡ false → IsOf c (names ++ name ∷ []) other o
-      still None absent apart = list_any-append (bytes_eq other) names (name ∷ []) ∙ ap (λ b. b || (bytes_eq other name || false)) absent ∙ ap (λ b. b || false) apart
-      still (Some w) is apart = is
+      or_true : (b : Bool) → (b || (true || false)) ≡ true
+      or_true true = refl
+      or_true false = refl
+
+      or_false : (b : Bool) → (b || (false || false)) ≡ b
+      or_false true = refl
+      or_false false = refl
 
 among : (subsystems : List Subsystem) (name : List ℕ) → has_subsystem subsystems name ≡ true → list_any (bytes_eq name) (names_of subsystems) ≡ true
 among [] name there = there
@@ -188,35 +193,36 @@ none_listed c subsystem port valid none =
     listed_alike (descriptor c subsystem port) (λ _. None) (λ group above below.
     ap (descriptor_with group (state_for port subsystem group c.states)) (no_members c subsystem group (none_found c subsystem valid none)))
 
-pub shows_ana : (c : Configuration) (v : Shown) → IsValid c → AreOf c (names_of c.subsystems) v.subsystems → ShowsAna c v
+pub none_shown : (c : Configuration) (table : List (List ℕ × OfSubsystem)) → table ≡ [] → AreShown c [] (record { subsystems = table })
 unfolding groups_in
+none_shown c table none name port = ap (λ (t : List (List ℕ × OfSubsystem)). groups_at (value_of t name) port) none
+
+pub shows_ana : (c : Configuration) (v : Shown) → IsValid c → AreShown c (names_of c.subsystems) v → ShowsAna c v
 shows_ana c v valid are = record {
-  groups = λ subsystem port. by_value subsystem port (value_of v.subsystems subsystem) (are subsystem);
+  groups = λ subsystem port. are subsystem port ∙ by_test subsystem port (list_any (bytes_eq subsystem) (names_of c.subsystems)) refl;
 } where
-  by_value : (subsystem : List ℕ) (port : ℕ) (o : Option OfSubsystem) → IsOf c (names_of c.subsystems) subsystem o → groups_at o port ≡ listed c subsystem port
-  by_value subsystem port None none =
+  by_test : (subsystem : List ℕ) (port : ℕ) (b : Bool) → list_any (bytes_eq subsystem) (names_of c.subsystems) ≡ b → (if b then listed c subsystem port else []) ≡ listed c subsystem port
+  by_test subsystem port true there = refl
+  by_test subsystem port false none =
       sym (none_listed c subsystem port valid (false_from_ne_true (has_subsystem c.subsystems subsystem) (λ has. both_ways (list_any (bytes_eq subsystem) (names_of c.subsystems)) none (among c.subsystems subsystem has))))
-  by_value subsystem port (Some w) is = is port
 
--- ---- an edit that reaches no subsystem
+-- ---- the groups of one subsystem are set
 
-members_stay : (old new : Configuration) (subsystem : List ℕ) (group : ℕ) → StaysAsItWas old new subsystem → members new subsystem group ≡ members old subsystem group
-unfolding members
-members_stay old new subsystem group stays =
-    nsids_alike (λ n. is_in_group (find (is_named subsystem n) new.namespaces) group) (λ n. is_in_group (find (is_named subsystem n) old.namespaces) group) (λ nsid above below.
-    ap (λ o. is_in_group o group) (same_namespace old new subsystem stays nsid))
+abbrev Table : Type 0
+Table = List (List ℕ × OfSubsystem)
 
-listed_stays : (old new : Configuration) (subsystem : List ℕ) (port : ℕ) → StaysAsItWas old new subsystem → listed new subsystem port ≡ listed old subsystem port
-listed_stays old new subsystem port stays =
-    listed_alike (descriptor new subsystem port) (descriptor old subsystem port) (λ group above below.
-    ap (λ state. descriptor_with group state (members new subsystem group)) (same_state old new subsystem stays port group)
-    ∙ ap (descriptor_with group (state_for port subsystem group old.states)) (members_stay old new subsystem group stays))
+pub put_set : (old new : Table) (name : List ℕ) (groups : OfSubsystem) → IsPut old new name groups → AreSet (record { subsystems = old }) name groups (record { subsystems = new })
+unfolding groups_in
+put_set old new name groups put other port =
+    ap (λ o. groups_at o port) (put other) ∙ elim (cases_Bool (bytes_eq other name)) [
+      | inl same ↦ rw same refl
+      | inr apart ↦ rw apart refl
+    ]
 
-pub shows_after : (c next : Configuration) (edit : Edit) (v : Shown) (bodies : Option Shown) → accept c edit ≡ Ok next → ShowsAna c v → IsAfter edit next bodies → ShowsAna next (unwrap_or bodies v)
-shows_after c next edit v None accepted shows unreached = record {
-  groups = λ subsystem port.
-      let apart : is_reached (subsystem_reached edit) subsystem ≡ false = ap (λ o. is_reached o subsystem) unreached in
-      let stays : StaysAsItWas c next subsystem = rw accepted at (stays c edit subsystem apart) in
-      shows.groups subsystem port ∙ sym (listed_stays c next subsystem port stays);
-}
-shows_after c next edit v (Some w) accepted shows after = after
+pub removed_set : (old new : Table) (name : List ℕ) → IsRemoved old new name → AreSet (record { subsystems = old }) name no_groups (record { subsystems = new })
+unfolding groups_in
+removed_set old new name removed other port =
+    ap (λ o. groups_at o port) (removed other) ∙ elim (cases_Bool (bytes_eq other name)) [
+      | inl same ↦ rw same refl
+      | inr apart ↦ rw apart refl
+    ]

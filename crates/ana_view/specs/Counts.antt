@@ -2,7 +2,7 @@
 use Rattle.std.specs.Prelude.{ℕ, ◌+◌, ◌-◌, ◌%◌, ◌^◌, Bool, true, false, List, map, slice_index}
 use Rattle.config_rules.specs.Configuration.{Configuration}
 use Rattle.config_words.specs.Numbered.{numbers_from}
-use Rattle.ana_view.specs.Group.{changes_ana, changes_group}
+use Rattle.ana_view.specs.Group.{any_group, changes_group}
 
 -- how often what is shown changed, and how often each group from 1 to 32 did
 pub record Counts : Type 0 where
@@ -25,9 +25,13 @@ abbrev pub count_after : Bool → ℕ → ℕ
 count_after true n = (n + 1) % 2 ^ 64
 count_after false n = n
 
--- the counts after a change from one configuration to another
-abbrev pub counts_after : Configuration → Configuration → List ℕ → ℕ → Counts → Counts
-counts_after old new subsystem port counts = record {
-  changes = count_after (changes_ana old new subsystem port) counts.changes;
-  groups = for_each_group (λ group. count_after (changes_group old new subsystem port group) (count_in counts.groups group));
+-- the counts after some groups have changed
+abbrev pub counts_with : (ℕ → Bool) → Counts → Counts
+counts_with changed counts = record {
+  changes = count_after (any_group changed) counts.changes;
+  groups = for_each_group (λ group. count_after (changed group) (count_in counts.groups group));
 }
+
+-- .. after a change from one configuration to another
+abbrev pub counts_after : Configuration → Configuration → List ℕ → ℕ → Counts → Counts
+counts_after old new subsystem port counts = counts_with (changes_group old new subsystem port) counts

@@ -1,8 +1,8 @@
-pub mod After
 pub mod Bodies
 pub mod Changes
 pub mod Counts
 pub mod Group
+pub mod GroupChanges
 pub mod Laws
 pub mod Page
 pub mod Tables

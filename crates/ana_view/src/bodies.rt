@@ -1,116 +1,46 @@
 //! The ANA groups of each subsystem on each port, ready.
-ghost use Rattle.std.specs.Prelude.{◌≡◌, ℕ, IfOk, OnOk};
-ghost use Rattle.name_table.specs.Table.{IsPut};
-ghost use Rattle.ana_view.specs.Bodies.{AreListed, HasMore};
-ghost use Rattle.ana_view.specs.Group.{listed};
-ghost use Rattle.ana_view.specs.View.{AreFew, ShowsAna, groups_in, groups_on};
+ghost use Rattle.std.specs.Prelude.{◌≡◌, ◌≢◌, ◌≤◌, IfOk, OnOk};
+ghost use Rattle.ana_view.specs.View.{AreFew, AreSet, ShowsAna, groups_in};
 
-use crate::group_list::{AnaGroup, GroupList};
-use crate::groups::Groups;
-use indexmap::IndexMap;
+use crate::group_list::AnaGroup;
+use crate::subsystem::SubsystemGroups;
 use name_table::NameTable;
 use nvt_config::Config;
 use std::alloc::{AllocError, Global};
 use std::marker::Model;
 
-/// The groups of one subsystem: on each port for which a state was set, and those on every other port,
-/// where each state is optimized.
-#[derive(Drop)]
-pub(crate) struct SubsystemGroups {
-    plain: GroupList,
-    ports: IndexMap<u16, GroupList>,
-}
-
-impl Model for SubsystemGroups {
-    ghost use Rattle.ana_view.specs.View.{OfSubsystem};
-
-    ghost Value = { OfSubsystem };
-
-    ghost view = { λ g. record { plain = g.plain; ports = g.ports.entries } };
-}
-
-impl SubsystemGroups {
-    /// Those of a configuration.
-    pub(crate) fn of(
-        alloc: Global,
-        config: &Config,
-        subsystem: &[u8],
-    ) -> Result<SubsystemGroups, AllocError>
-        ensures { IfOk result (λ groups. (port : ℕ) → groups_on groups port
-            ≡ listed config.now subsystem.now port) }
-    {
-        let plain = GroupList::of(alloc, &Groups::plain(config, subsystem))?;
-        let mut groups = SubsystemGroups {
-            plain,
-            ports: IndexMap::new(alloc),
-        };
-        for state in config.states() {
-            if state.subsystem.as_bytes() == subsystem {
-                groups.add(alloc, config, subsystem, state.port)?;
-            }
-        }
-        Ok(groups)
-    }
-
-    /// Those on a port.
-    pub(crate) fn on(&self, port: u16) -> &[AnaGroup]
-        ensures lent { result.now ≡ groups_on self.now port }
-        ensures few { AreFew result.now }
-    {
-        match self.ports.get(&port) {
-            Some(list) => list.as_slice(),
-            None => self.plain.as_slice(),
-        }
-    }
-
-    // Adds those on a port, unless they are there.
-    fn add(
-        &mut self,
-        alloc: Global,
-        config: &Config,
-        subsystem: &[u8],
-        port: u16,
-    ) -> Result<(), AllocError>
-        requires { AreListed config.now subsystem.now self.old.ports }
-        ensures listed { OnOk result (AreListed config.now subsystem.now self.new.ports) }
-        ensures more { OnOk result (HasMore self.old.ports self.new.ports port) }
-        ensures plain { self.new.plain ≡ self.old.plain }
-    {
-        if self.ports.contains_key(&port) {
-            return Ok(());
-        }
-        let list = GroupList::of(alloc, &Groups::of(config, subsystem, port))?;
-        self.ports.insert(port, list)?;
-        Ok(())
-    }
-}
-
-/// The groups of each subsystem.
+/// The groups of each subsystem that holds a namespace.
 #[derive(Drop)]
 pub(crate) struct Bodies {
     subsystems: NameTable<SubsystemGroups>,
 }
 
 impl Model for Bodies {
-    ghost use Rattle.ana_view.specs.View.{Shown};
+    ghost use Rattle.ana_view.specs.Bodies.{EachHasGroups};
+    ghost use Rattle.ana_view.specs.View.{ViewState};
 
-    ghost Value = { Shown };
+    ghost Value = { ViewState };
 
-    ghost view = { λ b. record { subsystems = b.subsystems } };
+    ghost view = { λ b. record {
+      shown = record { subsystems = b.subsystems.values };
+      room = b.subsystems.room;
+    } };
+
+    ghost invariant = { λ b. EachHasGroups b.subsystems.values };
 }
 
 impl Bodies {
+    ghost use Rattle.ana_view.specs.Bodies.{AddsGroups, no_groups};
+
     /// Those of a configuration.
     pub(crate) fn of(alloc: Global, config: &Config) -> Result<Bodies, AllocError>
-        ensures { IfOk result (ShowsAna config.now) }
+        ensures { IfOk result (λ bodies. ShowsAna config.now bodies.shown) }
     {
         let mut bodies = Bodies {
             subsystems: NameTable::new(alloc),
         };
         for subsystem in config.subsystems() {
-            let name = subsystem.nqn.as_bytes();
-            let groups = SubsystemGroups::of(alloc, config, name)?;
-            bodies.put(alloc, name, groups)?;
+            bodies.add(alloc, config, subsystem.nqn.as_bytes())?;
         }
         Ok(bodies)
     }
@@ -118,7 +48,7 @@ impl Bodies {
     /// Those of a subsystem on a port: none where the subsystem is not there.
     #[tactic(auto, unfolding(crate::specs::View::groups_in))]
     pub(crate) fn get(&self, subsystem: &[u8], port: u16) -> &[AnaGroup]
-        ensures lent { result.now ≡ groups_in self.now subsystem.now port }
+        ensures lent { result.now ≡ groups_in self.now.shown subsystem.now port }
         ensures few { AreFew result.now }
     {
         match self.subsystems.get(subsystem) {
@@ -127,15 +57,51 @@ impl Bodies {
         }
     }
 
-    // Puts the groups of a subsystem.
-    fn put(
-        &mut self,
-        alloc: Global,
-        subsystem: &[u8],
-        groups: SubsystemGroups,
-    ) -> Result<(), AllocError>
-        ensures { OnOk result (IsPut self.old.subsystems self.new.subsystems subsystem.now groups) }
+    /// Makes room for one subsystem more.
+    pub(crate) fn reserve(&mut self) -> Result<(), AllocError>
+        ensures room { OnOk result (1 ≤ self.new.room) }
+        ensures kept { self.new.shown ≡ self.old.shown }
     {
-        self.subsystems.put(alloc, subsystem, groups)
+        self.subsystems.reserve()
+    }
+
+    /// Sets the groups of a subsystem, for which there is room; where it has none, nothing is kept of
+    /// it. Takes no memory.
+    pub(crate) fn set(&mut self, subsystem: Vec<u8>, groups: SubsystemGroups)
+        requires { 1 ≤ self.old.room }
+        ensures { AreSet self.old.shown subsystem.items groups self.new.shown }
+    {
+        if groups.is_empty() {
+            self.remove(subsystem.as_slice());
+        } else {
+            self.put(subsystem, groups);
+        }
+    }
+
+    // Sets the groups of a subsystem that has some.
+    fn put(&mut self, subsystem: Vec<u8>, groups: SubsystemGroups)
+        requires room { 1 ≤ self.old.room }
+        requires held { groups ≢ no_groups }
+        ensures { AreSet self.old.shown subsystem.items groups self.new.shown }
+    {
+        self.subsystems.put_within(subsystem, groups);
+    }
+
+    // Takes away those of a subsystem.
+    fn remove(&mut self, subsystem: &[u8])
+        ensures { AreSet self.old.shown subsystem.now no_groups self.new.shown }
+    {
+        self.subsystems.remove(subsystem);
+    }
+
+    // Sets those that a subsystem has in a configuration.
+    fn add(&mut self, alloc: Global, config: &Config, subsystem: &[u8]) -> Result<(), AllocError>
+        ensures { OnOk result (AddsGroups config.now self.old.shown subsystem.now self.new.shown) }
+    {
+        let name = Vec::from_slice(alloc, subsystem)?;
+        self.reserve()?;
+        let groups = SubsystemGroups::of(alloc, config, subsystem)?;
+        self.set(name, groups);
+        Ok(())
     }
 }

@@ -1,16 +1,15 @@
 //! How often edits changed what one controller shows.
 ghost use Rattle.std.specs.Prelude.{◌≡◌};
-ghost use Rattle.ana_view.specs.Counts.{count_after, count_in, for_each_group};
+ghost use Rattle.config_rules.specs.Configuration.{Configuration};
+ghost use Rattle.ana_view.specs.Counts.{count_after, count_in, counts_with, for_each_group};
 ghost use Rattle.ana_view.specs.Group.{any_group, changes_ana};
-ghost use Rattle.ana_view.specs.Tables.{group_differs};
+ghost use Rattle.ana_view.specs.GroupChanges.{has_changed};
+ghost use Rattle.ana_view.specs.View.{PlansEdit};
 
-use crate::groups::Groups;
-use crate::view::Plan;
+use crate::group_changes::{GROUPS, GroupChanges};
+use crate::plan::Plan;
 use config_tables::GROUP_END;
 use std::marker::Model;
-
-// How many ANA groups there may be.
-const GROUPS: usize = GROUP_END as usize - 1;
 
 /// The change counts of the Asymmetric Namespace Access log page of one controller: the page's own,
 /// and one for each group. They take no memory, and go round after 64 bits.
@@ -54,14 +53,20 @@ impl AnaCounts {
     /// show; whether it changes anything. It comes before the plan is committed. A group that comes,
     /// goes, gets or loses a namespace, or goes over to another state has changed.
     pub fn note(&mut self, plan: &Plan, subsystem: &[u8], port: u16) -> bool
-        ensures changed { result
-            ≡ changes_ana plan.now.old plan.now.new subsystem.now port }
-        ensures counts { self.new
-            ≡ counts_after plan.now.old plan.now.new subsystem.now port self.old }
+        ensures changed { (old new : Configuration) → PlansEdit old new plan.now
+            → result ≡ changes_ana old new subsystem.now port }
+        ensures counts { (old new : Configuration) → PlansEdit old new plan.now
+            → self.new ≡ counts_after old new subsystem.now port self.old }
     {
-        let old = Groups::of(plan.old(), subsystem, port);
-        let new = Groups::of(plan.groups_after(), subsystem, port);
-        let changed = count_changes(&mut self.groups, &old, &new);
+        self.count(&GroupChanges::of(plan, subsystem, port))
+    }
+
+    /// Counts each of these groups, and the page, where there is one; whether there is.
+    pub fn count(&mut self, changes: &GroupChanges) -> bool
+        ensures changed { result ≡ any_group (has_changed changes.now) }
+        ensures counts { self.new ≡ counts_with (has_changed changes.now) self.old }
+    {
+        let changed = count_groups(&mut self.groups, changes);
         if changed {
             self.changes = self.changes.wrapping_add(1);
         }
@@ -86,18 +91,15 @@ impl AnaCounts {
     }
 }
 
-// Counts each group that is another; whether one is.
-fn count_changes(counts: &mut [u64; GROUPS], old: &Groups<'_>, new: &Groups<'_>) -> bool
-    ensures changed { result ≡ any_group (group_differs old.now new.now) }
+// Counts each of these groups; whether there is one.
+fn count_groups(counts: &mut [u64; GROUPS], changes: &GroupChanges) -> bool
+    ensures changed { result ≡ any_group (has_changed changes.now) }
     ensures counts { counts.new ≡ for_each_group
-        (λ group. count_after (group_differs old.now new.now group) (count_in counts.old group)) }
+        (λ group. count_after (has_changed changes.now group) (count_in counts.old group)) }
 {
-    let old_sizes = old.sizes();
-    let new_sizes = new.sizes();
     let mut changed = false;
     for group in 1..GROUP_END {
-        let sizes = (old_sizes[group as usize], new_sizes[group as usize]);
-        if !old.is_same(new, group, sizes) {
+        if changes.has(group) {
             let at = group as usize - 1;
             counts[at] = counts[at].wrapping_add(1);
             changed = true;

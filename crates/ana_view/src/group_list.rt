@@ -1,5 +1,5 @@
 //! The ANA groups of one subsystem on one port, ready.
-ghost use Rattle.std.specs.Prelude.{◌≡◌, IfOk};
+ghost use Rattle.std.specs.Prelude.{◌≡◌, ◌↔◌, [], IfOk, IsTrue};
 ghost use Rattle.ana_view.specs.Tables.{listing_of, nsids_of};
 ghost use Rattle.ana_view.specs.View.{AreFew};
 
@@ -91,6 +91,13 @@ impl GroupList {
         ensures few { AreFew self.now }
     {
         self.groups.as_slice()
+    }
+
+    /// Whether there is none.
+    pub(crate) fn is_empty(&self) -> bool
+        ensures { IsTrue result ↔ (self.now ≡ []) }
+    {
+        self.groups.is_empty()
     }
 }
 

@@ -4,16 +4,20 @@
 //! and no command.
 #![tactic(auto)]
 
-mod after;
 mod bodies;
 pub mod counts;
+pub mod group_changes;
 pub mod group_list;
 mod groups;
 pub mod laws;
 mod page;
+pub mod plan;
 mod state;
+mod subsystem;
 pub mod view;
 
 pub use counts::AnaCounts;
+pub use group_changes::GroupChanges;
 pub use group_list::AnaGroup;
-pub use view::{AnaView, Plan};
+pub use plan::Plan;
+pub use view::AnaView;

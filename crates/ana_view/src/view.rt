@@ -4,22 +4,24 @@ ghost use Rattle.std.specs.Prelude.{◌≡◌, ℕ, IfOk, IsOk, Ok, length, slic
 ghost use Rattle.config_rules.specs.Accept.{accept};
 ghost use Rattle.nvt_fields.specs.Window.{window};
 ghost use Rattle.ana_view.specs.Counts.{Counts};
-ghost use Rattle.ana_view.specs.View.{ShowsAna, groups_in, page_in, shown_after};
+ghost use Rattle.ana_view.specs.View.{IsPlannedFor, IsShownAfter, PlansEdit, ShowsAna, Shown};
+ghost use Rattle.ana_view.specs.View.{groups_in, page_in};
 ghost use Rattle.std.specs.Option.{option_copied};
 
-use crate::after::After;
 use crate::bodies::Bodies;
 use crate::counts::AnaCounts;
 use crate::group_list::AnaGroup;
 use crate::page::{page_len, write_page};
+use crate::plan::{Plan, ReachedGroups};
+use edit_reach::subsystem_reached;
 use nvt_config::{Config, Edit};
 use std::alloc::{AllocError, Global};
 use std::marker::Model;
 
 /// The ANA groups that the controllers of each subsystem on each port show.
 ///
-/// They are ready: no call but `new` and `prepare` walks over a configuration, and nothing is kept of
-/// one.
+/// They are ready: no call but `new`, `prepare` and `prepare_to` walks over a configuration, and nothing
+/// is kept of one.
 #[derive(Drop)]
 pub struct AnaView {
     alloc: Global,
@@ -27,88 +29,78 @@ pub struct AnaView {
 }
 
 impl Model for AnaView {
-    ghost use Rattle.ana_view.specs.View.{Shown};
+    ghost use Rattle.ana_view.specs.View.{ViewState};
 
-    ghost Value = { Shown };
+    ghost Value = { ViewState };
 
     ghost view = { λ v. v.bodies };
-}
-
-/// What an edit will make of a view: the groups after it, where it reaches a subsystem's. With it are
-/// the configuration before the edit and what the edit makes of it, by which each controller counts what
-/// changes (`AnaCounts::note`).
-#[derive(Drop)]
-pub struct Plan {
-    before: Config,
-    after: After,
-}
-
-impl Model for Plan {
-    ghost use Rattle.ana_view.specs.After.{bodies_of, new_of};
-    ghost use Rattle.ana_view.specs.View.{Planned};
-
-    ghost Value = { Planned };
-
-    ghost view = { λ plan. record {
-      old = plan.before;
-      new = new_of plan.before plan.after;
-      shown = bodies_of plan.after;
-    } };
-}
-
-impl Plan {
-    /// The configuration before the edit.
-    pub fn old(&self) -> &Config
-        ensures { result.now ≡ self.now.old }
-    {
-        &self.before
-    }
-
-    /// A configuration whose namespaces and ANA states, and so its groups, are those after the edit; what
-    /// else it has may be as before.
-    pub fn groups_after(&self) -> &Config
-        ensures namespaces { result.now.namespaces ≡ self.now.new.namespaces }
-        ensures states { result.now.states ≡ self.now.new.states }
-    {
-        match &self.after {
-            After::Given(_) | After::Taken(_) => &self.before,
-            After::Whole(next, _) => next,
-        }
-    }
 }
 
 impl AnaView {
     /// The view of a configuration.
     pub fn new(alloc: Global, config: &Config) -> Result<AnaView, AllocError>
-        ensures { IfOk result (ShowsAna config.now) }
+        ensures { IfOk result (λ view. ShowsAna config.now view.shown) }
     {
         let bodies = Bodies::of(alloc, config)?;
         Ok(AnaView { alloc, bodies })
     }
 
-    /// Takes all the memory to go over to what an edit makes of the configuration that the view shows.
-    /// Every answer is as before, also after want of memory.
+    /// Takes all the memory to go over to what an edit makes of the configuration that the view shows:
+    /// none where the edit reaches no subsystem. Every answer is as before, also after want of memory.
     pub fn prepare(&mut self, config: &Config, edit: &Edit) -> Result<Plan, AllocError>
         requires { IsOk (accept config.now edit.now) }
-        ensures old { IfOk result (λ plan. plan.old ≡ config.now) }
-        ensures new { IfOk result (λ plan. accept config.now edit.now ≡ Ok plan.new) }
-        ensures next { ShowsAna config.now self.old
-            → IfOk result (λ plan. ShowsAna plan.new (shown_after self.old plan)) }
-        ensures kept { self.new ≡ self.old }
+        ensures planned { IfOk result (λ plan. IfOk (accept config.now edit.now)
+            (λ next. PlansEdit config.now next plan)) }
+        ensures next { ShowsAna config.now self.old.shown
+            → IfOk result (λ plan. IfOk (accept config.now edit.now)
+            (λ next. (v : Shown) → IsShownAfter self.old.shown plan v → ShowsAna next v)) }
+        ensures room { IfOk result (IsPlannedFor self.new.room) }
+        ensures kept { self.new.shown ≡ self.old.shown }
     {
-        let before = config.try_clone()?;
-        let after = After::of(self.alloc, config, edit)?;
-        Ok(Plan { before, after })
+        if subsystem_reached(edit).is_none() {
+            return Ok(Plan { reached: None });
+        }
+        let next = config.edited(edit)?;
+        self.prepare_to(config, &next, edit)
+    }
+
+    /// The same, for a caller that has the configuration after the edit already.
+    pub fn prepare_to(
+        &mut self,
+        config: &Config,
+        next: &Config,
+        edit: &Edit,
+    ) -> Result<Plan, AllocError>
+        requires { accept config.now edit.now ≡ Ok next.now }
+        ensures planned { IfOk result (PlansEdit config.now next.now) }
+        ensures next { ShowsAna config.now self.old.shown → IfOk result (λ plan. (v : Shown)
+            → IsShownAfter self.old.shown plan v → ShowsAna next.now v) }
+        ensures room { IfOk result (IsPlannedFor self.new.room) }
+        ensures kept { self.new.shown ≡ self.old.shown }
+    {
+        let Some(subsystem) = subsystem_reached(edit) else {
+            return Ok(Plan { reached: None });
+        };
+        self.bodies.reserve()?;
+        let reached = ReachedGroups::of(self.alloc, config, next, subsystem)?;
+        Ok(Plan {
+            reached: Some(reached),
+        })
     }
 
     /// Goes over to what was prepared last. Takes no memory.
     pub fn commit(&mut self, plan: Plan)
-        ensures { self.new ≡ shown_after self.old plan }
+        requires { IsPlannedFor self.old.room plan }
+        ensures { IsShownAfter self.old.shown plan self.new.shown }
     {
-        let Plan { before, after } = plan;
-        drop(before);
-        if let Some(bodies) = after.into_bodies() {
-            self.bodies = bodies;
+        if let Some(reached) = plan.reached {
+            let ReachedGroups {
+                subsystem,
+                before,
+                after,
+            } = reached;
+            drop(before);
+            self.bodies.set(subsystem, after);
         }
     }
 
@@ -116,7 +108,7 @@ impl AnaView {
     /// shows.
     pub fn group(&self, subsystem: &[u8], port: u16, index: usize) -> Option<&AnaGroup>
         ensures { option_copied result
-            ≡ slice_get (groups_in self.now subsystem.now port) index }
+            ≡ slice_get (groups_in self.now.shown subsystem.now port) index }
     {
         self.bodies.get(subsystem, port).get(index)
     }
@@ -133,7 +125,7 @@ impl AnaView {
         offset: u64,
         out: &mut [u8],
     )
-        ensures { out.new ≡ window (page_in self.now subsystem.now port counts.now groups_only)
+        ensures { out.new ≡ window (page_in self.now.shown subsystem.now port counts.now groups_only)
             offset (length out.old) }
     {
         write_page(
@@ -148,7 +140,7 @@ impl AnaView {
     /// The length of that page in bytes.
     pub fn len(&self, subsystem: &[u8], port: u16, groups_only: bool) -> u64
         ensures { (counts : Counts) → result
-            ≡ length (page_in self.now subsystem.now port counts groups_only) }
+            ≡ length (page_in self.now.shown subsystem.now port counts groups_only) }
     {
         page_len(self.bodies.get(subsystem, port), groups_only)
     }

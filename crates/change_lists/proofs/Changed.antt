@@ -8,16 +8,17 @@ use Rattle.std.specs.Option.{option_map}
 use Rattle.config_lists.specs.declared.namespace.Namespace.{Namespace}
 use Rattle.config_lists.specs.Namespace.{nsid_max}
 use Rattle.config_tables.specs.Nsids.{is_taken, nsids_in}
+use Rattle.config_rules.specs.Configuration.{Configuration}
 use Rattle.config_words.specs.NsidSet.{IsNsidSet, with_nsid}
-use Rattle.config_words.specs.Numbered.{nsids_where, numbers_from}
+use Rattle.config_words.specs.Numbered.{nsids_where}
 use Rattle.config_words.proofs.Numbers.{kept_where}
 use Rattle.config_words.proofs.Sets.{is_where, no_nsids, nsids_alike, one_more, set_is_where}
 use Rattle.nvt_fields.specs.Field.{padded}
 use Rattle.nvt_fields.specs.Window.{window}
 use Rattle.nvt_fields.proofs.Windows.{window-zeros}
 use Rattle.change_lists.specs.ActiveList.{list_page}
-use Rattle.change_lists.specs.ChangedSet.{ChangedIsListed, IsChangedList, changed_page, nsids_told, with_nsids}
-use Rattle.change_lists.specs.Changes.{ChangesAreNoted, are_same, attributes_of, changes_namespace, edited, is_changed}
+use Rattle.change_lists.specs.ChangedSet.{ChangedIsListed, IsChangedList, changed_page, nsids_told, with_all, with_nsids}
+use Rattle.change_lists.specs.Changes.{ChangesAreNoted, are_same, attributes_of, changes_namespace, edited, is_changed, with_changes}
 use Rattle.change_lists.specs.Tables.{differs, noted}
 use Rattle.change_lists.proofs.Pages.{length-page}
 
@@ -27,9 +28,6 @@ pub with_these : (p q these : ℕ → Bool) → ((k : ℕ) → 1 ≤ k → k ≤
 with_these p q these same =
     nsids_alike (λ n. these n || q n) (λ n. p n || list_any (nat_eq n) (nsids_where q)) (λ k above below.
     ap (λ b. b || q k) (same k above below) ∙ ap (λ b. p k || b) (sym (is_where q k above below)))
-
-pub any_alike : (p q : ℕ → Bool) → ((k : ℕ) → 1 ≤ k → k ≤ nsid_max → p k ≡ q k) → list_any (λ _. true) (nsids_where p) ≡ list_any (λ _. true) (nsids_where q)
-any_alike p q same = ap (list_any (λ _. true)) (nsids_alike p q same)
 
 -- ---- what happened
 
@@ -54,6 +52,14 @@ comes_back false false c h = cc
 
 none_is_set : nsids_where (λ _. false) ≡ []
 none_is_set = no_nsids (λ _. false) (λ k above below. refl)
+
+-- ---- sets
+
+pub empty_is_set : (set : List ℕ) → set ≡ [] → IsNsidSet set
+empty_is_set set empty = rw empty none_is_set
+
+pub where_is_set : (p : ℕ → Bool) (set : List ℕ) → set ≡ nsids_where p → IsNsidSet set
+where_is_set p set is = rw is (set_is_where p)
 
 pub changes_are_noted : ChangesAreNoted
 changes_are_noted = record {
@@ -96,7 +102,7 @@ one_of_both p false false k none = with_none (p k) (none refl refl) where
 in_table : (p : ℕ → Bool) (table : List (Option Namespace)) (k : ℕ) → 1 ≤ k → k ≤ nsid_max → list_any (nat_eq k) (filter p (nsids_in table)) ≡ (p k && is_taken table k)
 in_table p table k above below = kept_where p (nsids_in table) k ∙ ap (λ b. p k && b) (is_where (is_taken table) k above below)
 
-pub both_noted : (before after : List (Option Namespace)) (set : List ℕ) → IsNsidSet set
+both_noted : (before after : List (Option Namespace)) (set : List ℕ) → IsNsidSet set
     → noted (differs before after) (nsids_in after) (noted (differs before after) (nsids_in before) set) ≡ nsids_where (λ n. differs before after n || list_any (nat_eq n) set)
 both_noted before after set is =
     let p : ℕ → Bool = differs before after in
@@ -115,53 +121,26 @@ both_noted before after set is =
       regroup true b c = refl
       regroup false b c = refl
 
--- ---- whether there is one
+pub all_differing : (before after : List (Option Namespace))
+    → noted (differs before after) (nsids_in after) (noted (differs before after) (nsids_in before) []) ≡ nsids_where (differs before after)
+all_differing before after =
+    both_noted before after [] (empty_is_set [] refl)
+    ∙ nsids_alike (λ n. differs before after n || false) (differs before after) (λ k above below. or_false (differs before after k)) where
+      or_false : (b : Bool) → (b || false) ≡ b
+      or_false true = refl
+      or_false false = refl
 
-any_passes : (p : ℕ → Bool) (xs : List ℕ) → list_any p xs ≡ list_any (λ _. true) (filter p xs)
-any_passes p [] = refl
-any_passes p (x ∷ xs) = by_test (p x) refl (any_passes p xs) where
-  by_test : (b : Bool) → p x ≡ b → list_any p xs ≡ list_any (λ _. true) (filter p xs) → list_any p (x ∷ xs) ≡ list_any (λ _. true) (filter p (x ∷ xs))
-  by_test true is rest = rw is refl
-  by_test false is rest = rw is rest
+-- ---- what joins a set
 
-any_kept : (p q : ℕ → Bool) (xs : List ℕ) → list_any p (filter q xs) ≡ list_any (λ k. p k && q k) xs
-any_kept p q [] = refl
-any_kept p q (x ∷ xs) = by_test (q x) refl (any_kept p q xs) where
-  by_test : (b : Bool) → q x ≡ b → list_any p (filter q xs) ≡ list_any (λ k. p k && q k) xs → list_any p (filter q (x ∷ xs)) ≡ list_any (λ k. p k && q k) (x ∷ xs)
-  by_test true is rest = rw is (ap (λ b. p x || b) rest ∙ with_true (p x) (list_any (λ k. p k && q k) xs)) where
-    with_true : (a c : Bool) → (a || c) ≡ ((a && true) || c)
-    with_true true c = refl
-    with_true false c = refl
-  by_test false is rest = rw is (rest ∙ with_false (p x) (list_any (λ k. p k && q k) xs)) where
-    with_false : (a c : Bool) → c ≡ ((a && false) || c)
-    with_false true c = refl
-    with_false false c = refl
+pub all_joined : (nsids set : List ℕ) → IsNsidSet set → with_nsids nsids set ≡ with_all nsids set
+all_joined nsids set is = ap (with_nsids nsids) (sym is) ∙ all_noted nsids (λ n. list_any (nat_eq n) set)
 
-any_of_either : (p q : ℕ → Bool) (xs : List ℕ) → (list_any p xs || list_any q xs) ≡ list_any (λ k. p k || q k) xs
-any_of_either p q [] = refl
-any_of_either p q (x ∷ xs) =
-    regroup (p x) (list_any p xs) (q x) (list_any q xs) ∙ ap (λ b. (p x || q x) || b) (any_of_either p q xs) where
-      regroup : (a b c d : Bool) → ((a || b) || (c || d)) ≡ ((a || c) || (b || d))
-      regroup true b c d = refl
-      regroup false true true d = refl
-      regroup false true false d = refl
-      regroup false false c d = refl
-
-any_in_row : (p q : ℕ → Bool) (xs : List ℕ) → ((k : ℕ) → p k ≡ q k) → list_any p xs ≡ list_any q xs
-any_in_row p q [] same = refl
-any_in_row p q (x ∷ xs) same = rw (same x, any_in_row p q xs same) refl
-
-pub one_differs : (before after : List (Option Namespace))
-    → (list_any (differs before after) (nsids_in before) || list_any (differs before after) (nsids_in after)) ≡ list_any (λ _. true) (nsids_where (differs before after))
-unfolding nsids_where
-one_differs before after =
-    let p : ℕ → Bool = differs before after in
-    let all : List ℕ = numbers_from 1 nsid_max in
-    ap (λ b. b || list_any p (filter (is_taken after) all)) (any_kept p (is_taken before) all)
-    ∙ ap (λ b. list_any (λ k. p k && is_taken before k) all || b) (any_kept p (is_taken after) all)
-    ∙ any_of_either (λ k. p k && is_taken before k) (λ k. p k && is_taken after k) all
-    ∙ any_in_row (λ k. (p k && is_taken before k) || (p k && is_taken after k)) p all (λ k. one_of_both p (is_taken before k) (is_taken after k) k (differing_is_taken before after k))
-    ∙ any_passes p all
+pub changes_joined : (old new : Configuration) (subsystem nsids set : List ℕ) → nsids ≡ nsids_where (changes_namespace old new subsystem)
+    → with_all nsids set ≡ with_changes old new subsystem set
+changes_joined old new subsystem nsids set is =
+    ap (λ l. with_all l set) is
+    ∙ nsids_alike (λ n. list_any (nat_eq n) (nsids_where (changes_namespace old new subsystem)) || list_any (nat_eq n) set) (λ n. changes_namespace old new subsystem n || list_any (nat_eq n) set) (λ k above below.
+    ap (λ b. b || list_any (nat_eq k) set) (is_where (changes_namespace old new subsystem) k above below))
 
 -- ---- the list
 
@@ -201,14 +180,6 @@ changed_is_listed test = by_set (nsids_where test) where
     overflowed = λ many. ap (λ e. padded 4096 0 (list_page e)) (told_many set many) ∙ padded_by (0xFFFFFFFF ∷ []);
   }
 
--- ---- sets
-
-pub empty_is_set : (set : List ℕ) → set ≡ [] → IsNsidSet set
-empty_is_set set empty = rw empty none_is_set
-
-pub where_is_set : (p : ℕ → Bool) (set : List ℕ) → set ≡ nsids_where p → IsNsidSet set
-where_is_set p set is = rw is (set_is_where p)
-
 -- ---- those that are left to be noted
 
 pub noted_next : (p : ℕ → Bool) (nsid : ℕ) (rest set : List ℕ) → p nsid ≡ true → noted p (nsid ∷ rest) set ≡ noted p rest (with_nsid nsid set)
@@ -216,12 +187,3 @@ noted_next p nsid rest set passes = rw passes refl
 
 pub passed_next : (p : ℕ → Bool) (nsid : ℕ) (rest set : List ℕ) → p nsid ≡ false → noted p (nsid ∷ rest) set ≡ noted p rest set
 passed_next p nsid rest set fails = rw fails refl
-
-pub found_next : (p : ℕ → Bool) (nsid : ℕ) (rest : List ℕ) (so_far all : Bool) → p nsid ≡ true → (so_far || list_any p (nsid ∷ rest)) ≡ all → (true || list_any p rest) ≡ all
-found_next p nsid rest so_far all passes is = sym (or_true so_far) ∙ ap (λ b. so_far || (b || list_any p rest)) (sym passes) ∙ is where
-  or_true : (b : Bool) → (b || true) ≡ true
-  or_true true = refl
-  or_true false = refl
-
-pub none_next : (p : ℕ → Bool) (nsid : ℕ) (rest : List ℕ) (so_far all : Bool) → p nsid ≡ false → (so_far || list_any p (nsid ∷ rest)) ≡ all → (so_far || list_any p rest) ≡ all
-none_next p nsid rest so_far all fails is = ap (λ b. so_far || (b || list_any p rest)) (sym fails) ∙ is

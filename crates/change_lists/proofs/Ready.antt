@@ -1,7 +1,8 @@
 -- The lists that are ready: each is that of its subsystem, and a subsystem that is not there has none.
-use Rattle.std.proofs.Common.{◌≡◌, ◌≤◌, ℕ, Bool, true, false, ◌||◌, Option, None, is_some, List, [], ◌∷◌, find, get_or, map, bytes_eq, refl, ap, sym, ◌∙◌, inl, inr}
+use Rattle.std.proofs.Common.{◌≡◌, ◌≤◌, ◌⊎◌, ℕ, Bool, true, false, ◌||◌, Option, Some, None, Ok, is_some, List, [], ◌∷◌, find, get_or, map, bytes_eq, refl, ap, sym, ◌∙◌, inl, inr, if◌then◌else◌}
 use Rattle.std.proofs.lemmas.Bool.{cases_Bool, both_ways, false_from_ne_true}
 use Rattle.std.specs.List.{list_any}
+use Rattle.std.specs.Option.{option_map}
 use Rattle.config_lists.specs.declared.namespace.Namespace.{Namespace}
 use Rattle.config_lists.specs.declared.subsystem.Subsystem.{Subsystem}
 use Rattle.config_lists.specs.Namespace.{is_named, nsid_max}
@@ -9,11 +10,17 @@ use Rattle.config_lists.proofs.Names.{bytes_eq-same, same_name}
 use Rattle.config_rules.specs.Configuration.{Configuration, has_subsystem}
 use Rattle.config_rules.specs.Valid.{IsValid}
 use Rattle.config_tables.specs.Nsids.{is_taken, nsids_in as nsids_of_table}
-use Rattle.config_words.specs.Numbered.{active_nsids, is_there}
+use Rattle.config_words.specs.Numbered.{active_nsids, is_there, nsids_where}
 use Rattle.config_words.proofs.Sets.{no_nsids, nsids_alike}
-use Rattle.edit_reach.proofs.Found.{none_found}
+use Rattle.config_edits.specs.declared.edit.Edit.{Edit}
+use Rattle.config_rules.specs.Accept.{accept}
+use Rattle.edit_reach.specs.Reach.{StaysAsItWas, is_reached, subsystem_reached}
+use Rattle.edit_reach.proofs.Found.{none_found, same_namespace}
+use Rattle.edit_reach.proofs.Others.{stays}
 use Rattle.name_table.proofs.Walks.{AreThere}
-use Rattle.change_lists.specs.ActiveView.{Shown, ShowsActive, nsids_in}
+use Rattle.name_table.specs.Table.{IsPut, IsRemoved}
+use Rattle.change_lists.specs.ActiveView.{LeadsTo, Planned, PlansEdit, Shown, ShowsActive, nsids_in}
+use Rattle.change_lists.specs.Changes.{attributes_in, attributes_of, changes_namespace}
 
 -- ---- the list of one subsystem
 
@@ -70,3 +77,74 @@ shows_active c v valid there = record {
             rw none (sym (none_active c subsystem valid absent))
       ]);
 }
+
+not_own : (nqn subsystem : List ℕ) → bytes_eq subsystem nqn ≡ false → bytes_eq nqn subsystem ≡ false
+not_own nqn subsystem apart =
+    false_from_ne_true (bytes_eq nqn subsystem) (λ same. both_ways (bytes_eq subsystem nqn) apart (bytes_eq-same subsystem nqn (sym (same_name nqn subsystem same))))
+
+-- ---- the list of one subsystem in the place of what it was
+
+pub nsids_put : (old new : Shown) (name nsids : List ℕ) → IsPut old.lists new.lists name nsids
+    → (other : List ℕ) → nsids_in new other ≡ (if bytes_eq other name then nsids else nsids_in old other)
+unfolding nsids_in
+nsids_put old new name nsids put other =
+    rw (put other) (elim (cases_Bool (bytes_eq other name)) [
+      | inl same ↦ rw same refl
+      | inr apart ↦ rw apart refl
+    ])
+
+pub nsids_removed : (old new : Shown) (name nsids : List ℕ) → IsRemoved old.lists new.lists name → nsids ≡ []
+    → (other : List ℕ) → nsids_in new other ≡ (if bytes_eq other name then nsids else nsids_in old other)
+unfolding nsids_in
+nsids_removed old new name nsids removed none other =
+    rw (removed other, none) (elim (cases_Bool (bytes_eq other name)) [
+      | inl same ↦ rw same refl
+      | inr apart ↦ rw apart refl
+    ])
+
+-- ---- what an edit makes of it
+
+module _ (old new : Configuration) (edit : Edit) (made : accept old edit ≡ Ok new) where
+  as_it_was : (subsystem : List ℕ) → is_reached (subsystem_reached edit) subsystem ≡ false → StaysAsItWas old new subsystem
+  as_it_was subsystem apart = rw made at (stays old edit subsystem apart)
+
+  same_attributes : (subsystem : List ℕ) → is_reached (subsystem_reached edit) subsystem ≡ false → (nsid : ℕ) → attributes_in new subsystem nsid ≡ attributes_in old subsystem nsid
+  same_attributes subsystem apart nsid = ap (option_map attributes_of) (same_namespace old new subsystem (as_it_was subsystem apart) nsid)
+
+  same_active : (subsystem : List ℕ) → is_reached (subsystem_reached edit) subsystem ≡ false → active_nsids new.namespaces subsystem ≡ active_nsids old.namespaces subsystem
+  unfolding active_nsids
+  same_active subsystem apart =
+      nsids_alike (is_there new.namespaces subsystem) (is_there old.namespaces subsystem) (λ nsid above below.
+      sym (found_there new.namespaces subsystem nsid) ∙ ap is_some (same_namespace old new subsystem (as_it_was subsystem apart) nsid) ∙ found_there old.namespaces subsystem nsid)
+
+  -- where it reaches none
+  pub plans_none : subsystem_reached edit ≡ None → PlansEdit old new None
+  plans_none none = record {
+    others = λ subsystem apart. same_attributes subsystem (ap (λ r. is_reached r subsystem) none);
+    changed = tt;
+  }
+
+  pub leads_none : subsystem_reached edit ≡ None → (v : Shown) → ShowsActive old v → LeadsTo new v None
+  leads_none none v shows next same = record {
+    nsids = λ subsystem. same subsystem ∙ shows.nsids subsystem ∙ sym (same_active subsystem (ap (λ r. is_reached r subsystem) none));
+  }
+
+  -- where it reaches one
+  module _ (name nsids changed : List ℕ) (one : subsystem_reached edit ≡ Some name) where
+    abbrev own : Planned
+    own = Some (record { subsystem = name; nsids = nsids; changed = changed })
+
+    pub plans_one : changed ≡ nsids_where (changes_namespace old new name) → PlansEdit old new own
+    plans_one is = record {
+      others = λ subsystem apart. same_attributes subsystem (ap (λ r. is_reached r subsystem) one ∙ apart);
+      changed = is;
+    }
+
+    pub leads_one : nsids ≡ active_nsids new.namespaces name → (v : Shown) → ShowsActive old v → LeadsTo new v own
+    leads_one is v shows next same = record {
+      nsids = λ subsystem. same subsystem ∙ by_name subsystem (cases_Bool (bytes_eq subsystem name));
+    } where
+      by_name : (subsystem : List ℕ) → (bytes_eq subsystem name ≡ true) ⊎ (bytes_eq subsystem name ≡ false)
+          → (if bytes_eq subsystem name then nsids else nsids_in v subsystem) ≡ active_nsids new.namespaces subsystem
+      by_name subsystem (inl here) = rw here (is ∙ ap (active_nsids new.namespaces) (sym (same_name subsystem name here)))
+      by_name subsystem (inr apart) = rw apart (shows.nsids subsystem ∙ sym (same_active subsystem (ap (λ r. is_reached r subsystem) one ∙ not_own name subsystem apart)))

@@ -1,6 +1,7 @@
 -- The set of namespaces that changed, and the Changed Namespace List (Base 2.0, section 5.16.1.5). A set is the list of
 -- its identifiers, rising.
-use Rattle.std.specs.Prelude.{◌≡◌, ◌<◌, ◌≤◌, ℕ, ◌*◌, ◌-◌, Bool, ◌==◌, ◌&&◌, List, [], ◌∷◌, ◌++◌, length, nat_le, nat_lt, replicate, if◌then◌else◌}
+use Rattle.std.specs.Prelude.{◌≡◌, ◌<◌, ◌≤◌, ℕ, ◌*◌, ◌-◌, Bool, ◌==◌, ◌&&◌, ◌||◌, List, [], ◌∷◌, ◌++◌, length, nat_eq, nat_le, nat_lt, replicate, if◌then◌else◌}
+use Rattle.std.specs.List.{list_any}
 use Rattle.config_words.specs.NsidSet.{with_nsid}
 use Rattle.config_words.specs.Numbered.{nsids_where}
 use Rattle.nvt_fields.specs.Field.{padded}
@@ -10,6 +11,10 @@ use Rattle.change_lists.specs.ActiveList.{list_page}
 abbrev pub with_nsids : List ℕ → List ℕ → List ℕ
 with_nsids [] set = set
 with_nsids (nsid ∷ nsids) set = with_nsids nsids (with_nsid nsid set)
+
+-- a set with each identifier of another
+abbrev pub with_all : List ℕ → List ℕ → List ℕ
+with_all nsids set = nsids_where (λ n. list_any (nat_eq n) nsids || list_any (nat_eq n) set)
 
 -- the entries of the list: the identifiers, or, where they are more than 1,024, FFFFFFFFh alone
 abbrev pub nsids_told : List ℕ → List ℕ

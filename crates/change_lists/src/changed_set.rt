@@ -1,19 +1,17 @@
 //! The namespaces that changed since a host last read which, and the Changed Namespace List (Base 2.0,
 //! section 5.16.1.5).
-ghost use Rattle.std.specs.Prelude.{◌≡◌, ◌≤◌, [], ◌∷◌, ◌||◌, length, nat_eq, nat_lt, true};
+ghost use Rattle.std.specs.Prelude.{◌≡◌, ◌≤◌, [], ◌∷◌, length, nat_lt, true};
 ghost use Rattle.std.specs.List.{list_any};
 ghost use Rattle.config_words.specs.NsidSet.{IsNsidSet, with_nsid};
-ghost use Rattle.config_words.specs.Numbered.{nsids_where};
 ghost use Rattle.change_lists.specs.ActiveList.{list_page};
-ghost use Rattle.change_lists.specs.ChangedSet.{ChangedIsListed, changed_page, empties};
+ghost use Rattle.change_lists.specs.ChangedSet.{ChangedIsListed, changed_page, empties, with_all};
+ghost use Rattle.change_lists.specs.ActiveView.{PlansEdit};
 ghost use Rattle.change_lists.specs.Changes.{ChangesAreNoted, changes_namespaces, with_changes};
-ghost use Rattle.change_lists.specs.Tables.{differs, noted};
+ghost use Rattle.config_rules.specs.Configuration.{Configuration};
 ghost use Rattle.nvt_fields.specs.Window.{window};
 
-use crate::differences::is_same;
-use config_tables::NamespaceTable;
+use crate::active_view::Plan;
 use config_words::{NsidSet, Nsids};
-use nvt_config::Config;
 use nvt_fields::write_part;
 use std::marker::Model;
 
@@ -65,15 +63,18 @@ impl ChangedSet {
         self.nsids.insert(nsid);
     }
 
-    /// Notes each namespace of the subsystem whose size, block size, UUID or presence an edit changes, from
-    /// one configuration to the next; whether there is one.
-    pub fn note_changes(&mut self, old: &Config, new: &Config, subsystem: &[u8]) -> bool
-        ensures changed { result ≡ changes_namespaces old.now new.now subsystem.now }
-        ensures noted { self.new ≡ with_changes old.now new.now subsystem.now self.old }
+    /// Notes each namespace of the subsystem whose size, block size, UUID or presence an edit that is
+    /// planned changes; whether there is one. What an edit changes was compared as it was prepared.
+    pub fn note_planned(&mut self, plan: &Plan, subsystem: &[u8]) -> bool
+        ensures changed { (old new : Configuration) → PlansEdit old new plan.now
+            → result ≡ changes_namespaces old new subsystem.now }
+        ensures noted { (old new : Configuration) → PlansEdit old new plan.now
+            → self.new ≡ with_changes old new subsystem.now self.old }
     {
-        let before = NamespaceTable::of(old.namespaces(), subsystem);
-        let after = NamespaceTable::of(new.namespaces(), subsystem);
-        note_differences(&mut self.nsids, &before, &after)
+        match plan.changed(subsystem) {
+            Some(changed) => add_all(&mut self.nsids, changed),
+            None => false,
+        }
     }
 
     /// Fills `out` with the list from an offset on: 4,096 bytes, the identifiers rising, 4 bytes each,
@@ -111,39 +112,18 @@ impl ChangedSet {
     }
 }
 
-// Notes the namespaces that are others after than before; whether there is one. Each of them is in a table.
-fn note_differences(
-    set: &mut NsidSet,
-    before: &NamespaceTable<'_>,
-    after: &NamespaceTable<'_>,
-) -> bool
+// Adds each of these; whether there is one.
+fn add_all(set: &mut NsidSet, more: &NsidSet) -> bool
     requires { IsNsidSet set.old }
-    ensures changed { result ≡ list_any (λ _. true) (nsids_where (differs before.now after.now)) }
-    ensures noted { set.new ≡ nsids_where (λ n. differs before.now after.now n || list_any (nat_eq n) set.old) }
+    ensures any { result ≡ list_any (λ _. true) more.now }
+    ensures all { set.new ≡ with_all more.now set.old }
 {
-    let others = note_those(set, before.nsids(), before, after);
-    let come = note_those(set, after.nsids(), before, after);
-    others || come
-}
-
-// Notes those of these identifiers whose namespaces are others after than before; whether there is one.
-fn note_those(
-    set: &mut NsidSet,
-    nsids: Nsids<'_>,
-    before: &NamespaceTable<'_>,
-    after: &NamespaceTable<'_>,
-) -> bool
-    ensures changed { result ≡ list_any (differs before.now after.now) nsids.entry }
-    ensures noted { set.new ≡ noted (differs before.now after.now) nsids.entry set.old }
-{
-    let mut changed = false;
-    for nsid in nsids {
-        if !is_same(before.get(nsid), after.get(nsid)) {
-            set.insert(nsid);
-            changed = true;
-        }
+    let mut any = false;
+    for nsid in more.iter() {
+        set.insert(nsid);
+        any = true;
     }
-    changed
+    any
 }
 
 // Fills `out` with the list of more identifiers than it can have, from an offset on.

@@ -1,5 +1,7 @@
 //! What the host of one controller is told.
-ghost use Rattle.std.specs.Prelude.{◌≡◌};
+ghost use Rattle.std.specs.Prelude.{◌≡◌, ◌≤◌, ◌+◌, length};
+ghost use Rattle.config_rules.specs.Configuration.{Configuration};
+ghost use Rattle.notices.specs.Planned.{Plans};
 ghost use Rattle.notices.specs.Viewer.{changes_seen, views_of};
 
 use crate::planned::PlannedEdit;
@@ -70,8 +72,12 @@ impl Notices {
     /// is counted; of a discovery controller both stay. Answers the event requests to complete, in
     /// order.
     pub fn tell(&mut self, plan: &PlannedEdit<'_>, viewer: &Viewer<'_>) -> Completing
-        ensures result { result ≡ tell_answers plan.now.old plan.now.new (views_of viewer.now) self.old }
-        ensures after { self.new ≡ told plan.now.old plan.now.new (views_of viewer.now) self.old }
+        ensures result { (old new : Configuration) → Plans old new plan.now
+            → result ≡ tell_answers old new (views_of viewer.now) self.old }
+        ensures after { (old new : Configuration) → Plans old new plan.now
+            → self.new ≡ told old new (views_of viewer.now) self.old }
+        ensures answered { length result + length self.new.events.waiting
+            ≤ length self.old.events.waiting }
     {
         let changes = self.note(plan, viewer);
         self.events.edited(changes)
@@ -79,8 +85,11 @@ impl Notices {
 
     // Notes what an edit changes of what is shown, but for the events; what it changes.
     fn note(&mut self, plan: &PlannedEdit<'_>, viewer: &Viewer<'_>) -> ViewChanges
-        ensures changes { result ≡ changes_seen plan.now.old plan.now.new (views_of viewer.now) }
-        ensures after { self.new ≡ noted plan.now.old plan.now.new (views_of viewer.now) self.old }
+        ensures changes { (old new : Configuration) → Plans old new plan.now
+            → result ≡ changes_seen old new (views_of viewer.now) }
+        ensures after { (old new : Configuration) → Plans old new plan.now
+            → self.new ≡ noted old new (views_of viewer.now) self.old }
+        ensures events { self.new.events ≡ self.old.events }
     {
         match *viewer {
             Viewer::Discovery { host } => ViewChanges {
@@ -88,15 +97,11 @@ impl Notices {
                 ana: false,
                 discovery: plan.changes_discovery(host),
             },
-            Viewer::Io { subsystem, port } => {
-                let ana = plan.ana();
-                let (old, new) = (ana.old(), ana.groups_after());
-                ViewChanges {
-                    namespace: self.changed.note_changes(old, new, subsystem),
-                    ana: self.counts.note(ana, subsystem, port),
-                    discovery: false,
-                }
-            }
+            Viewer::Io { subsystem, port } => ViewChanges {
+                namespace: self.changed.note_planned(plan.active(), subsystem),
+                ana: self.counts.note(plan.ana(), subsystem, port),
+                discovery: false,
+            },
         }
     }
 

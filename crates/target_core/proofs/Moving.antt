@@ -1,11 +1,10 @@
 -- What the calls make of a target, place by place.
-use Rattle.std.proofs.Common.{◌≡◌, ℕ, ◌+◌, ◌<◌, ◌≤◌, Bool, true, false, List, [], length, map, ◌++◌, max, Option, Some, None, Result, Ok, refl, sym, ap, ◌∙◌, append-nil}
+use Rattle.std.proofs.Common.{◌≡◌, ℕ, ◌+◌, ◌<◌, ◌≤◌, Bool, true, false, List, [], length, map, ◌++◌, max, Option, Some, None, Ok, refl, sym, ap, ◌∙◌, append-nil}
 use Rattle.std.specs.Prelude.{if◌then◌else◌, ◌==◌, is_none, position}
 use Rattle.std.specs.Option.{option_map}
 use Rattle.number_table.specs.Table.{place, with_value, without}
 use Rattle.number_table.proofs.Tables.{least_free-Some, place-map, place-with_value, place-without}
 use Rattle.config_edits.specs.declared.edit.Edit.{Edit}
-use Rattle.config_edits.specs.declared.fault.EditFault.{EditFault}
 use Rattle.config_rules.specs.Accept.{accept}
 use Rattle.config_rules.specs.Configuration.{Configuration}
 use Rattle.controller_tables.specs.Controllers.{TablesState, gone_by}
@@ -207,22 +206,17 @@ module _ (old : TargetState) (edit : Edit) (new : Configuration) (rows : ℕ →
   edit_at None known = refl
   edit_at (Some c) known = ap Some (told_settled c known)
 
--- what an edit makes is one configuration
-pub made_same : (made : Result Configuration EditFault) (a b : Configuration) → made ≡ Ok a → made ≡ Ok b → a ≡ b
-made_same made a b h k = cc
-
-pub edit_moves : (old new : TargetState) (edit : Edit) (before after : Configuration) → accept old.config edit ≡ Ok new.config → before ≡ old.config → after ≡ new.config
-    → new.clock ≡ old.clock
+pub edit_moves : (old new : TargetState) (edit : Edit) → accept old.config edit ≡ Ok new.config → new.clock ≡ old.clock
     → ShowNext new.config old.shown new.shown → new.formed ≤ old.formed + reach old.config edit → new.streams ≡ old.streams
     → (ended : List (Option KnownConnection))
     → ended ≡ map (option_map (settled (cause_edited edit) (gone_by (cause_edited edit) new.config (tables_of old)))) old.connections
-    → new.connections ≡ map (option_map (told_known before after (λ (c : ℕ). place new.rows c))) ended
+    → new.connections ≡ map (option_map (told_known old.config new.config (λ (c : ℕ). place new.rows c))) ended
     → ((c : ℕ) → place new.rows c ≡ (if gone_by (cause_edited edit) new.config (tables_of old) c then None else
     option_map (row_kept (cause_edited edit) c) (place old.rows c)))
     → ((c : ℕ) → place new.controllers c ≡ (if gone_by (cause_edited edit) new.config (tables_of old) c then None else place old.controllers c))
     → ((k t : ℕ) → part_at new.transfers k t ≡ (if ends_known (cause_edited edit) (gone_by (cause_edited edit) new.config (tables_of old)) (place old.connections k) then None else part_at old.transfers k t))
     → new.disks ≡ old.disks → Transition (edited edit) old new
-edit_moves old new edit before now accepted first last clock shown formed streams ended settles tells rows controllers parts disks =
+edit_moves old new edit accepted clock shown formed streams ended settles tells rows controllers parts disks =
     let x = meets old (edited edit) in
     let after : config_after (edited edit) old.config ≡ new.config = rw accepted refl in
     let gone = gone_after old (edited edit) new.config after in
@@ -236,11 +230,7 @@ edit_moves old new edit before now accepted first last clock shown formed stream
       shown = shown;
       formed = formed;
       connection = λ k. ap (λ (l : List (Option KnownConnection)). place l k)
-          (tells ∙ ap (map (option_map (told_known before now (λ (n : ℕ). place new.rows n)))) settles
-          ∙ ap (λ (c : Configuration). map (option_map (told_known c now (λ (n : ℕ). place new.rows n)))
-          (map (option_map (settled (cause_edited edit) (gone_by (cause_edited edit) new.config (tables_of old)))) old.connections)) first
-          ∙ ap (λ (c : Configuration). map (option_map (told_known old.config c (λ (n : ℕ). place new.rows n)))
-          (map (option_map (settled (cause_edited edit) (gone_by (cause_edited edit) new.config (tables_of old)))) old.connections)) last
+          (tells ∙ ap (map (option_map told)) settles
           ∙ ap (λ (g : ℕ → Bool). map (option_map told) (map (option_map (settled (cause_edited edit) g)) old.connections)) gone)
           ∙ place-map told (map (option_map (settled (cause_edited edit) (ends_live x))) old.connections) k
           ∙ ap (option_map told) (place-map (settled (cause_edited edit) (ends_live x)) old.connections k)

@@ -3,6 +3,8 @@ ghost use Rattle.std.specs.Prelude.{◌≡◌, ◌<◌, ◌≤◌, OnErr, OnOk, 
 ghost use Rattle.controller_tables.specs.Controllers.{is_gone};
 ghost use Rattle.data_transfer.specs.Parts.{Stand, part_at};
 ghost use Rattle.io_queue.specs.Execution.{sizes};
+ghost use Rattle.config_rules.specs.Configuration.{Configuration};
+ghost use Rattle.notices.specs.Planned.{Plans};
 ghost use Rattle.notices.specs.Viewer.{views_of as viewed};
 ghost use Rattle.number_table.specs.Table.{place};
 ghost use Rattle.pdu_cut.specs.Cut.{front_shown};
@@ -140,7 +142,8 @@ impl Connection {
     /// Tells the host of the controller whose admin queue it is what an edit changes of what the
     /// controller shows, where that lives. It takes no memory.
     pub(crate) fn tell(&mut self, tables: &ControllerTables, plan: &PlannedEdit<'_>)
-        ensures { self.new ≡ told_known plan.now.old plan.now.new (λ c. place tables.now.rows c) self.old }
+        ensures { (old new : Configuration) → Plans old new plan.now
+            → self.new ≡ told_known old new (λ c. place tables.now.rows c) self.old }
     {
         let Session::Connected {
             role: Role::Admin { cntlid },

@@ -6,6 +6,8 @@ ghost use Rattle.data_transfer.specs.Parts.{part_at};
 ghost use Rattle.number_table.specs.Table.{place};
 ghost use Rattle.controller_tables.specs.Controllers.{gone_by, is_gone};
 ghost use Rattle.target_core.specs.Connection.{ends_known, settled, told_known};
+ghost use Rattle.config_rules.specs.Configuration.{Configuration};
+ghost use Rattle.notices.specs.Planned.{Plans};
 ghost use Rattle.target_history.specs.Occurrence.{row_kept};
 
 use crate::connection::Connection;
@@ -55,8 +57,9 @@ pub(crate) fn tell(
     tables: &ControllerTables,
     plan: &PlannedEdit<'_>,
 )
-    ensures { let row = (λ (c : ℕ). place tables.now.rows c) in
-        connections.new ≡ map (option_map (told_known plan.now.old plan.now.new row)) connections.old }
+    ensures { (old new : Configuration) → Plans old new plan.now
+        → let row = (λ (c : ℕ). place tables.now.rows c) in
+        connections.new ≡ map (option_map (told_known old new row)) connections.old }
 {
     for k in 0..connections.places() {
         if let Some(connection) = connections.get_mut(k) {

@@ -1,5 +1,7 @@
 //! What an edit tells the host of a controller, on its admin queue.
 ghost use Rattle.std.specs.Prelude.{◌≡◌, ◌*◌, ◌+◌, ◌≤◌, ◌++◌, length};
+ghost use Rattle.config_rules.specs.Configuration.{Configuration};
+ghost use Rattle.notices.specs.Planned.{Plans};
 ghost use Rattle.notices.specs.Viewer.{views_of};
 ghost use Rattle.target_decision.specs.Tell.{completed_in, completion_pdu, completion_pdus};
 ghost use Rattle.target_decision.specs.Tell.{told_after, told_pdus};
@@ -20,9 +22,10 @@ impl ConnectionState {
     /// the requests that it completes are answered. The connection is the controller's admin queue.
     pub fn tell(&mut self, plan: &PlannedEdit<'_>, viewer: &Viewer<'_>, output: &mut BytesMut)
         requires room { 24 * length self.old.notices.events.waiting ≤ output.old.spare }
-        ensures state { self.new ≡ told_after plan.now.old plan.now.new (views_of viewer.now) self.old }
-        ensures items { output.new.items
-            ≡ output.old.items ++ told_pdus plan.now.old plan.now.new (views_of viewer.now) self.old }
+        ensures state { (old new : Configuration) → Plans old new plan.now
+            → self.new ≡ told_after old new (views_of viewer.now) self.old }
+        ensures items { (old new : Configuration) → Plans old new plan.now → output.new.items
+            ≡ output.old.items ++ told_pdus old new (views_of viewer.now) self.old }
         ensures room { 24 * length self.new.notices.events.waiting ≤ output.new.spare }
     {
         let completing = self.notices.tell(plan, viewer);

@@ -1,5 +1,5 @@
 -- The views go on as the history does.
-use Rattle.std.proofs.Common.{◌≡◌, ℕ, Bool, List, [], ◌∷◌, length, map, Result, Ok, refl, sym, ap, ◌∙◌}
+use Rattle.std.proofs.Common.{◌≡◌, ℕ, Bool, List, [], ◌∷◌, length, map, refl, sym, ap, ◌∙◌}
 use Rattle.std.proofs.Math.Path.{fun_ext}
 use Rattle.admin_queue.specs.Pages.{Pages}
 use Rattle.ana_view.specs.Counts.{Counts}
@@ -9,16 +9,20 @@ use Rattle.change_lists.specs.ActiveView.{active_page}
 use Rattle.discovery_view.specs.View.{page_in}
 use Rattle.discovery_view.proofs.Counts.{count_goes_on}
 use Rattle.config_rules.specs.Configuration.{Configuration, disks_alone}
-use Rattle.config_edits.specs.declared.fault.EditFault.{EditFault}
-use Rattle.target_views.specs.Views.{ShowAfter, ShowFirst, ShowHistory, ShowNext, ViewsShown, pages_shown}
+use Rattle.notices.specs.Planned.{Plans}
+use Rattle.target_views.specs.Views.{AreViewsOf, LeadTo, PlansState, ShowAfter, ShowFirst, ShowHistory, ViewsShown, ViewsState, pages_shown, planned_by}
 use Rattle.target_history.specs.Event.{Event, edited, opened, stepped, given_up, ticked}
 use Rattle.target_history.specs.Occurrence.{Occurrence, config_after}
 use Rattle.target_history.specs.History.{Opening, active_of, config_of, generation_of, groups_page_of, page_of, pages_of}
 
--- what was planned is what the edit makes
-pub planned_next : (made : Result Configuration EditFault) (planned c : Configuration) (old new : ViewsShown)
-    → made ≡ Ok planned → made ≡ Ok c → ShowNext planned old new → ShowNext c old new
-planned_next made planned c old new plans makes next = let same : planned ≡ c = cc in rw same at next
+-- what was planned is what is told
+pub plans_told : (c next : Configuration) (v : ViewsState) (plans : PlansState) → AreViewsOf c v → LeadTo c next v plans → Plans c next (planned_by v plans)
+plans_told c next v plans of lead = record {
+  of = of.discovery;
+  leads = lead.discovery;
+  active = lead.lists.active;
+  ana = lead.lists.ana;
+}
 
 all_three : (a b : List ℕ → List ℕ) (c d : List ℕ → ℕ → List ℕ) (e f : List ℕ → ℕ → Counts → Bool → List ℕ) → a ≡ b → c ≡ d → e ≡ f
     → (let p : Pages = record { discovery = a; active = c; ana = e } in p) ≡ (let p : Pages = record { discovery = b; active = d; ana = f } in p)

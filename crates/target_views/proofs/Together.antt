@@ -1,5 +1,5 @@
 -- What is there together.
-use Rattle.std.proofs.Common.{◌≡◌, Result, Ok, Err, MatchResult, sym, ap, ◌∙◌}
+use Rattle.std.proofs.Common.{◌≡◌, Result, Ok, Err, IfOk, MatchResult, sym, ap, ◌∙◌}
 
 abbrev value_or : {X E : Type 0} → X → Result X E → X
 value_or d (Ok x) = x
@@ -24,3 +24,14 @@ all_there first a x second b y third z two three are_two two_is are_three three_
     let two = both_there first a second b two are_two two_is in
     let three = both_there (a, b) (x, y) third z three are_three three_is in
     (two.0 ∙ ap (λ p. p.0) three.0, two.1 ∙ ap (λ p. Ok p.1) three.0, three.1)
+
+-- what holds of the second beside the first holds of both
+pub both_ok : {A B E : Type 0} (first : A) (second : Result B E) (result : Result (A × B) E) (P : A → B → Type 0)
+    → AreBoth first second result → IfOk second (P first) → IfOk result (λ p. P p.0 p.1)
+both_ok first (Ok there) result P h holds = rw h holds
+both_ok first (Err error) result P h holds = rw h tt
+
+-- what follows from two facts of it, where it is there
+pub ok_both : {A E : Type 0} (result : Result A E) (P Q R : A → Type 0) → ((a : A) → P a → Q a → R a) → IfOk result P → IfOk result Q → IfOk result R
+ok_both (Ok a) P Q R both p q = both a p q
+ok_both (Err error) P Q R both p q = tt

@@ -1,9 +1,10 @@
 -- The views that log pages are written from, as the target sees them.
-use Rattle.std.specs.Prelude.{◌≡◌, ◌≤◌, ℕ, ◌+◌, ◌%◌, ◌^◌, List, Option, unwrap_or}
+use Rattle.std.specs.Prelude.{◌≡◌, ◌≤◌, ℕ, ◌+◌, ◌%◌, ◌^◌, List}
 use Rattle.admin_queue.specs.Pages.{Pages}
 use Rattle.ana_view.specs.Group.{listed}
-use Rattle.ana_view.specs.View.{Shown as AnaShown, ShowsAna, groups_in, page_in as ana_page_in}
-use Rattle.change_lists.specs.ActiveView.{Shown as ActiveShown, ShowsActive, active_page, nsids_in, shown_after}
+use Rattle.ana_view.specs.View.{IsPlannedFor as AnaIsPlannedFor, IsShownAfter as AnaIsShownAfter, Planned as AnaPlanned, PlansEdit as PlansAna, Shown as AnaShown, ShowsAna, groups_in, page_in as ana_page_in}
+use Rattle.change_lists.specs.ActiveView.{IsPlannedFor as ActiveIsPlannedFor, LeadsTo as ActiveLeadsTo, Planned as ActivePlanned, PlansEdit as PlansActive, Shown as ActiveShown, ShowsActive, active_page, nsids_in}
+use Rattle.notices.specs.Planned.{PlanState}
 use Rattle.config_words.specs.Numbered.{active_nsids}
 use Rattle.discovery_view.specs.Forming.{reach}
 use Rattle.discovery_view.specs.Plan.{IsPlannedFor, LeadsTo, Planned}
@@ -23,21 +24,30 @@ pub record ViewsShown : Type 0 where
   pub ana : AnaShown
 
 -- the views, as contracts see them: what they show, and the discovery view's table of records, the rows of places in it,
--- for how many more records it has room, and how many it formed
+-- for how many more records it has room, and how many it formed; and the room of the other two
 pub record ViewsState : Type 0 where
   pub shown : ViewsShown
   pub slots : List Parts
   pub rows : Rows Places
   pub room : ℕ
   pub formed : ℕ
+  pub active_room : ℕ
+  pub ana_room : ℕ
 
--- what an edit will make of them: they go over from one configuration to another, each view as it planned
+-- what an edit will make of them, each view as it planned
 pub record PlansState : Type 0 where
-  pub old : Configuration
-  pub new : Configuration
   pub discovery : Planned
-  pub active : Option ActiveShown
-  pub ana : Option AnaShown
+  pub active : ActivePlanned
+  pub ana : AnaPlanned
+
+-- the edit as it is told
+abbrev pub planned_by : ViewsState → PlansState → PlanState
+planned_by v plans = record {
+  view = record { shown = v.shown.discovery; slots = v.slots; rows = v.rows; room = v.room; formed = v.formed };
+  discovery = plans.discovery;
+  active = plans.active;
+  ana = plans.ana;
+}
 
 -- the log pages of each host, the lists of each subsystem, and its ANA groups on each port
 abbrev pub pages_shown : ViewsShown → Pages
@@ -61,12 +71,24 @@ pub record AreViewsOf (c : Configuration) (v : ViewsState) : Type 0 where
   pub active : ShowsActive c v.shown.active
   pub ana : ShowsAna c v.shown.ana
 
--- the plans are for these views
+-- the plans are for these views, which have room for what is planned
 pub record ArePlannedFor (v : ViewsState) (plans : PlansState) : Type 0 where
   pub discovery : IsPlannedFor v.slots v.rows v.room plans.discovery
-  pub next : LeadsTo plans.new v.shown.discovery v.slots v.rows plans.discovery
-  pub active : ShowsActive plans.new (shown_after v.shown.active plans.active)
-  pub ana : ShowsAna plans.new (unwrap_or plans.ana v.shown.ana)
+  pub active : ActiveIsPlannedFor v.active_room plans.active
+  pub ana : AnaIsPlannedFor v.ana_room plans.ana
+
+-- the plans of the lists and of the groups are those of an edit from one configuration to another, and these views come to
+-- show the second
+pub record ListsLeadTo (c next : Configuration) (v : ViewsShown) (lists : ActivePlanned) (groups : AnaPlanned) : Type 0 where
+  pub active : PlansActive c next lists
+  pub active_next : ActiveLeadsTo next v.active lists
+  pub ana : PlansAna c next groups
+  pub ana_next : (new : AnaShown) → AnaIsShownAfter v.ana groups new → ShowsAna next new
+
+-- .. and so those of all views
+pub record LeadTo (c next : Configuration) (v : ViewsState) (plans : PlansState) : Type 0 where
+  pub discovery : LeadsTo next v.shown.discovery v.slots v.rows plans.discovery
+  pub lists : ListsLeadTo c next v.shown plans.active plans.ana
 
 -- what they show after an event, with the configuration after it: it changes by edits alone
 abbrev pub ShowAfter : Event → Configuration → ViewsShown → ViewsShown → Type 0

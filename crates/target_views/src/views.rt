@@ -1,16 +1,21 @@
 //! The views follow the edits of a configuration together.
 ghost use Rattle.std.specs.Prelude.{◌≡◌, ◌≤◌, ◌+◌, IfOk, IsOk, MatchResult, Ok, OnErr, Err, length};
 ghost use Rattle.admin_queue.specs.Pages.{pages_in};
+ghost use Rattle.ana_view.specs.View.{IsPlannedFor as AnaIsPlannedFor, ShowsAna};
+ghost use Rattle.change_lists.specs.ActiveView.{IsPlannedFor as ActiveIsPlannedFor, ShowsActive};
 ghost use Rattle.config_rules.specs.Accept.{accept};
 ghost use Rattle.config_rules.specs.Configuration.{Configuration};
 ghost use Rattle.discovery_view.specs.Catalog.{catalog_of};
 ghost use Rattle.discovery_view.specs.Forming.{reach};
-ghost use Rattle.target_views.specs.Views.{ArePlannedFor, AreViewsOf, ShowFirst, ShowNext, pages_shown};
+ghost use Rattle.target_views.specs.Views.{ArePlannedFor, AreViewsOf, LeadTo, ListsLeadTo, ShowFirst};
+ghost use Rattle.target_views.specs.Views.{ShowNext};
+ghost use Rattle.target_views.specs.Views.{pages_shown, planned_by};
 
 use admin_queue::Pages;
 use ana_view::{AnaView, Plan as AnaPlan};
 use change_lists::{ActiveView, Plan as ActivePlan};
 use discovery_view::{DiscoveryView, Plan as DiscoveryPlan, RecordFormer};
+use edit_reach::subsystem_reached;
 use notices::PlannedEdit;
 use nvt_config::{Config, Edit};
 use std::alloc::{AllocError, Global};
@@ -30,15 +35,21 @@ impl Model for Views {
     ghost Value = { ViewsState };
 
     ghost view = { λ v. record {
-      shown = record { discovery = v.discovery.shown; active = v.active; ana = v.ana };
+      shown = record {
+        discovery = v.discovery.shown;
+        active = v.active.shown;
+        ana = v.ana.shown;
+      };
       slots = v.discovery.slots;
       rows = v.discovery.rows;
       room = v.discovery.room;
       formed = v.discovery.formed;
+      active_room = v.active.room;
+      ana_room = v.ana.room;
     } };
 }
 
-/// What an edit will make of the views: they go over from one configuration to another.
+/// What an edit will make of the views.
 #[derive(Drop)]
 pub struct Plans {
     discovery: DiscoveryPlan,
@@ -52,11 +63,9 @@ impl Model for Plans {
     ghost Value = { PlansState };
 
     ghost view = { λ plans. record {
-      old = plans.ana.old;
-      new = plans.ana.new;
       discovery = plans.discovery;
       active = plans.active;
-      ana = plans.ana.shown;
+      ana = plans.ana;
     } };
 }
 
@@ -83,18 +92,17 @@ impl Views {
     pub fn prepare(&mut self, config: &Config, edit: &Edit) -> Result<Plans, AllocError>
         requires accepted { IsOk (accept config.now edit.now) }
         requires of { AreViewsOf config.now self.old }
-        ensures old { IfOk result (λ plans. plans.old ≡ config.now) }
-        ensures new { IfOk result (λ plans. accept config.now edit.now ≡ Ok plans.new) }
-        ensures planned { IfOk result (λ plans. ArePlannedFor self.new plans) }
+        ensures planned { IfOk result (ArePlannedFor self.new) }
+        ensures leads { IfOk result (λ plans. IfOk (accept config.now edit.now)
+            (λ next. LeadTo config.now next self.new plans)) }
         ensures kept { self.new.shown ≡ self.old.shown }
         ensures stays { (c : Configuration) → AreViewsOf c self.old → AreViewsOf c self.new }
         ensures reach { self.new.formed ≤ self.old.formed + reach config.now edit.now }
         ensures unformed { OnErr result (self.new.formed ≡ self.old.formed) }
     {
-        let active = self.active.prepare(config, edit)?;
-        let (active, ana) = both(active, self.ana.prepare(config, edit))?;
+        let lists = self.prepare_lists(config, edit)?;
         let discovery = self.discovery.prepare(config, edit);
-        let ((active, ana), discovery) = both((active, ana), discovery)?;
+        let ((active, ana), discovery) = both(lists, discovery)?;
         Ok(Plans {
             discovery,
             active,
@@ -102,21 +110,44 @@ impl Views {
         })
     }
 
+    // Prepares the views of namespaces, which change where the edit reaches a subsystem: the configuration
+    // that it makes is made once for both.
+    fn prepare_lists(
+        &mut self,
+        config: &Config,
+        edit: &Edit,
+    ) -> Result<(ActivePlan, AnaPlan), AllocError>
+        requires { IsOk (accept config.now edit.now) }
+        ensures active { IfOk result (λ plans. ActiveIsPlannedFor self.new.active_room plans.0) }
+        ensures ana { IfOk result (λ plans. AnaIsPlannedFor self.new.ana_room plans.1) }
+        ensures lead { ShowsActive config.now self.old.shown.active → ShowsAna config.now self.old.shown.ana
+            → IfOk result (λ plans. IfOk (accept config.now edit.now)
+            (λ next. ListsLeadTo config.now next self.old.shown plans.0 plans.1)) }
+        ensures kept { self.new ≡ record self.old { active_room = self.new.active_room; ana_room = self.new.ana_room } }
+    {
+        if subsystem_reached(edit).is_none() {
+            let active = self.active.prepare(config, edit)?;
+            return both(active, self.ana.prepare(config, edit));
+        }
+        let next = config.edited(edit)?;
+        let active = self.active.prepare_to(config, &next, edit)?;
+        both(active, self.ana.prepare_to(config, &next, edit))
+    }
+
     /// The edit that was prepared last, as it is told.
     pub fn planned<'a>(&'a self, plans: &'a Plans) -> PlannedEdit<'a>
-        requires of { AreViewsOf plans.now.old self.now }
-        requires planned { ArePlannedFor self.now plans.now }
-        ensures old { result.old ≡ plans.now.old }
-        ensures new { result.new ≡ plans.now.new }
+        ensures { result ≡ planned_by self.now plans.now }
     {
-        PlannedEdit::new(&self.discovery, &plans.discovery, &plans.ana)
+        PlannedEdit::new(&self.discovery, &plans.discovery, &plans.active, &plans.ana)
     }
 
     /// Goes over to what was prepared last. Takes no memory and forms no record.
     pub fn commit(&mut self, plans: Plans)
         requires { ArePlannedFor self.old plans }
-        ensures shown { ShowNext plans.new self.old.shown self.new.shown }
-        ensures of { AreViewsOf plans.new self.new }
+        ensures shown { (c next : Configuration) → LeadTo c next self.old plans
+            → ShowNext next self.old.shown self.new.shown }
+        ensures of { (c next : Configuration) → LeadTo c next self.old plans
+            → AreViewsOf next self.new }
         ensures formed { self.new.formed ≡ self.old.formed }
     {
         let Plans {

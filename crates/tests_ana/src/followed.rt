@@ -1,8 +1,11 @@
 //! A configuration and the view that follows its edits.
+ghost use Rattle.std.specs.Prelude.{IfOk, IfSome};
+ghost use Rattle.ana_view.specs.View.{IsPlannedFor};
+
 use ana_view::{AnaView, Plan};
 use nvt_config::{Config, Edit};
 use std::alloc::{AllocError, Global};
-use testkit_edits::{Line, config_over, edit, has_same_groups, is_same};
+use testkit_edits::{Line, config_over, edit};
 
 // More disks than a test has namespaces at a time.
 const UNITS: &[u64] = &[64; 12];
@@ -21,24 +24,31 @@ pub fn start(alloc: Global) -> Result<Followed, AllocError> {
 }
 
 /// The plan of an edit that the configuration accepts, where it does.
-pub fn plan(followed: &mut Followed, edit: &Edit) -> Result<Option<Plan>, AllocError> {
+pub fn plan(followed: &mut Followed, edit: &Edit) -> Result<Option<Plan>, AllocError>
+    ensures { IfOk result (λ plan. IfSome plan (IsPlannedFor followed.new.view.room)) }
+{
     if followed.config.check(edit).is_err() {
         return Ok(None);
     }
     Ok(Some(followed.view.prepare(&followed.config, edit)?))
 }
 
-/// Whether a plan goes from the configuration to the one that the edit makes of it, by its namespaces and its
-/// ANA states.
-pub fn is_planned(followed: &Followed, edit: &Edit, plan: &Plan) -> Result<bool, AllocError> {
-    let mut next = followed.config.try_clone()?;
-    let applied = next.apply(edit).is_ok();
-    let is_from = is_same(plan.old(), &followed.config);
-    Ok(applied && is_from && has_same_groups(plan.groups_after(), &next))
+/// The same, by the configuration after the edit.
+pub fn plan_to(followed: &mut Followed, edit: &Edit) -> Result<Option<Plan>, AllocError>
+    ensures { IfOk result (λ plan. IfSome plan (IsPlannedFor followed.new.view.room)) }
+{
+    if followed.config.check(edit).is_err() {
+        return Ok(None);
+    }
+    let next = followed.config.edited(edit)?;
+    let plan = followed.view.prepare_to(&followed.config, &next, edit)?;
+    Ok(Some(plan))
 }
 
 /// Makes an edit that was planned; whether the configuration makes it too.
-pub fn make(followed: &mut Followed, edit: &Edit, plan: Plan) -> bool {
+pub fn make(followed: &mut Followed, edit: &Edit, plan: Plan) -> bool
+    requires { IsPlannedFor followed.old.view.room plan }
+{
     let applied = followed.config.apply(edit).is_ok();
     followed.view.commit(plan);
     applied

@@ -1,5 +1,5 @@
 //! What controllers show beside the plain program, while random edits are made.
-use super::followed::{Followed, edit_of, is_planned, make, plan, start};
+use super::followed::{Followed, edit_of, make, plan_to, start};
 use super::seen::{GROUPS, Group, NSIDS, PLACES, Past, Place, code};
 use ana_view::{AnaCounts, AnaGroup, AnaView, Plan};
 use nvt_config::{Access, AnaState, Edit};
@@ -212,12 +212,9 @@ fn is_counted(
     all: &mut Controllers,
     edit: &Edit,
 ) -> Result<bool, AllocError> {
-    let Some(plan) = plan(followed, edit)? else {
+    let Some(plan) = plan_to(followed, edit)? else {
         return Ok(true);
     };
-    if !is_planned(followed, edit, &plan)? {
-        return Ok(false);
-    }
     let (first, second, third) = count_changes(all, &plan);
     let made = make(followed, edit, plan);
     past.look(&followed.config)?;

@@ -1,4 +1,6 @@
 //! The view of ANA groups: it is made, and follows edits, which a controller counts.
+ghost use Rattle.ana_view.specs.View.{IsPlannedFor};
+
 use super::lists::{EDITS, UNITS};
 use ana_view::{AnaCounts, AnaView, Plan};
 use nvt_config::{Config, Edit, EditFault};
@@ -27,7 +29,9 @@ fn start(alloc: Global) -> Result<Followed, AllocError> {
 }
 
 // Makes an edit that is planned; where memory is wanted for it, nothing is counted.
-fn make(followed: &mut Followed, edit: &Edit, plan: Plan) -> Result<bool, AllocError> {
+fn make(followed: &mut Followed, edit: &Edit, plan: Plan) -> Result<bool, AllocError>
+    requires { IsPlannedFor followed.old.view.room plan }
+{
     match followed.config.apply(edit) {
         Ok(()) => {
             followed.counts.note(&plan, A, 1);

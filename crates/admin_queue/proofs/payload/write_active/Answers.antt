@@ -5,7 +5,7 @@ use Rattle.admin_queue.proofs.payload.write_active.Goals as goal
 
 pub returns-in-Some : goal.returns-in-Some
 returns-in-Some c =
-    rw c.in-Some.is (window_of c.window.new.out (active_page c.args.pages.now.active.now c.in-Some.nqn c.args.above) (length c.args.out.now) 4096
+    rw c.in-Some.is (window_of c.window.new.out (active_page c.args.pages.now.active.now.shown c.in-Some.nqn c.args.above) (length c.args.out.now) 4096
     (rw c.as_bytes.ensures at c.window.ensures) c.requires)
 
 pub returns-in-None : goal.returns-in-None

@@ -5,7 +5,7 @@ use Rattle.ana_view.proofs.group_list.members.Goals as goal
 
 pub loop-nsid-init : goal.loop-nsid-init
 loop-nsid-init c =
-    let p : ℕ → Bool = λ n. is_member c.args.groups.now.namespaces n c.args.group in
+    let p : ℕ → Bool = λ n. is_member c.args.groups.now.namespaces.now n c.args.group in
     record {
       next = tt;
       finite = tt;

@@ -7,5 +7,5 @@ abbrev pub invariant-loop-nsid : goal.invariant-loop-nsid
 invariant-loop-nsid l = record {
   next : goal.iterator-loop-nsid.can_next l.nsid-iterator;
   finite : goal.iterator-loop-nsid.is_finite l.nsid-iterator;
-  all : l.nsids.items ++ filter (λ n. is_member l.fn.groups.namespaces n l.group) l.nsid-iterator ≡ nsids_of l.fn.groups l.group;
+  all : l.nsids.items ++ filter (λ n. is_member l.fn.groups.namespaces.now n l.group) l.nsid-iterator ≡ nsids_of l.fn.groups l.group;
 }

@@ -4,4 +4,4 @@ use Rattle.ana_view.proofs.groups.Groups.of.Goals as goal
 pub returns : goal.returns
 returns c = λ group few.
     table_descriptor c.args.config.now c.args.subsystem.now c.args.port _ group
-    (rw c.namespaces.ensures.lent at c.of.ensures.found) (rw c.states.ensures.lent at (c.of-2.ensures.found group few))
+    c.requires (rw c.states.ensures.lent at (c.of.ensures.found group few))

@@ -11,7 +11,7 @@ loop-nsid-init c = record {
   finite = tt;
   len = omega arith;
   counted = λ group few.
-      let p : ℕ → Bool = λ n. is_member c.args.self.now.namespaces n group in
+      let p : ℕ → Bool = λ n. is_member c.args.self.now.namespaces.now n group in
       let all = ap (filter p) (c.into_iter-nsid-iterator.ensures.into_iter_gives ∙ c.nsids-nsid-items.ensures.all) ∙ members_of c.args.self.now group in
       let none = get_or-replicate {A = ℕ} 33 group 0 0 few in
       omega (arith, none, ap length all);
@@ -32,6 +32,6 @@ loop-nsid-preserved c = record {
   len = c.count_member.array_long;
   counted = λ group few.
       let so_far = rw c.in-Some.ensures.steps at (c.loop-nsid.invariant.counted group few) in
-      counted_next (λ nsid. is_member c.args.self.now.namespaces nsid group) c.in-Some.nsid c.next.new.self (get_or c.loop-nsid.sizes group 0) (get_or c.count_member.new.sizes group 0) (length (nsids_of c.args.self.now group))
+      counted_next (λ nsid. is_member c.args.self.now.namespaces.now nsid group) c.in-Some.nsid c.next.new.self (get_or c.loop-nsid.sizes group 0) (get_or c.count_member.new.sizes group 0) (length (nsids_of c.args.self.now group))
       (rw c.get.ensures at (c.count_member.ensures group few)) so_far;
 }

@@ -8,5 +8,5 @@ invariant-loop-nsid l = record {
   next : goal.iterator-loop-nsid.can_next l.nsid-iterator;
   finite : goal.iterator-loop-nsid.is_finite l.nsid-iterator;
   len : length l.sizes ≡ 33;
-  counted : (group : ℕ) → group < 33 → get_or l.sizes group 0 + length (filter (λ nsid. is_member l.fn.self.namespaces nsid group) l.nsid-iterator) ≡ length (nsids_of l.fn.self group);
+  counted : (group : ℕ) → group < 33 → get_or l.sizes group 0 + length (filter (λ nsid. is_member l.fn.self.namespaces.now nsid group) l.nsid-iterator) ≡ length (nsids_of l.fn.self group);
 }

@@ -1,10 +1,14 @@
-use Rattle.ana_view.specs.After.{bodies_of, new_of}
-use Rattle.ana_view.proofs.Ready.{shows_after}
+use Rattle.std.proofs.Common.{◌≡◌, None, not, sym, ap, ◌∙◌}
+use Rattle.edit_reach.specs.Reach.{subsystem_reached}
+use Rattle.ana_view.proofs.Plans.{none_copied, plans_nothing_accepted, shows_still}
 use Rattle.ana_view.proofs.view.AnaView.prepare.Goals as goal
 
-pub returns-clause-next : goal.returns-clause-next
-returns-clause-next c = λ shows.
-    let config = c.args.config.now in
-    let after = c.in_ok-after.after in
-    rw c.in_ok-before.ensures
-    (shows_after config (new_of config after) c.args.edit.now c.args.self.now (bodies_of after) c.in_ok-after.ensures.makes shows c.in_ok-after.ensures.bodies)
+pub returns-then-is_none-clause-planned : goal.returns-then-is_none-clause-planned
+returns-then-is_none-clause-planned c =
+    let unreached : subsystem_reached c.args.edit.now ≡ None = sym c.subsystem_reached.ensures ∙ none_copied c.subsystem_reached.result (c.is_none.ensures ∙ ap not c.if-is_none.true) in
+    plans_nothing_accepted c.args.config.now c.args.edit.now unreached
+
+pub returns-then-is_none-clause-next : goal.returns-then-is_none-clause-next
+returns-then-is_none-clause-next c = λ shows.
+    let unreached : subsystem_reached c.args.edit.now ≡ None = sym c.subsystem_reached.ensures ∙ none_copied c.subsystem_reached.result (c.is_none.ensures ∙ ap not c.if-is_none.true) in
+    shows_still c.args.config.now c.args.edit.now c.args.self.now.shown unreached shows

@@ -20,13 +20,13 @@ loop-subsystem-preserved c =
     let name = c.as_bytes-name.ensures in
     let nsids : c.in_ok-nsids.nsids.items ≡ active_nsids namespaces s.nqn =
     c.in_ok-nsids.ensures ∙ rw (c.namespaces.ensures.lent, name) refl in
-    let put : IsPut c.loop-subsystem.lists.lists c.put.new.self.lists s.nqn (active_nsids namespaces s.nqn) =
+    let put : IsPut c.loop-subsystem.lists.shown.lists c.put.new.self.shown.lists s.nqn (active_nsids namespaces s.nqn) =
     rw (name, nsids) at c.in_ok-put.ensures in
-    rw (more, map-append) (put_next (active_nsids namespaces) (names_of (take i xs)) s.nqn c.loop-subsystem.lists.lists c.put.new.self.lists c.loop-subsystem.invariant put)
+    rw (more, map-append) (put_next (active_nsids namespaces) (names_of (take i xs)) s.nqn c.loop-subsystem.lists.shown.lists c.put.new.self.shown.lists c.loop-subsystem.invariant put)
 
 pub returns : goal.returns
 returns c =
     let xs : List Subsystem = c.subsystems-subsystem-items.result.now in
     let all : take c.loop-subsystem.subsystem-index xs ≡ c.args.config.now.subsystems =
     take_all c.loop-subsystem.subsystem-index xs c.loop-subsystem-test.false ∙ c.subsystems-subsystem-items.ensures.lent in
-    shows_active c.args.config.now c.loop-subsystem.lists c.subsystems-subsystem-items.ensures.valid (rw all at c.loop-subsystem.invariant)
+    shows_active c.args.config.now c.loop-subsystem.lists.shown c.subsystems-subsystem-items.ensures.valid (rw all at c.loop-subsystem.invariant)

@@ -7,4 +7,4 @@ use Rattle.change_lists.proofs.active_lists.ActiveLists.of.Given as goal
 -- the subsystems so far have their lists
 abbrev pub invariant-loop-subsystem : goal.invariant-loop-subsystem
 invariant-loop-subsystem l =
-    AreThere (active_nsids l.config.namespaces) (names_of (take l.subsystem-index l.subsystem-items)) l.lists.lists
+    AreThere (active_nsids l.config.namespaces) (names_of (take l.subsystem-index l.subsystem-items)) l.lists.shown.lists
