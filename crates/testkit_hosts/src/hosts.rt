@@ -301,6 +301,9 @@ impl Hosts {
                 .hear(Happened::Read(queue, kind, read.retains, empties))?;
             let has_some = kind == Kind::Namespace && !page.starts_with(&[0; 4]);
             self.seen.read(empties && has_some && read.retains);
+            if kind == Kind::Namespace {
+                self.seen.list(page);
+            }
         }
         self.respond(queue, cid, 0, status)
     }

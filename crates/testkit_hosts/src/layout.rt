@@ -82,6 +82,29 @@ pub fn nsid_of(namespace: usize) -> u32 {
     }
 }
 
+/// The first identifier of those that a sweep has come and go, and the first behind them. They are as many as a
+/// list has entries, and lie between those of the second namespace and the third.
+pub const SWEPT_FIRST: u32 = 1_026;
+
+/// The first identifier behind them.
+pub const SWEPT_END: u32 = 2_050;
+
+/// The lines of a sweep by which a namespace comes and goes, on a disk that no other has.
+pub fn swept_lines(nsid: u32) -> [Line<'static>; 2] {
+    let blocks = Blocks {
+        nsid: u64::from(nsid),
+        disk: 0,
+        blocks: 8,
+        block_size: 512,
+        uuid: 0x44,
+        group: 1,
+    };
+    [
+        Line::NamespaceAdd(A, blocks),
+        Line::NamespaceDel(A, u64::from(nsid)),
+    ]
+}
+
 /// What an edit changes. Namespaces are 1 to 3, ports and referrals 1 and 2, hosts 0 and 1.
 #[derive(Clone, Copy)]
 pub enum Change {

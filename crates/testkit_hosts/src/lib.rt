@@ -14,7 +14,10 @@ mod pdus;
 mod queues;
 
 pub use hosts::Hosts;
-pub use layout::{Change, FIRST, Layout, Namespace, Place, QUEUES, UNITS, line_of, place_of};
+pub use layout::{
+    Change, FIRST, Layout, Namespace, Place, QUEUES, SWEPT_END, SWEPT_FIRST, UNITS, line_of,
+    place_of, swept_lines,
+};
 pub use pages::{ANA, CHANGED, DISCOVERY};
 pub use past::Past;
 pub use pdus::{Command, Read, capsule_of, connect};

@@ -1,6 +1,6 @@
 //! The bytes of log pages, typed from their formats.
 use super::bytes::put;
-use super::layout::{DISCOVERY_NQN, Layout, nsid_of, place_of};
+use super::layout::{DISCOVERY_NQN, Layout, SWEPT_END, SWEPT_FIRST, nsid_of, place_of};
 use super::past::Past;
 use nvt_config::AnaState;
 use std::alloc::{AllocError, Global};
@@ -15,14 +15,34 @@ pub const ANA: u8 = 0x0C;
 /// The identifier of the discovery log page.
 pub const DISCOVERY: u8 = 0x70;
 
-// The Changed Namespace List of a controller.
+// The Changed Namespace List of a controller: of more than it has entries it says so.
 fn changed_page(past: &Past, queue: usize, page: &mut Vec<u8>) -> Result<(), AllocError> {
+    add_changed(past, queue, page)?;
+    if page.len() > 4096 {
+        page.clear();
+        page.extend_from_slice(&[0xFF; 4])?;
+    }
+    page.resize(4096, 0)
+}
+
+// What changed, rising.
+fn add_changed(past: &Past, queue: usize, page: &mut Vec<u8>) -> Result<(), AllocError> {
     for at in 1..4usize {
+        if at == 3 && past.has_swept(queue) {
+            add_swept(page)?;
+        }
         if past.has_changed(queue, at) {
             page.extend_from_slice(&nsid_of(at).to_le_bytes())?;
         }
     }
-    page.resize(4096, 0)
+    Ok(())
+}
+
+fn add_swept(page: &mut Vec<u8>) -> Result<(), AllocError> {
+    for nsid in SWEPT_FIRST..SWEPT_END {
+        page.extend_from_slice(&nsid.to_le_bytes())?;
+    }
+    Ok(())
 }
 
 fn state_code(state: AnaState) -> u8 {

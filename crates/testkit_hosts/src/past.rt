@@ -1,7 +1,7 @@
 //! All that happened, the oldest first, and what a look back over it says.
 use super::layout::{
     AT_FIRST, Change, KINDS, Kind, Layout, changes_group, changes_groups, changes_namespace,
-    changes_view,
+    changes_view, place_of,
 };
 use std::alloc::{AllocError, Global};
 
@@ -10,6 +10,8 @@ use std::alloc::{AllocError, Global};
 pub enum Happened {
     /// What was there before it, and what is there after it.
     Edited(Layout, Layout),
+    /// Each of 1,024 further namespaces of group 1 came and went.
+    Swept,
     Connected(usize),
     Reset(usize),
     Enabled(usize),
@@ -28,6 +30,9 @@ pub enum Happened {
 pub struct Past {
     list: Vec<Happened>,
 }
+
+// How many edits a sweep has.
+const SWEEP_EDITS: u64 = 2_048;
 
 /// The bit of a kind in Asynchronous Event Configuration.
 fn bit(kind: Kind) -> u32 {
@@ -116,6 +121,11 @@ impl Past {
         self.hear(Happened::Edited(old, old.after(change)))
     }
 
+    /// A sweep is made.
+    pub fn hear_sweep(&mut self) -> Result<(), AllocError> {
+        self.hear(Happened::Swept)
+    }
+
     /// How much happened.
     pub fn len(&self) -> usize {
         self.list.len()
@@ -154,17 +164,20 @@ impl Past {
         self.mask_before(queue, place) & bit(kind) != 0
     }
 
-    // Whether what happened at this place is an event of a kind for a controller. One change gives one event.
-    fn arises(&self, queue: usize, kind: Kind, place: usize) -> bool {
-        let Some(Happened::Edited(old, new)) = self.list.get(place) else {
-            return false;
+    // Whether what happened at this place changed what a controller shows of a kind, while that was enabled.
+    fn moves(&self, queue: usize, kind: Kind, place: usize) -> bool {
+        let changes = match self.list.get(place) {
+            Some(Happened::Edited(old, new)) => changes_view(old, new, queue, kind),
+            Some(Happened::Swept) => { !place_of(queue).is_discovery && kind != Kind::Discovery }
+            _ => false,
         };
-        let is_told_besides = kind == Kind::Ana
-            && changes_view(old, new, queue, Kind::Namespace)
-            && self.is_enabled(queue, Kind::Namespace, place);
-        !is_told_besides
-            && changes_view(old, new, queue, kind)
-            && self.is_enabled(queue, kind, place)
+        changes && self.is_enabled(queue, kind, place)
+    }
+
+    // Whether it is an event of that kind for the controller. One change gives one event.
+    fn arises(&self, queue: usize, kind: Kind, place: usize) -> bool {
+        let is_told_besides = kind == Kind::Ana && self.moves(queue, Kind::Namespace, place);
+        !is_told_besides && self.moves(queue, kind, place)
     }
 
     // The place behind what last made a kind quiet.
@@ -287,6 +300,16 @@ impl Past {
         changed
     }
 
+    /// Whether a sweep was made since the list of a controller was emptied.
+    pub fn has_swept(&self, queue: usize) -> bool {
+        let mut swept = false;
+        for happened in &self.list {
+            swept = swept || matches!(happened, Happened::Swept);
+            swept = swept && !empties(happened, queue);
+        }
+        swept
+    }
+
     /// How many edits changed a group, or any group, of a port, since its controller was enabled.
     pub fn changes(&self, queue: usize, port: usize, group: Option<usize>) -> u64 {
         let mut count = 0u64;
@@ -300,6 +323,7 @@ impl Past {
                     };
                     count = count.saturating_add(u64::from(is_counted));
                 }
+                Happened::Swept if group != Some(2) => count = count.saturating_add(SWEEP_EDITS),
                 _ => {}
             }
         }

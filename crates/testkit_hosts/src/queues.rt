@@ -47,6 +47,9 @@ pub struct Seen {
     /// Reads that were done, and those with RAE 1 that emptied a list of changed namespaces.
     pub reads: usize,
     pub emptied: usize,
+    /// Lists of changed namespaces without an entry that is 0, and with none for more that changed.
+    pub full: usize,
+    pub overflowed: usize,
     /// Controllers that edits ended.
     pub ended: usize,
 }
@@ -60,6 +63,8 @@ pub const NOTHING_SEEN: Seen = Seen {
     faults: 0,
     reads: 0,
     emptied: 0,
+    full: 0,
+    overflowed: 0,
     ended: 0,
 };
 
@@ -68,5 +73,13 @@ impl Seen {
     pub fn read(&mut self, empties: bool) {
         self.reads = self.reads.saturating_add(1);
         self.emptied = self.emptied.saturating_add(usize::from(empties));
+    }
+
+    /// Of a list of changed namespaces something was read.
+    pub fn list(&mut self, page: &[u8]) {
+        let has_overflowed = page.starts_with(&[0xFF; 4]);
+        let is_full = !has_overflowed && !page.ends_with(&[0; 4]);
+        self.full = self.full.saturating_add(usize::from(is_full));
+        self.overflowed = self.overflowed.saturating_add(usize::from(has_overflowed));
     }
 }

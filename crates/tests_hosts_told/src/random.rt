@@ -3,7 +3,7 @@ use super::draw::{ENABLED, below, change, command, mask, rarely};
 use super::script::Script;
 use rand_pcg::Pcg32;
 use std::alloc::Global;
-use testkit_hosts::{Change, Command, NOTHING_SEEN, Namespace, QUEUES, Seen, Stage};
+use testkit_hosts::{CHANGED, Change, Command, NOTHING_SEEN, Namespace, QUEUES, Read, Seen, Stage};
 use testkit_tables::{Outcome, Placed, check, check_rows, pass};
 
 const SCRIPTS: u64 = 18;
@@ -33,12 +33,13 @@ const LARGE: Namespace = Namespace {
     group: 2,
 };
 
-fn begin(script: &mut Script) -> Outcome {
+// So many of the queues are connected.
+fn begin(script: &mut Script, queues: usize) -> Outcome {
     pass!(script.set_up());
     for change in AT_FIRST {
         pass!(script.edits(change));
     }
-    for queue in 0..QUEUES {
+    for queue in 0..queues {
         pass!(script.connects(queue));
     }
     Ok(())
@@ -89,7 +90,36 @@ fn step(script: &mut Script, random: &mut Pcg32) -> Outcome {
 
 fn run(script: &mut Script, number: u64) -> Outcome {
     let mut random = Pcg32::new(SEED, number);
-    pass!(begin(script));
+    pass!(begin(script, QUEUES));
+    for number in 0..STEPS {
+        pass!(step(script, &mut random).at_step(number));
+    }
+    Ok(())
+}
+
+const WHOLE_LIST: Read = Read {
+    lid: CHANGED,
+    retains: false,
+    groups_only: false,
+    offset: 0,
+    len: 4096,
+    sgl_type: 0x5A,
+    more: 0,
+};
+
+// Two I/O controllers are ready, and wait for an event, while 1,024 namespaces come and go. The first reads its list,
+// and the second once one namespace more changed. The other queues are connected after that.
+fn run_swept(script: &mut Script, number: u64) -> Outcome {
+    let mut random = Pcg32::new(SEED, number);
+    pass!(begin(script, 2));
+    for queue in 0..2 {
+        pass!(restore(script, &mut random, queue).in_row(queue));
+        pass!(script.sends(queue, 0x104, &Command::Request).in_row(queue));
+    }
+    pass!(script.sweeps());
+    pass!(script.sends(0, 0x105, &Command::Read(WHOLE_LIST)));
+    pass!(script.edits(Change::Resize(2, 7)));
+    pass!(script.sends(1, 0x105, &Command::Read(WHOLE_LIST)));
     for number in 0..STEPS {
         pass!(step(script, &mut random).at_step(number));
     }
@@ -97,7 +127,11 @@ fn run(script: &mut Script, number: u64) -> Outcome {
 }
 
 fn run_script(mut script: Script, number: u64, seen: &mut Seen) -> Outcome {
-    let outcome = run(&mut script, number);
+    let outcome = if number < SCRIPTS {
+        run(&mut script, number)
+    } else {
+        run_swept(&mut script, number)
+    };
     *seen = script.hosts.seen;
     outcome
 }
@@ -131,4 +165,12 @@ fn hosts_are_told_what_a_look_back_says(rt: HostRuntime) -> Outcome {
         pass!(check_script(rt.alloc(), number, &mut seen).in_script(SEED, number));
     }
     check_seen(&seen)
+}
+
+#[test]
+fn lists_overflow_as_a_look_back_says(rt: HostRuntime) -> Outcome {
+    let mut seen = NOTHING_SEEN;
+    pass!(check_script(rt.alloc(), SCRIPTS, &mut seen).in_script(SEED, SCRIPTS));
+    let rows = [seen.full > 0, seen.overflowed > 0];
+    check_rows(&rows, "this often seen")
 }

@@ -2,8 +2,8 @@
 use std::alloc::{AllocError, Global};
 use testkit_edits::ic_req;
 use testkit_hosts::{
-    Change, Command, FIRST, Hosts, QUEUES, Queue, Seen, Stage, UNITS, capsule_of, connect, line_of,
-    place_of,
+    Change, Command, FIRST, Hosts, QUEUES, Queue, SWEPT_END, SWEPT_FIRST, Seen, Stage, UNITS,
+    capsule_of, connect, line_of, place_of, swept_lines,
 };
 use testkit_tables::{Outcome, Placed, check, check_bytes, pass};
 use testkit_targets::MemoryTarget;
@@ -73,6 +73,23 @@ impl Script {
     fn tells(&mut self, change: Change) -> Outcome {
         let place = self.hosts.past.len();
         self.hosts.past.hear_edit(change)?;
+        self.are_told(place)
+    }
+
+    /// Has 1,024 further namespaces come and go, one after the other. Queues are told by the first edit, if at
+    /// all. The row of a failure is the queue.
+    pub fn sweeps(&mut self) -> Outcome {
+        for nsid in SWEPT_FIRST..SWEPT_END {
+            for line in swept_lines(nsid) {
+                pass!(check(self.target.edits(line), "an edit of a sweep"));
+            }
+        }
+        let place = self.hosts.past.len();
+        self.hosts.past.hear_sweep()?;
+        self.are_told(place)
+    }
+
+    fn are_told(&mut self, place: usize) -> Outcome {
         for queue in 0..QUEUES {
             pass!(self.is_told(queue, place).in_row(queue));
         }
