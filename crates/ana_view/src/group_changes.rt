@@ -16,8 +16,7 @@ use std::marker::Model;
 pub(crate) const GROUPS: usize = GROUP_END as usize - 1;
 
 /// The ANA groups that an edit changes, of those that the controllers of one subsystem on one port show.
-/// All these controllers count them (`AnaCounts::count`), so that an edit is compared once for all. It takes
-/// no memory.
+/// Each of these controllers counts them (`AnaCounts::count`). It takes no memory.
 #[derive(Drop)]
 pub struct GroupChanges {
     // Of the first group first.

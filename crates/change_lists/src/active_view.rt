@@ -61,8 +61,8 @@ impl Model for Plan {
 }
 
 impl Plan {
-    /// The identifiers of the subsystem's namespaces that the edit changes, as `changed_nsids` says: none
-    /// where it does not reach the subsystem.
+    /// The identifiers of the subsystem's namespaces whose size, block size, UUID or presence the edit
+    /// changes: none where it does not reach the subsystem.
     pub fn changed(&self, subsystem: &[u8]) -> Option<&NsidSet>
         ensures { (old new : Configuration) → PlansEdit old new self.now → MatchOption result
             ((nsid : ℕ) → changes_namespace old new subsystem.now nsid ≡ false)
