@@ -3,6 +3,7 @@ use Rattle.std.proofs.Common.{◌≡◌, ◌==◌, ◌*◌, ◌||◌, ℕ, Bool,
 use Rattle.std.proofs.lemmas.Bool.{eqb-true}
 use Rattle.std.specs.Prelude.{if◌then◌else◌, nat_lt, length}
 use Rattle.config_rules.specs.Configuration.{Configuration}
+use Rattle.config_rules.specs.Seen.{seen_by}
 use Rattle.event_queue.specs.declared.completion.Completion.{Completion}
 use Rattle.event_queue.specs.declared.events.LimitExceeded.{LimitExceeded}
 use Rattle.nvt_fields.specs.Window.{window}
@@ -28,7 +29,7 @@ use Rattle.admin_queue.specs.Log.{page_of_lid}
 use Rattle.admin_queue.specs.LogPage.{get_log_page, read_known, read_page}
 use Rattle.admin_queue.specs.Outcome.{IfAnswered, Outcome, is_transport, returned}
 use Rattle.admin_queue.specs.Pages.{Pages, log_page_bytes}
-use Rattle.admin_queue.specs.Payload.{namespace_in, payload_bytes, payload_len, structure_bytes}
+use Rattle.admin_queue.specs.Payload.{namespace_of, payload_bytes, payload_len, structure_bytes}
 
 -- ---- the world
 
@@ -38,7 +39,7 @@ read_alike c p q d e request entry None h = refl
 read_alike c p q d e request entry (Some page) h = ap (λ (bytes : List ℕ). read_page page bytes request entry) (h.log_pages page)
 
 structure_alike : (subsystem : Option (List ℕ)) (d e : Configuration) (cns nsid : ℕ)
-    → is_some (namespace_in subsystem d nsid) ≡ is_some (namespace_in subsystem e nsid)
+    → is_some (namespace_of subsystem d nsid) ≡ is_some (namespace_of subsystem e nsid)
     → structure_in subsystem d cns nsid ≡ structure_in subsystem e cns nsid
 structure_alike None d e cns nsid h = refl
 structure_alike (Some nqn) d e cns nsid h = rw h refl
@@ -46,7 +47,7 @@ structure_alike (Some nqn) d e cns nsid h = rw h refl
 identify_alike : (c : AdminController) (p q : Pages) (d e : Configuration) (entry : List ℕ) → ToldAlike c p q d e
     → identify d c entry ≡ identify e c entry
 identify_alike c p q d e entry h =
-    rw (structure_alike c.subsystem d e (identify_of entry).cns (identify_of entry).nsid (h.active (identify_of entry).nsid)) refl
+    rw (structure_alike c.subsystem (seen_by d c.host) (seen_by e c.host) (identify_of entry).cns (identify_of entry).nsid (h.active (identify_of entry).nsid)) refl
 
 outcome_alike : (c : AdminController) (p q : Pages) (d e : Configuration) (entry : List ℕ) → ToldAlike c p q d e
     → admin p d c entry ≡ admin q e c entry

@@ -21,11 +21,11 @@ use Rattle.admin_queue.specs.Pages.{Pages, log_page_bytes}
 use Rattle.admin_queue.specs.Payload.{IsPart, namespace_in, payload_bytes, payload_len, structure_bytes}
 
 -- Two worlds tell the same of a controller: each log page and each structure, and which namespaces of its subsystem
--- are active.
+-- are active for its host.
 pub record ToldAlike (c : AdminController) (p q : Pages) (d e : Configuration) : Type 0 where
   pub log_pages : (page : LogPage) → log_page_bytes page p c ≡ log_page_bytes page q c
   pub structures : (s : Structure) → structure_bytes s p d c ≡ structure_bytes s q e c
-  pub active : (nsid : ℕ) → is_some (namespace_in c.subsystem d nsid) ≡ is_some (namespace_in c.subsystem e nsid)
+  pub active : (nsid : ℕ) → is_some (namespace_in c d nsid) ≡ is_some (namespace_in c e nsid)
 
 -- .. then each command comes to the same, with the same data, whatever else they show
 pub record AnsweredByOwnAlone : Type 0 where

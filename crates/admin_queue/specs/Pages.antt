@@ -10,13 +10,13 @@ use Rattle.admin_queue.specs.declared.log.LogPage.TheVariants.{Discovery, Change
 use Rattle.admin_queue.specs.declared.pages.Pages.{Pages as PagesLent}
 use Rattle.admin_queue.specs.Controller.{AdminController}
 
--- A function for each page that there is: the discovery log page of each host, the list of each subsystem's active
--- namespaces above an identifier, and the Asymmetric Namespace Access log page of each subsystem on each port, with these
--- counts, with or without identifiers.
+-- A function for each page that there is: the discovery log page of each host; for each host the list of each subsystem's
+-- active namespaces above an identifier, and the Asymmetric Namespace Access log page of each subsystem on each port, with
+-- these counts, with or without identifiers.
 pub record Pages : Type 0 where
   pub discovery : List ℕ → List ℕ
-  pub active : List ℕ → ℕ → List ℕ
-  pub ana : List ℕ → ℕ → Counts → Bool → List ℕ
+  pub active : List ℕ → List ℕ → ℕ → List ℕ
+  pub ana : List ℕ → List ℕ → ℕ → Counts → Bool → List ℕ
 
 -- the pages that views lend
 abbrev pub pages_in : PagesLent → Pages
@@ -29,7 +29,7 @@ pages_in p = record {
 -- a discovery controller has no ANA groups
 abbrev pub ana_groups : Option (List ℕ) → Pages → AdminController → Bool → List ℕ
 ana_groups None pages c groups_only = []
-ana_groups (Some subsystem) pages c groups_only = pages.ana subsystem c.port c.notices.counts groups_only
+ana_groups (Some subsystem) pages c groups_only = pages.ana c.host subsystem c.port c.notices.counts groups_only
 
 -- the log page of this name
 abbrev pub log_page_bytes : LogPage → Pages → AdminController → List ℕ

@@ -5,6 +5,7 @@ use Rattle.config_lists.specs.declared.namespace.Namespace.{Namespace}
 use Rattle.config_lists.specs.declared.subsystem.Subsystem.{Subsystem}
 use Rattle.config_lists.specs.Namespace.{is_named}
 use Rattle.config_rules.specs.Configuration.{Configuration}
+use Rattle.config_rules.specs.Seen.{seen_by}
 use Rattle.identify_data.specs.Controller.{Controller, controller_data, discovery, io}
 use Rattle.identify_data.specs.Descriptors.{descriptor_list}
 use Rattle.identify_data.specs.Namespace.{namespace_data}
@@ -45,15 +46,23 @@ identity_by cntlid (Some nqn) config = io cntlid (serial_in config nqn) nqn
 abbrev pub identity_of : Configuration → AdminController → Controller
 identity_of config c = identity_by c.cntlid c.subsystem config
 
--- the namespace of this identifier in its subsystem
-abbrev pub namespace_in : Option (List ℕ) → Configuration → ℕ → Option Namespace
-namespace_in None config nsid = None
-namespace_in (Some nqn) config nsid = find (is_named nqn nsid) config.namespaces
+-- the namespace of this identifier in a subsystem, in the configuration as a host sees it
+abbrev pub namespace_of : Option (List ℕ) → Configuration → ℕ → Option Namespace
+namespace_of None seen nsid = None
+namespace_of (Some nqn) seen nsid = find (is_named nqn nsid) seen.namespaces
 
--- the identifiers of its subsystem's active namespaces above this one
-abbrev pub active_in : Option (List ℕ) → Pages → ℕ → List ℕ
-active_in None pages above = replicate 4096 0
-active_in (Some nqn) pages above = window (pages.active nqn above) 0 4096
+-- the namespace of this identifier in the controller's subsystem, where its host sees it
+abbrev pub namespace_in : AdminController → Configuration → ℕ → Option Namespace
+namespace_in c config nsid = namespace_of c.subsystem (seen_by config c.host) nsid
+
+-- the identifiers of a subsystem's active namespaces above this one that a host sees
+abbrev pub active_of : Option (List ℕ) → List ℕ → Pages → ℕ → List ℕ
+active_of None host pages above = replicate 4096 0
+active_of (Some nqn) host pages above = window (pages.active host nqn above) 0 4096
+
+-- .. of the controller's subsystem, that its host sees
+abbrev pub active_in : AdminController → Pages → ℕ → List ℕ
+active_in c pages above = active_of c.subsystem c.host pages above
 
 abbrev pub descriptors_at : Option Namespace → List ℕ
 descriptors_at None = replicate 4096 0
@@ -61,9 +70,9 @@ descriptors_at (Some n) = descriptor_list n
 
 abbrev pub structure_bytes : Structure → Pages → Configuration → AdminController → List ℕ
 structure_bytes structure.Controller pages config c = controller_data (identity_of config c)
-structure_bytes (structure.Namespace nsid) pages config c = namespace_data (namespace_in c.subsystem config nsid)
-structure_bytes (structure.ActiveList above) pages config c = active_in c.subsystem pages above
-structure_bytes (structure.Descriptors nsid) pages config c = descriptors_at (namespace_in c.subsystem config nsid)
+structure_bytes (structure.Namespace nsid) pages config c = namespace_data (namespace_in c config nsid)
+structure_bytes (structure.ActiveList above) pages config c = active_in c pages above
+structure_bytes (structure.Descriptors nsid) pages config c = descriptors_at (namespace_in c config nsid)
 
 -- ---- the data
 

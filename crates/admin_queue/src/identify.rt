@@ -1,5 +1,6 @@
 //! Identify (Base 2.0, section 5.17).
 ghost use Rattle.std.specs.Prelude.{◌≡◌};
+ghost use Rattle.config_rules.specs.Seen.{seen_by};
 ghost use Rattle.admin_queue.specs.Controller.{controller_in};
 ghost use Rattle.admin_queue.specs.Identify.{identify, structure_asked, structure_of};
 
@@ -39,19 +40,28 @@ fn structure_asked(
 {
     match (controller.subsystem, request.cns) {
         (_, CONTROLLER) => Ok(Structure::Controller),
-        (Some(subsystem), cns) => structure_of(config, subsystem.as_bytes(), cns, request.nsid),
+        (Some(subsystem), cns) => {
+            let (host, subsystem) = (controller.host.as_bytes(), subsystem.as_bytes());
+            structure_of(config, host, subsystem, cns, request.nsid)
+        }
         (None, _) => Err(Status::INVALID_FIELD),
     }
 }
 
-// What a controller of this subsystem tells of its namespaces.
-fn structure_of(config: &Config, subsystem: &[u8], cns: u8, nsid: u32) -> Result<Structure, Status>
-    ensures { result ≡ structure_of config.now subsystem.now cns nsid }
+// What a controller of this subsystem tells its host of the namespaces.
+fn structure_of(
+    config: &Config,
+    host: &[u8],
+    subsystem: &[u8],
+    cns: u8,
+    nsid: u32,
+) -> Result<Structure, Status>
+    ensures { result ≡ structure_of (seen_by config.now host.now) subsystem.now cns nsid }
 {
     match cns {
         NAMESPACE if is_nsid(u64::from(nsid)) => Ok(Structure::Namespace(nsid)),
         ACTIVE_LIST if nsid < LIST_END => Ok(Structure::ActiveList(nsid)),
-        DESCRIPTORS if config.namespace(subsystem, nsid).is_some() => {
+        DESCRIPTORS if config.namespace(host, subsystem, nsid).is_some() => {
             Ok(Structure::Descriptors(nsid))
         }
         NAMESPACE | ACTIVE_LIST | DESCRIPTORS => Err(Status::INVALID_NAMESPACE_OR_FORMAT),

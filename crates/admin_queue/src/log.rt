@@ -135,10 +135,12 @@ fn write_groups(
 {
     match controller.subsystem {
         Some(nqn) => {
-            let (port, counts) = (controller.port, controller.notices.counts());
+            let (host, port) = (controller.host.as_bytes(), controller.port);
+            let counts = controller.notices.counts();
+            let subsystem = nqn.as_bytes();
             pages
                 .ana
-                .window(nqn.as_bytes(), port, counts, groups_only, offset, out);
+                .window(host, subsystem, port, counts, groups_only, offset, out);
         }
         None => write_zeros(out),
     }
@@ -149,7 +151,10 @@ fn groups_len(pages: &Pages<'_>, controller: &AdminController<'_>, groups_only: 
         result ≡ length (ana_groups c.subsystem (pages_in pages.now) c groups_only) }
 {
     match controller.subsystem {
-        Some(nqn) => pages.ana.len(nqn.as_bytes(), controller.port, groups_only),
+        Some(nqn) => {
+            let (host, port) = (controller.host.as_bytes(), controller.port);
+            pages.ana.len(host, nqn.as_bytes(), port, groups_only)
+        }
         None => 0,
     }
 }

@@ -187,17 +187,17 @@ fn serial_of<'a>(config: &'a Config, nqn: &[u8]) -> &'a [u8]
     }
 }
 
-// The namespace of that identifier in the controller's subsystem.
+// The namespace of that identifier in the controller's subsystem, where its host sees it.
 fn namespace_of<'a>(
     config: &'a Config,
     controller: &AdminController<'_>,
     nsid: u32,
 ) -> Option<&'a Namespace>
     ensures { option_copied result
-        ≡ namespace_in (controller_in controller.now).subsystem config.now nsid }
+        ≡ namespace_in (controller_in controller.now) config.now nsid }
 {
     match controller.subsystem {
-        Some(nqn) => config.namespace(nqn.as_bytes(), nsid),
+        Some(nqn) => config.namespace(controller.host.as_bytes(), nqn.as_bytes(), nsid),
         None => None,
     }
 }
@@ -205,10 +205,13 @@ fn namespace_of<'a>(
 fn write_active(pages: &Pages<'_>, controller: &AdminController<'_>, above: u32, out: &mut [u8])
     requires { length out.old ≡ 4096 }
     ensures { out.new
-        ≡ active_in (controller_in controller.now).subsystem (pages_in pages.now) above }
+        ≡ active_in (controller_in controller.now) (pages_in pages.now) above }
 {
     match controller.subsystem {
-        Some(nqn) => pages.active.window(nqn.as_bytes(), above, out),
+        Some(nqn) => {
+            let host = controller.host.as_bytes();
+            pages.active.window(host, nqn.as_bytes(), above, out);
+        }
         None => write_zeros(out),
     }
 }

@@ -6,3 +6,5 @@ pub mod Numbers
 pub mod Pages
 pub mod Plans
 pub mod Ready
+pub mod Shows
+pub mod Stays

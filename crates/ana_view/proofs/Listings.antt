@@ -1,5 +1,5 @@
 -- Which groups are listed, and what each has.
-use Rattle.std.proofs.Common.{◌≡◌, ℕ, zero, suc, ◌+◌, ◌<◌, ◌≤◌, ◌==◌, ◌&&◌, Bool, true, false, not, List, [], ◌∷◌, All, AllPairs, Contains, filter, find, get_or, if◌then◌else◌, nat_eq, nat_lt, Option, Some, None, refl, ap, sym, ◌∙◌, subst, inl, inr, arith}
+use Rattle.std.proofs.Common.{◌≡◌, ◌↔◌, ℕ, zero, suc, ◌+◌, ◌<◌, ◌≤◌, ◌==◌, ◌&&◌, Bool, true, false, not, List, [], ◌∷◌, All, AllPairs, Contains, filter, find, get_or, if◌then◌else◌, nat_eq, nat_lt, Option, Some, None, refl, ap, sym, ◌∙◌, subst, inl, inr, arith}
 use Rattle.std.proofs.lemmas.Bool.{and_from, and_parts, cases_Bool, cases_lt}
 use Rattle.std.proofs.lemmas.Bool.Decides.{nat_tests}
 use Rattle.std.proofs.lemmas.List.{get_or_default}
@@ -15,11 +15,13 @@ use Rattle.config_lists.specs.GroupState.{state_for}
 use Rattle.config_lists.specs.Namespace.{is_named, nsid_max}
 use Rattle.config_lists.proofs.Names.{bytes_eq-same, same_name}
 use Rattle.config_rules.specs.Configuration.{Configuration}
+use Rattle.config_rules.specs.Seen.{seen_by}
 use Rattle.config_rules.specs.Valid.{IsNamespace, IsValid}
+use Rattle.config_rules.proofs.Seeing.{sees_what_is_shown}
 use Rattle.config_words.specs.Numbered.{nsids_where, numbers_from}
 use Rattle.config_words.proofs.Numbers.{kept_where, numbers_between}
 use Rattle.ana_view.specs.Group.{Descriptor, descriptor, descriptor_with, is_in_group, listed, listed_by, members}
-use Rattle.ana_view.specs.Laws.{GroupsAreListed, IsInGroup, IsShownAs}
+use Rattle.ana_view.specs.Laws.{GroupsAreListed, IsInGroup as IsSeenInGroup, IsShownAs as IsShownAsSeen}
 
 -- ---- numbers in a row
 
@@ -68,6 +70,23 @@ is_found {T = T} test (y ∷ ys) x (suc k, below, is) passes =
           let rest = is_found test ys x (k, omega arith, is) passes in
           (rest.0, ap (λ b. if b then Some y else find test ys) fails ∙ rest.1)
     ]
+
+-- the configuration has a namespace of that subsystem and that identifier in that group
+abbrev IsInGroup : Configuration → List ℕ → ℕ → ℕ → Type 0
+IsInGroup c subsystem group nsid =
+    (n : Namespace) × Contains c.namespaces n × (n.subsystem ≡ subsystem) × (n.nsid ≡ nsid) × (n.group ≡ group)
+
+-- a group has its state, and those namespaces, rising
+record IsShownAs (c : Configuration) (subsystem : List ℕ) (port : ℕ) (g : Descriptor) : Type 0 where
+  state : g.state ≡ state_for port subsystem g.id c.states
+  rising : AllPairs ◌<◌ g.nsids
+  nsids : (nsid : ℕ) → Contains g.nsids nsid ↔ IsInGroup c subsystem g.id nsid
+
+-- groups rise, and each that holds a namespace is there
+record IsListing (c : Configuration) (subsystem : List ℕ) (port : ℕ) (groups : List Descriptor) : Type 0 where
+  rising : AllPairs (λ a b. a.id < b.id) groups
+  shown : (g : Descriptor) → Contains groups g → IsShownAs c subsystem port g
+  held : (group nsid : ℕ) → IsInGroup c subsystem group nsid → (g : Descriptor) × Contains groups g × (g.id ≡ group)
 
 -- namespaces of one name are one
 abbrev AreDistinct : List Namespace → Type 0
@@ -194,9 +213,9 @@ shown_as c subsystem port k g valid is =
       nsids = λ nsid. members_are c subsystem k nsid valid;
     })
 
-pub groups_are_listed : GroupsAreListed
+listing : (c : Configuration) (subsystem : List ℕ) (port : ℕ) → IsValid c → IsListing c subsystem port (listed c subsystem port)
 unfolding listed_by
-groups_are_listed c subsystem port valid = record {
+listing c subsystem port valid = record {
   rising = listed_rise (descriptor c subsystem port) (λ k g is. ap (λ (d : Descriptor). d.id) (sym (is_shown k (state_for port subsystem k c.states) (members c subsystem k) g is))) 1 32;
   shown = λ g found.
       All-contains (IsShownAs c subsystem port) (listed c subsystem port) g (All-listed (IsShownAs c subsystem port) (descriptor c subsystem port) 1 32 (λ k d above is. shown_as c subsystem port k d valid is)) found;
@@ -206,3 +225,30 @@ groups_are_listed c subsystem port valid = record {
       let is = some_shown group (state_for port subsystem group c.states) (members c subsystem group) nsid there in
       (record { id = group; state = state_for port subsystem group c.states; nsids = members c subsystem group }, is_listed (descriptor c subsystem port) _ group 1 32 range.2 (omega arith) is, refl);
 }
+
+-- ---- as a host sees it
+
+-- what a host sees in a group is there, and seen
+seen_there : (c : Configuration) (host subsystem : List ℕ) (group nsid : ℕ) → IsInGroup (seen_by c host) subsystem group nsid ↔ IsSeenInGroup c host subsystem group nsid
+seen_there c host subsystem group nsid = (
+  λ (n, found, named, numbered, held). let both = (sees_what_is_shown.namespaces c host n).0 found in (n, both.0, both.1, named, numbered, held),
+  λ (n, found, sees, named, numbered, held). (n, (sees_what_is_shown.namespaces c host n).1 (found, sees), named, numbered, held),
+)
+
+shown_to : (c : Configuration) (host subsystem : List ℕ) (port : ℕ) (g : Descriptor) → IsShownAs (seen_by c host) subsystem port g → IsShownAsSeen c host subsystem port g
+shown_to c host subsystem port g shown = record {
+  state = shown.state;
+  rising = shown.rising;
+  nsids = λ nsid.
+      let there = seen_there c host subsystem g.id nsid in
+      (λ found. there.0 ((shown.nsids nsid).0 found), λ held. (shown.nsids nsid).1 (there.1 held));
+}
+
+pub groups_are_listed : GroupsAreListed
+groups_are_listed c host subsystem port valid =
+    let listing : IsListing (seen_by c host) subsystem port (listed (seen_by c host) subsystem port) = listing (seen_by c host) subsystem port (sees_what_is_shown.valid c host valid) in
+    record {
+      rising = listing.rising;
+      shown = λ g found. shown_to c host subsystem port g (listing.shown g found);
+      held = λ group nsid held. listing.held group nsid ((seen_there c host subsystem group nsid).1 held);
+    }

@@ -1,100 +1,179 @@
 -- What a plan has of two configurations, what is shown after it, and what it says that changes.
-use Rattle.std.proofs.Common.{◌≡◌, ◌≤◌, ℕ, false, ◌-◌, Bool, not, arith, Option, Some, None, Result, is_some, List, replicate, Bor, Ok, Err, IfOk, find, bytes_eq, refl, ap, sym, subst, ◌∙◌, inl, inr, if◌then◌else◌}
-use Rattle.std.proofs.lemmas.Bool.{cases_Bool, false_from_ne_true}
+use Rattle.std.proofs.Common.{◌≡◌, ◌≤◌, ◌&&◌, ℕ, Bool, true, false, ◌-◌, not, arith, Option, Some, None, Result, Ok, Err, IfOk, IfSome, Bor, is_none, is_some, List, replicate, bytes_eq, refl, ap, sym, subst, ◌∙◌, inl, inr, if◌then◌else◌}
+use Rattle.std.proofs.lemmas.Bool.{and_parts, cases_Bool}
 use Rattle.std.proofs.lemmas.List.{get_or-replicate}
 use Rattle.std.specs.Option.{option_copied}
-use Rattle.config_lists.specs.GroupState.{state_for}
-use Rattle.config_lists.specs.Namespace.{is_named}
-use Rattle.config_lists.proofs.Names.{bytes_eq-same, same_name}
+use Rattle.config_lists.specs.Show.{is_shown_of}
+use Rattle.config_lists.proofs.Names.{same_name}
 use Rattle.config_rules.specs.Accept.{accept}
 use Rattle.config_rules.specs.Configuration.{Configuration}
+use Rattle.config_rules.specs.Seen.{seen_by, seen_by_strangers}
 use Rattle.config_edits.specs.declared.edit.Edit.{Edit}
 use Rattle.config_edits.specs.declared.fault.EditFault.{EditFault}
-use Rattle.config_words.proofs.Sets.{nsids_alike}
-use Rattle.edit_reach.specs.Reach.{StaysAsItWas, is_reached, subsystem_reached}
-use Rattle.edit_reach.proofs.Found.{same_namespace, same_state}
-use Rattle.edit_reach.proofs.Others.{stays}
-use Rattle.ana_view.specs.Group.{are_same, changes_group, descriptor, descriptor_with, is_in_group, listed, members}
+use Rattle.edit_reach.specs.Reach.{StaysAsItWas, host_reached, is_host_reached, is_reached, reaches, subsystem_reached}
+use Rattle.edit_reach.proofs.Others.{shown_stays, stays, strangers_stay}
+use Rattle.edit_reach.proofs.Viewers.{either_way}
+use Rattle.name_table.specs.Table.{value_of}
+use Rattle.name_table.specs.Variants.{variant_of}
+use Rattle.ana_view.specs.Group.{are_same, changes_group, descriptor, listed}
 use Rattle.ana_view.specs.GroupChanges.{differs_in, has_changed}
-use Rattle.ana_view.specs.View.{IsReachedBy, IsShownAfter, Planned, PlansEdit, Reached, Shown, ShowsAna, groups_in, groups_on, reached_in}
-use Rattle.ana_view.proofs.Counting.{listed_alike}
+use Rattle.ana_view.specs.Reached.{AreGroupsFor, IsOfEveryone, IsOfHost}
+use Rattle.ana_view.specs.View.{AreThoseReached, BeforeAfter, EveryoneReached, HostReached, LeadsTo, OfSubsystem, PlansEdit, Shown, ShowsAna, everyone, groups_on, nothing, one_host, own_in}
 use Rattle.ana_view.proofs.Listed.{group_in-listed}
 use Rattle.ana_view.proofs.Members.{same_itself}
+use Rattle.ana_view.proofs.Shows.{shows_by, variant_is, what_is_own}
+use Rattle.ana_view.proofs.Stays.{descriptor_stays, groups_stay, listed_stays}
 
--- ---- an edit leaves the subsystems that it does not reach
+and_none : (b : Bool) → (b && false) ≡ false
+and_none true = refl
+and_none false = refl
 
-members_stay : (old new : Configuration) (subsystem : List ℕ) (group : ℕ) → StaysAsItWas old new subsystem → members new subsystem group ≡ members old subsystem group
-unfolding members
-members_stay old new subsystem group stays =
-    nsids_alike (λ n. is_in_group (find (is_named subsystem n) new.namespaces) group) (λ n. is_in_group (find (is_named subsystem n) old.namespaces) group) (λ nsid above below.
-    ap (λ o. is_in_group o group) (same_namespace old new subsystem stays nsid))
+-- ---- the plan of an edit, and what it leads to
 
-descriptor_stays : (old new : Configuration) (subsystem : List ℕ) (port group : ℕ) → StaysAsItWas old new subsystem → descriptor new subsystem port group ≡ descriptor old subsystem port group
-descriptor_stays old new subsystem port group stays =
-    ap (λ state. descriptor_with group state (members new subsystem group)) (same_state old new subsystem stays port group)
-    ∙ ap (descriptor_with group (state_for port subsystem group old.states)) (members_stay old new subsystem group stays)
+module _ (old new : Configuration) (edit : Edit) (made : accept old edit ≡ Ok new) where
+  as_it_was : (host subsystem : List ℕ) → reaches edit host subsystem ≡ false → StaysAsItWas (seen_by old host) (seen_by new host) subsystem
+  as_it_was host subsystem apart = rw made at (stays old edit host subsystem apart)
 
-unreached_stays : (c next : Configuration) (edit : Edit) (subsystem : List ℕ) (port group : ℕ) → accept c edit ≡ Ok next → is_reached (subsystem_reached edit) subsystem ≡ false
-    → descriptor next subsystem port group ≡ descriptor c subsystem port group
-unreached_stays c next edit subsystem port group accepted apart =
-    let stays : StaysAsItWas c next subsystem = rw accepted at (stays c edit subsystem apart) in
-    descriptor_stays c next subsystem port group stays
+  shown_as_before : (host subsystem : List ℕ) → reaches edit host subsystem ≡ false → is_shown_of new.shows subsystem host ≡ is_shown_of old.shows subsystem host
+  shown_as_before host subsystem apart = rw made at (shown_stays old edit host subsystem apart)
 
-pub plans_nothing : (c next : Configuration) (edit : Edit) → accept c edit ≡ Ok next → subsystem_reached edit ≡ None → PlansEdit c next None
-plans_nothing c next edit accepted unreached = record {
-  others = λ subsystem port group none. unreached_stays c next edit subsystem port group accepted (ap (λ o. is_reached o subsystem) unreached);
-  reached = tt;
-}
+  strangers_as_before : (subsystem : List ℕ) (port : ℕ) → (is_reached (subsystem_reached edit) subsystem && is_none (host_reached edit)) ≡ false
+      → listed (seen_by_strangers new) subsystem port ≡ listed (seen_by_strangers old) subsystem port
+  strangers_as_before subsystem port apart = listed_stays (seen_by_strangers old) (seen_by_strangers new) subsystem (rw made at (strangers_stay old edit subsystem apart)) port
 
-pub plans_reached : (c next : Configuration) (edit : Edit) (name : List ℕ) (r : Reached) → accept c edit ≡ Ok next → subsystem_reached edit ≡ Some name → IsReachedBy c next name r → PlansEdit c next (Some r)
-plans_reached c next edit name r accepted reached by = record {
-  others = λ subsystem port group none.
-      unreached_stays c next edit subsystem port group accepted (ap (λ o. is_reached o subsystem) reached ∙ false_from_ne_true (bytes_eq name subsystem) (λ same.
-      own subsystem none (by.name ∙ same_name name subsystem same)));
-  reached = subst (λ (l : List ℕ). IsReachedBy c next l r) (sym by.name) by;
-} where
-  own : (subsystem : List ℕ) → reached_in (Some r) subsystem ≡ None → r.subsystem ≡ subsystem → ⊥
-  own subsystem none is =
-      let found : reached_in (Some r) subsystem ≡ Some r = ap (λ b. if b then Some r else None) (bytes_eq-same subsystem r.subsystem (sym is)) in
-      absurd (cc (found, none))
+  unreached : (host subsystem : List ℕ) → reaches edit host subsystem ≡ false → AreThoseReached (seen_by old host) (seen_by new host) subsystem None
+  unreached host subsystem apart = descriptor_stays (seen_by old host) (seen_by new host) subsystem (as_it_was host subsystem apart)
+
+  -- what a host had of its own it has still
+  own_as_before : (v : Shown) (host subsystem : List ℕ) → ShowsAna old v → reaches edit host subsystem ≡ false → IfSome (own_in v host subsystem) (AreGroupsFor new subsystem host)
+  own_as_before v host subsystem shows apart = still (own_in v host subsystem) (what_is_own old v host subsystem shows) where
+    still : (o : Option OfSubsystem) → IfSome o (AreGroupsFor old subsystem host) → IfSome o (AreGroupsFor new subsystem host)
+    still None are = tt
+    still (Some groups) are = groups_stay (seen_by old host) (seen_by new host) subsystem (as_it_was host subsystem apart) groups are
+
+  -- where it reaches nothing
+  module _ (none : subsystem_reached edit ≡ None) where
+    nowhere : (host subsystem : List ℕ) → reaches edit host subsystem ≡ false
+    nowhere host subsystem = ap (λ o. is_reached o subsystem && is_host_reached (host_reached edit) host) none
+
+    pub plans_nothing : PlansEdit old new nothing
+    plans_nothing = record { reached = λ host subsystem. unreached host subsystem (nowhere host subsystem) }
+
+    pub leads_nothing : (v : Shown) → ShowsAna old v → LeadsTo new v nothing
+    leads_nothing v shows next after =
+        shows_by new next
+        (λ subsystem port. after.strangers subsystem port ∙ shows.strangers subsystem port ∙ sym (strangers_as_before subsystem port (ap (λ o. is_reached o subsystem && is_none (host_reached edit)) none)))
+        (λ host subsystem. ap is_some (after.own host subsystem) ∙ shows.own host subsystem ∙ sym (shown_as_before host subsystem (nowhere host subsystem)))
+        (λ host subsystem. subst (λ o. IfSome o (AreGroupsFor new subsystem host)) (sym (after.own host subsystem)) (own_as_before v host subsystem shows (nowhere host subsystem)))
+
+  -- where it reaches a subsystem for every host
+  module _ (name : List ℕ) (r : EveryoneReached) (one : subsystem_reached edit ≡ Some name) (all : host_reached edit ≡ None) (of : IsOfEveryone old new name r) where
+    other : (subsystem : List ℕ) → bytes_eq subsystem r.subsystem ≡ false → is_reached (subsystem_reached edit) subsystem ≡ false
+    other subsystem apart = ap (λ o. is_reached o subsystem) one ∙ either_way name subsystem ∙ ap (bytes_eq subsystem) (sym of.subsystem_is) ∙ apart
+
+    not_reached : (host subsystem : List ℕ) → bytes_eq subsystem r.subsystem ≡ false → reaches edit host subsystem ≡ false
+    not_reached host subsystem apart = ap (λ b. b && is_host_reached (host_reached edit) host) (other subsystem apart)
+
+    is_it : (subsystem : List ℕ) → bytes_eq subsystem r.subsystem ≡ true → name ≡ subsystem
+    is_it subsystem same = sym (same_name subsystem r.subsystem same ∙ of.subsystem_is)
+
+    pub plans_everyone : PlansEdit old new (everyone r)
+    plans_everyone = record {
+      reached = λ host subsystem. elim (cases_Bool (bytes_eq subsystem r.subsystem)) [
+        | inl same ↦
+            rw same (
+              subst (λ (s : List ℕ). AreGroupsFor old s host (variant_of r.before host)) (is_it subsystem same) (variant_is old host name r.before of.before),
+              subst (λ (s : List ℕ). AreGroupsFor new s host (variant_of r.after host)) (is_it subsystem same) (variant_is new host name r.after of.after),
+            )
+        | inr apart ↦ rw apart (unreached host subsystem (not_reached host subsystem apart))
+      ];
+    }
+
+    pub leads_everyone : (v : Shown) → ShowsAna old v → LeadsTo new v (everyone r)
+    leads_everyone v shows next after =
+        shows_by new next
+        (λ subsystem port. after.strangers subsystem port ∙ elim (cases_Bool (bytes_eq subsystem r.subsystem)) [
+          | inl same ↦ rw same (of.after.strangers.on_each port ∙ ap (λ (s : List ℕ). listed (seen_by_strangers new) s port) (is_it subsystem same))
+          | inr apart ↦ rw apart (shows.strangers subsystem port ∙ sym (strangers_as_before subsystem port (ap (λ b. b && is_none (host_reached edit)) (other subsystem apart))))
+        ])
+        (λ host subsystem. ap is_some (after.own host subsystem) ∙ elim (cases_Bool (bytes_eq subsystem r.subsystem)) [
+          | inl same ↦ rw same (of.after.own.who host ∙ ap (λ (s : List ℕ). is_shown_of new.shows s host) (is_it subsystem same))
+          | inr apart ↦ rw apart (shows.own host subsystem ∙ sym (shown_as_before host subsystem (not_reached host subsystem apart)))
+        ])
+        (λ host subsystem. subst (λ o. IfSome o (AreGroupsFor new subsystem host)) (sym (after.own host subsystem)) (elim (cases_Bool (bytes_eq subsystem r.subsystem)) [
+          | inl same ↦ rw same (subst (λ (s : List ℕ). IfSome (value_of r.after.own host) (AreGroupsFor new s host)) (is_it subsystem same) (of.after.own.what host))
+          | inr apart ↦ rw apart (own_as_before v host subsystem shows (not_reached host subsystem apart))
+        ]))
+
+  -- where it reaches a subsystem for one host
+  module _ (name host_name : List ℕ) (r : HostReached) (one : subsystem_reached edit ≡ Some name) (alone : host_reached edit ≡ Some host_name) (of : IsOfHost old new host_name name r) where
+    other_two : (host subsystem : List ℕ) → (bytes_eq subsystem r.subsystem && bytes_eq host r.host) ≡ false → reaches edit host subsystem ≡ false
+    other_two host subsystem apart =
+        ap (λ o. is_reached o subsystem && is_host_reached (host_reached edit) host) one ∙ ap (λ o. bytes_eq name subsystem && is_host_reached o host) alone
+        ∙ ap (λ b. b && bytes_eq host_name host) (either_way name subsystem) ∙ ap (λ b. bytes_eq subsystem name && b) (either_way host_name host)
+        ∙ ap (λ (s : List ℕ). bytes_eq subsystem s && bytes_eq host host_name) (sym of.subsystem_is) ∙ ap (λ (h : List ℕ). bytes_eq subsystem r.subsystem && bytes_eq host h) (sym of.host_is) ∙ apart
+
+    are_they : (host subsystem : List ℕ) → (bytes_eq subsystem r.subsystem && bytes_eq host r.host) ≡ true → (name ≡ subsystem) × (host_name ≡ host)
+    are_they host subsystem both =
+        let parts = and_parts (bytes_eq subsystem r.subsystem) (bytes_eq host r.host) both in
+        (sym (same_name subsystem r.subsystem parts.0 ∙ of.subsystem_is), sym (same_name host r.host parts.1 ∙ of.host_is))
+
+    strangers_stay_here : (subsystem : List ℕ) → (is_reached (subsystem_reached edit) subsystem && is_none (host_reached edit)) ≡ false
+    strangers_stay_here subsystem = ap (λ o. is_reached (subsystem_reached edit) subsystem && is_none o) alone ∙ and_none (is_reached (subsystem_reached edit) subsystem)
+
+    -- what is meant for that host, under other names of it and of the subsystem
+    for_them : (c : Configuration) (groups : OfSubsystem) (host subsystem : List ℕ) → (bytes_eq subsystem r.subsystem && bytes_eq host r.host) ≡ true → AreGroupsFor c name host_name groups → AreGroupsFor c subsystem host groups
+    for_them c groups host subsystem both are =
+        let they = are_they host subsystem both in
+        subst (λ (s : List ℕ). AreGroupsFor c s host groups) they.0 (subst (λ (h : List ℕ). AreGroupsFor c name h groups) they.1 are)
+
+    pub plans_one_host : PlansEdit old new (one_host r)
+    plans_one_host = record {
+      reached = λ host subsystem. elim (cases_Bool (bytes_eq subsystem r.subsystem && bytes_eq host r.host)) [
+        | inl both ↦ rw both (for_them old r.before host subsystem both of.before, for_them new r.after host subsystem both of.after)
+        | inr apart ↦ rw apart (unreached host subsystem (other_two host subsystem apart))
+      ];
+    }
+
+    its_own : (host subsystem : List ℕ) → (b : Bool) → AreGroupsFor new subsystem host r.after → IfSome (if b then Some r.after else None) (AreGroupsFor new subsystem host)
+    its_own host subsystem true are = are
+    its_own host subsystem false are = tt
+
+    has_own : (b : Bool) → is_some (if b then Some r.after else None) ≡ b
+    has_own true = refl
+    has_own false = refl
+
+    pub leads_one_host : (v : Shown) → ShowsAna old v → LeadsTo new v (one_host r)
+    leads_one_host v shows next after =
+        shows_by new next
+        (λ subsystem port. after.strangers subsystem port ∙ shows.strangers subsystem port ∙ sym (strangers_as_before subsystem port (strangers_stay_here subsystem)))
+        (λ host subsystem. ap is_some (after.own host subsystem) ∙ elim (cases_Bool (bytes_eq subsystem r.subsystem && bytes_eq host r.host)) [
+          | inl both ↦
+              let they = are_they host subsystem both in
+              rw both (has_own r.is_own ∙ of.is_own ∙ ap (λ (s : List ℕ). is_shown_of new.shows s host_name) they.0 ∙ ap (λ (h : List ℕ). is_shown_of new.shows subsystem h) they.1)
+          | inr apart ↦ rw apart (shows.own host subsystem ∙ sym (shown_as_before host subsystem (other_two host subsystem apart)))
+        ])
+        (λ host subsystem. subst (λ o. IfSome o (AreGroupsFor new subsystem host)) (sym (after.own host subsystem)) (elim (cases_Bool (bytes_eq subsystem r.subsystem && bytes_eq host r.host)) [
+          | inl both ↦ rw both (its_own host subsystem r.is_own (for_them new r.after host subsystem both of.after))
+          | inr apart ↦ rw apart (own_as_before v host subsystem shows (other_two host subsystem apart))
+        ]))
+
+-- ---- whatever an edit makes that is accepted, where it reaches nothing
 
 pub none_copied : (o : Option (Bor (List ℕ))) → is_some o ≡ false → option_copied o ≡ None
 none_copied None none = refl
 none_copied (Some name) none = absurd (cc)
 
--- whatever an edit that is accepted makes
-pub plans_nothing_accepted : (c : Configuration) (edit : Edit) → subsystem_reached edit ≡ None → IfOk (accept c edit) (λ next. PlansEdit c next None)
+pub plans_nothing_accepted : (c : Configuration) (edit : Edit) → subsystem_reached edit ≡ None → IfOk (accept c edit) (λ next. PlansEdit c next nothing)
 plans_nothing_accepted c edit unreached = by_result (accept c edit) refl where
-  by_result : (r : Result Configuration EditFault) → accept c edit ≡ r → IfOk r (λ next. PlansEdit c next None)
+  by_result : (r : Result Configuration EditFault) → accept c edit ≡ r → IfOk r (λ next. PlansEdit c next nothing)
   by_result (Ok next) accepted = plans_nothing c next edit accepted unreached
   by_result (Err fault) accepted = tt
 
--- ---- what is shown after it
-
-others_listed : (old new : Configuration) (plan : Planned) (subsystem : List ℕ) (port : ℕ) → PlansEdit old new plan → reached_in plan subsystem ≡ None → listed old subsystem port ≡ listed new subsystem port
-others_listed old new plan subsystem port plans none =
-    listed_alike (descriptor old subsystem port) (descriptor new subsystem port) (λ group above below. sym (plans.others subsystem port group none))
-
-pub shows_next : (old new : Configuration) (plan : Planned) (v w : Shown) → PlansEdit old new plan → ShowsAna old v → IsShownAfter v plan w → ShowsAna new w
-shows_next old new None v w plans shows after = record {
-  groups = λ subsystem port.
-      ap (λ (x : Shown). groups_in x subsystem port) after ∙ shows.groups subsystem port ∙ others_listed old new None subsystem port plans refl;
-}
-shows_next old new (Some r) v w plans shows after = record {
-  groups = λ subsystem port. after subsystem port ∙ elim (cases_Bool (bytes_eq subsystem r.subsystem)) [
-    | inl same ↦
-        let is : r.subsystem ≡ subsystem = sym (same_name subsystem r.subsystem same) in
-        rw same (plans.reached.after.on_each port ∙ ap (λ (l : List ℕ). listed new l port) is)
-    | inr apart ↦
-        let none : reached_in (Some r) subsystem ≡ None = rw apart refl in
-        rw apart (shows.groups subsystem port ∙ others_listed old new (Some r) subsystem port plans none)
-  ];
-}
-
-pub shows_still : (c : Configuration) (edit : Edit) (v : Shown) → subsystem_reached edit ≡ None → ShowsAna c v → IfOk (accept c edit) (λ next. (w : Shown) → IsShownAfter v None w → ShowsAna next w)
-shows_still c edit v unreached shows = by_result (accept c edit) refl where
-  by_result : (r : Result Configuration EditFault) → accept c edit ≡ r → IfOk r (λ next. (w : Shown) → IsShownAfter v None w → ShowsAna next w)
-  by_result (Ok next) accepted = λ w after. shows_next c next None v w (plans_nothing c next edit accepted unreached) shows after
+pub leads_nothing_accepted : (c : Configuration) (edit : Edit) → subsystem_reached edit ≡ None → (v : Shown) → ShowsAna c v → IfOk (accept c edit) (λ next. LeadsTo next v nothing)
+leads_nothing_accepted c edit unreached v shows = by_result (accept c edit) refl where
+  by_result : (r : Result Configuration EditFault) → accept c edit ≡ r → IfOk r (λ next. LeadsTo next v nothing)
+  by_result (Ok next) accepted = leads_nothing c next edit accepted unreached v shows
   by_result (Err fault) accepted = tt
 
 -- ---- what changes
@@ -102,28 +181,11 @@ shows_still c edit v unreached shows = by_result (accept c edit) refl where
 pub none_changed : (group : ℕ) → 1 ≤ group → group ≤ 32 → has_changed (replicate 32 false) group ≡ false
 none_changed group above below = get_or-replicate {A = Bool} 32 (group - 1) false false (omega arith)
 
-on_reached : (old new : Configuration) (plan : Planned) (subsystem : List ℕ) (r : Reached) → PlansEdit old new plan → reached_in plan subsystem ≡ Some r → IsReachedBy old new subsystem r
-on_reached old new None subsystem r plans is = absurd (cc)
-on_reached old new (Some q) subsystem r plans is =
-    elim (cases_Bool (bytes_eq subsystem q.subsystem)) [
-      | inl same ↦
-          let own : Some q ≡ Some r = sym (ap (λ b. if b then Some q else None) same) ∙ is in
-          let one : q ≡ r = cc in
-          let name : q.subsystem ≡ subsystem = sym (same_name subsystem q.subsystem same) in
-          subst (λ (l : List ℕ). IsReachedBy old new l r) name (subst (λ (x : Reached). IsReachedBy old new q.subsystem x) one plans.reached)
-      | inr apart ↦
-          let none : None ≡ Some r = sym (ap (λ b. if b then Some q else None) apart) ∙ is in
-          absurd (cc)
-    ]
+pub nothing_changes : (old new : Configuration) (subsystem : List ℕ) (port group : ℕ) → AreThoseReached old new subsystem None → changes_group old new subsystem port group ≡ false
+nothing_changes old new subsystem port group stays =
+    ap (λ d. not (are_same (descriptor old subsystem port group) d)) (stays port group) ∙ ap not (same_itself (descriptor old subsystem port group))
 
-pub nothing_changes : (old new : Configuration) (plan : Planned) (subsystem : List ℕ) (port group : ℕ) → PlansEdit old new plan → reached_in plan subsystem ≡ None
-    → changes_group old new subsystem port group ≡ false
-nothing_changes old new plan subsystem port group plans none =
-    ap (λ d. not (are_same (descriptor old subsystem port group) d)) (plans.others subsystem port group none)
-    ∙ ap not (same_itself (descriptor old subsystem port group))
-
-pub differing_changes : (old new : Configuration) (plan : Planned) (subsystem : List ℕ) (r : Reached) (port group : ℕ) → PlansEdit old new plan → reached_in plan subsystem ≡ Some r → 1 ≤ group → group ≤ 32
+pub differing_changes : (old new : Configuration) (subsystem : List ℕ) (r : BeforeAfter) (port group : ℕ) → AreThoseReached old new subsystem (Some r) → 1 ≤ group → group ≤ 32
     → differs_in (groups_on r.before port) (groups_on r.after port) group ≡ changes_group old new subsystem port group
-differing_changes old new plan subsystem r port group plans is above below =
-    let both = on_reached old new plan subsystem r plans is in
-    rw (both.before.on_each port, both.after.on_each port, group_in-listed old subsystem port group above below, group_in-listed new subsystem port group above below) refl
+differing_changes old new subsystem r port group (before, after) above below =
+    rw (before.on_each port, after.on_each port, group_in-listed old subsystem port group above below, group_in-listed new subsystem port group above below) refl

@@ -1,25 +1,18 @@
--- The groups that are ready: each subsystem's are those that it shows, on each port.
-use Rattle.std.proofs.Common.{◌≡◌, ◌≢◌, ◌==◌, ◌&&◌, ◌||◌, ℕ, Bool, true, false, Option, Some, None, is_some, List, [], ◌∷◌, ◌++◌, IfSome, find, map, bytes_eq, nat_eq, refl, ap, sym, subst, ◌∙◌, inl, inr, unwrap_or, arith, if◌then◌else◌}
-use Rattle.std.proofs.lemmas.Bool.{both_ways, cases_Bool, false_from_ne_true}
+-- The groups of one subsystem that are ready: they are those that it shows, on each port.
+use Rattle.std.proofs.Common.{◌≡◌, ◌≢◌, ◌==◌, ◌&&◌, ◌||◌, ℕ, Bool, true, false, Option, Some, None, is_some, List, [], ◌∷◌, ◌++◌, IfSome, bytes_eq, nat_eq, refl, ap, sym, subst, ◌∙◌, inl, inr, unwrap_or, arith, if◌then◌else◌}
+use Rattle.std.proofs.lemmas.Bool.{both_ways, cases_Bool}
 use Rattle.std.proofs.lemmas.Bool.Decides.{nat_tests}
 use Rattle.std.proofs.lemmas.List.Folds.{list_any-append}
 use Rattle.std.specs.List.{list_any}
 use Rattle.std.specs.Map.{lookup}
 use Rattle.config_lists.specs.declared.group_state.AnaState.TheVariants.{Optimized}
 use Rattle.config_lists.specs.declared.group_state.GroupState.{GroupState}
-use Rattle.config_lists.specs.declared.subsystem.Subsystem.{Subsystem}
 use Rattle.config_lists.specs.GroupState.{is_state_on, state_for}
-use Rattle.config_lists.specs.Namespace.{is_named}
-use Rattle.config_lists.proofs.Names.{bytes_eq-same, same_name}
-use Rattle.config_rules.specs.Configuration.{Configuration, has_subsystem}
-use Rattle.config_rules.specs.Valid.{IsValid}
-use Rattle.config_words.proofs.Sets.{no_nsids}
-use Rattle.edit_reach.proofs.Found.{none_found}
+use Rattle.config_rules.specs.Configuration.{Configuration}
 use Rattle.indexmap.specs.IndexMap.{insert_entry}
-use Rattle.name_table.specs.Table.{IsPut, IsRemoved, value_of}
-use Rattle.ana_view.specs.Bodies.{AddsGroups, AreListed, HasMore, HasPorts, no_groups}
-use Rattle.ana_view.specs.Group.{Descriptor, descriptor, descriptor_with, is_in_group, listed, listed_by, members}
-use Rattle.ana_view.specs.View.{AreGroupsOf, AreSet, OfSubsystem, Shown, ShowsAna, groups_at, groups_in}
+use Rattle.ana_view.specs.Bodies.{AreListed, HasMore, HasPorts}
+use Rattle.ana_view.specs.Group.{Descriptor, descriptor, descriptor_with, listed, members}
+use Rattle.ana_view.specs.View.{AreGroupsOf, OfSubsystem}
 use Rattle.ana_view.proofs.Counting.{listed_alike}
 use Rattle.ana_view.proofs.Listed.{none_on, plain_groups}
 
@@ -139,90 +132,3 @@ groups_of c subsystem v plain are has sparse = by_list v.plain refl where
   by_list : (l : List Descriptor) → v.plain ≡ l → AreGroupsOf c subsystem v
   by_list [] empty = none_at_all c subsystem v plain empty (sparse empty)
   by_list (d ∷ ds) some = all_on c subsystem v plain are (has (λ none. absurd (cc (some, none))))
-
--- ---- the subsystems
-
-abbrev pub names_of : List Subsystem → List (List ℕ)
-names_of subsystems = map (λ s. s.nqn) subsystems
-
--- of these subsystems are shown the groups that they have in a configuration, and of no other any
-abbrev pub AreShown : Configuration → List (List ℕ) → Shown → Type 0
-AreShown c names v = (name : List ℕ) (port : ℕ) → groups_in v name port ≡ (if list_any (bytes_eq name) names then listed c name port else [])
-
-pub shown_next : (c : Configuration) (names : List (List ℕ)) (name : List ℕ) (old new : Shown) → AreShown c names old → AddsGroups c old name new → AreShown c (names ++ name ∷ []) new
-shown_next c names name old new are adds other port =
-    adds other port ∙ rw (list_any-append (bytes_eq other) names (name ∷ [])) (
-    elim (cases_Bool (bytes_eq other name)) [
-      | inl same ↦
-          let is : name ≡ other = sym (same_name other name same) in
-          rw (same, or_true (list_any (bytes_eq other) names)) (ap (λ (l : List ℕ). listed c l port) is)
-      | inr apart ↦ rw (apart, or_false (list_any (bytes_eq other) names)) (are other port)
-    ]) where
-      or_true : (b : Bool) → (b || (true || false)) ≡ true
-      or_true true = refl
-      or_true false = refl
-
-      or_false : (b : Bool) → (b || (false || false)) ≡ b
-      or_false true = refl
-      or_false false = refl
-
-among : (subsystems : List Subsystem) (name : List ℕ) → has_subsystem subsystems name ≡ true → list_any (bytes_eq name) (names_of subsystems) ≡ true
-among [] name there = there
-among (s ∷ subsystems) name there =
-    elim (cases_Bool (bytes_eq s.nqn name)) [
-      | inl same ↦
-          let is : s.nqn ≡ name = same_name s.nqn name same in
-          ap (λ b. b || list_any (bytes_eq name) (names_of subsystems)) (bytes_eq-same name s.nqn (sym is))
-      | inr apart ↦
-          let rest : list_any (bytes_eq name) (names_of subsystems) ≡ true = among subsystems name (sym (ap (λ b. b || has_subsystem subsystems name) apart) ∙ there) in
-          ap (λ b. bytes_eq name s.nqn || b) rest ∙ or_true (bytes_eq name s.nqn)
-    ]
-  where
-    or_true : (b : Bool) → (b || true) ≡ true
-    or_true true = refl
-    or_true false = refl
-
-no_members : (c : Configuration) (subsystem : List ℕ) (group : ℕ) → ((nsid : ℕ) → find (is_named subsystem nsid) c.namespaces ≡ None) → members c subsystem group ≡ []
-unfolding members
-no_members c subsystem group none =
-    no_nsids (λ nsid. is_in_group (find (is_named subsystem nsid) c.namespaces) group) (λ nsid above below. ap (λ o. is_in_group o group) (none nsid))
-
-none_listed : (c : Configuration) (subsystem : List ℕ) (port : ℕ) → IsValid c → has_subsystem c.subsystems subsystem ≡ false → listed c subsystem port ≡ []
-unfolding listed_by
-none_listed c subsystem port valid none =
-    listed_alike (descriptor c subsystem port) (λ _. None) (λ group above below.
-    ap (descriptor_with group (state_for port subsystem group c.states)) (no_members c subsystem group (none_found c subsystem valid none)))
-
-pub none_shown : (c : Configuration) (table : List (List ℕ × OfSubsystem)) → table ≡ [] → AreShown c [] (record { subsystems = table })
-unfolding groups_in
-none_shown c table none name port = ap (λ (t : List (List ℕ × OfSubsystem)). groups_at (value_of t name) port) none
-
-pub shows_ana : (c : Configuration) (v : Shown) → IsValid c → AreShown c (names_of c.subsystems) v → ShowsAna c v
-shows_ana c v valid are = record {
-  groups = λ subsystem port. are subsystem port ∙ by_test subsystem port (list_any (bytes_eq subsystem) (names_of c.subsystems)) refl;
-} where
-  by_test : (subsystem : List ℕ) (port : ℕ) (b : Bool) → list_any (bytes_eq subsystem) (names_of c.subsystems) ≡ b → (if b then listed c subsystem port else []) ≡ listed c subsystem port
-  by_test subsystem port true there = refl
-  by_test subsystem port false none =
-      sym (none_listed c subsystem port valid (false_from_ne_true (has_subsystem c.subsystems subsystem) (λ has. both_ways (list_any (bytes_eq subsystem) (names_of c.subsystems)) none (among c.subsystems subsystem has))))
-
--- ---- the groups of one subsystem are set
-
-abbrev Table : Type 0
-Table = List (List ℕ × OfSubsystem)
-
-pub put_set : (old new : Table) (name : List ℕ) (groups : OfSubsystem) → IsPut old new name groups → AreSet (record { subsystems = old }) name groups (record { subsystems = new })
-unfolding groups_in
-put_set old new name groups put other port =
-    ap (λ o. groups_at o port) (put other) ∙ elim (cases_Bool (bytes_eq other name)) [
-      | inl same ↦ rw same refl
-      | inr apart ↦ rw apart refl
-    ]
-
-pub removed_set : (old new : Table) (name : List ℕ) → IsRemoved old new name → AreSet (record { subsystems = old }) name no_groups (record { subsystems = new })
-unfolding groups_in
-removed_set old new name removed other port =
-    ap (λ o. groups_at o port) (removed other) ∙ elim (cases_Bool (bytes_eq other name)) [
-      | inl same ↦ rw same refl
-      | inr apart ↦ rw apart refl
-    ]

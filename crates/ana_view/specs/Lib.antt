@@ -5,5 +5,7 @@ pub mod Group
 pub mod GroupChanges
 pub mod Laws
 pub mod Page
+pub mod Plan
+pub mod Reached
 pub mod Tables
 pub mod View

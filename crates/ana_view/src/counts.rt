@@ -1,6 +1,7 @@
 //! How often edits changed what one controller shows.
 ghost use Rattle.std.specs.Prelude.{◌≡◌};
 ghost use Rattle.config_rules.specs.Configuration.{Configuration};
+ghost use Rattle.config_rules.specs.Seen.{seen_by};
 ghost use Rattle.ana_view.specs.Counts.{count_after, count_in, counts_with, for_each_group};
 ghost use Rattle.ana_view.specs.Group.{any_group, changes_ana};
 ghost use Rattle.ana_view.specs.GroupChanges.{has_changed};
@@ -50,15 +51,16 @@ impl AnaCounts {
     }
 
     /// Counts what an edit is going to change of what the controllers of that subsystem on that port
-    /// show; whether it changes anything. It comes before the plan is committed. A group that comes,
-    /// goes, gets or loses a namespace, or goes over to another state has changed.
-    pub fn note(&mut self, plan: &Plan, subsystem: &[u8], port: u16) -> bool
-        ensures changed { (old new : Configuration) → PlansEdit old new plan.now
-            → result ≡ changes_ana old new subsystem.now port }
-        ensures counts { (old new : Configuration) → PlansEdit old new plan.now
-            → self.new ≡ counts_after old new subsystem.now port self.old }
+    /// show to the host of that name; whether it changes anything. It comes before the plan is
+    /// committed. A group that comes, goes, gets or loses a namespace that the host sees, or goes over to
+    /// another state has changed.
+    pub fn note(&mut self, plan: &Plan, host: &[u8], subsystem: &[u8], port: u16) -> bool
+        ensures changed { (old new : Configuration) → PlansEdit old new plan.now → result
+            ≡ changes_ana (seen_by old host.now) (seen_by new host.now) subsystem.now port }
+        ensures counts { (old new : Configuration) → PlansEdit old new plan.now → self.new
+            ≡ counts_after (seen_by old host.now) (seen_by new host.now) subsystem.now port self.old }
     {
-        self.count(&GroupChanges::of(plan, subsystem, port))
+        self.count(&GroupChanges::of(plan, host, subsystem, port))
     }
 
     /// Counts each of these groups, and the page, where there is one; whether there is.

@@ -2,6 +2,7 @@
 ghost use Rattle.std.specs.Prelude.{◌≡◌, ◌≤◌, ℕ, Some};
 ghost use Rattle.std.specs.Option.{option_copied};
 ghost use Rattle.config_rules.specs.Configuration.{Configuration};
+ghost use Rattle.config_rules.specs.Seen.{seen_by};
 ghost use Rattle.ana_view.specs.Group.{are_same, are_same_numbers};
 ghost use Rattle.ana_view.specs.GroupChanges.{AreChanges, differs_in, group_in, has_changed};
 ghost use Rattle.ana_view.specs.View.{PlansEdit};
@@ -15,8 +16,8 @@ use std::marker::Model;
 /// How many ANA groups there may be.
 pub(crate) const GROUPS: usize = GROUP_END as usize - 1;
 
-/// The ANA groups that an edit changes, of those that the controllers of one subsystem on one port show.
-/// Each of these controllers counts them (`AnaCounts::count`). It takes no memory.
+/// The ANA groups that an edit changes, of those that the controllers of one subsystem on one port show to
+/// one host. Each of these controllers counts them (`AnaCounts::count`). It takes no memory.
 #[derive(Drop)]
 pub struct GroupChanges {
     // Of the first group first.
@@ -32,13 +33,14 @@ impl Model for GroupChanges {
 }
 
 impl GroupChanges {
-    /// Those that an edit is going to change. It comes before the plan is committed. A group that comes,
-    /// goes, gets or loses a namespace, or goes over to another state has changed.
-    pub fn of(plan: &Plan, subsystem: &[u8], port: u16) -> GroupChanges
+    /// Those that an edit is going to change as the host of that name sees them. It comes before the plan
+    /// is committed. A group that comes, goes, gets or loses a namespace that the host sees, or goes over
+    /// to another state has changed.
+    pub fn of(plan: &Plan, host: &[u8], subsystem: &[u8], port: u16) -> GroupChanges
         ensures { (old new : Configuration) → PlansEdit old new plan.now
-            → AreChanges old new subsystem.now port result }
+            → AreChanges (seen_by old host.now) (seen_by new host.now) subsystem.now port result }
     {
-        match plan.reached(subsystem) {
+        match plan.reached(host, subsystem) {
             Some(groups) => GroupChanges {
                 changed: differences(groups.before.on(port), groups.after.on(port)),
             },

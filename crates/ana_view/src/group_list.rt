@@ -40,7 +40,8 @@ impl AnaGroup {
         self.state
     }
 
-    /// The identifiers of the subsystem's namespaces in it, rising. There is at least one.
+    /// The identifiers of the subsystem's namespaces in it that the host sees, rising. There is at least
+    /// one.
     pub fn nsids(&self) -> &[u32]
         ensures { result.now ≡ self.now.nsids }
     {
@@ -67,6 +68,15 @@ impl Model for GroupList {
 }
 
 impl GroupList {
+    /// None.
+    pub(crate) fn empty(alloc: Global) -> GroupList
+        ensures { result ≡ [] }
+    {
+        GroupList {
+            groups: Vec::new(alloc),
+        }
+    }
+
     /// Those of these tables.
     pub(crate) fn of(alloc: Global, groups: &Groups<'_>) -> Result<GroupList, AllocError>
         ensures { IfOk result (λ list. list ≡ listing_of groups.now) }

@@ -10,7 +10,7 @@ ghost use Rattle.ana_view.specs.Group.{descriptor, descriptor_with, is_in_group,
 
 use config_tables::{GROUP_END, NamespaceTable, StateTable};
 use config_words::Nsids;
-use nvt_config::{AnaState, Config, Namespace};
+use nvt_config::{AnaState, Namespace, Seen};
 
 /// Of a subsystem on a port, its namespaces, which say their groups, and the state of each group. The
 /// states are taken by one walk over a configuration's, which takes no memory.
@@ -26,20 +26,20 @@ impl<'a> Groups<'a> {
     ghost use Rattle.ana_view.specs.Tables.{AreNamespacesOf, AreSizes, descriptor_of, is_member};
     ghost use Rattle.ana_view.specs.Tables.{nsids_of, state_of};
 
-    /// Those of a configuration, whose namespaces of the subsystem are these.
+    /// Those of a configuration as it is seen, whose namespaces of the subsystem are these.
     pub(crate) fn of(
         namespaces: &'a NamespaceTable<'a>,
-        config: &'a Config,
+        seen: &Seen<'a>,
         subsystem: &[u8],
         port: u16,
     ) -> Groups<'a>
-        requires { AreNamespacesOf config.now subsystem.now namespaces.now }
+        requires { AreNamespacesOf seen.now subsystem.now namespaces.now }
         ensures { (group : ℕ) → group < 33
-            → descriptor_of result group ≡ descriptor config.now subsystem.now port group }
+            → descriptor_of result group ≡ descriptor seen.now subsystem.now port group }
     {
         Groups {
             namespaces,
-            states: StateTable::of(config.states(), subsystem, port),
+            states: StateTable::of(seen.states(), subsystem, port),
         }
     }
 

@@ -3,7 +3,7 @@
 ghost use Rattle.ana_view.specs.Laws.{ChangesAreCounted, GroupsAreListed};
 
 /// The groups of a log page rise, each with its state and exactly the subsystem's namespaces that are
-/// in it, rising; a group is listed where it holds one, and not else.
+/// in it and that the host sees, rising; a group is listed where it holds one of them, and not else.
 pub fn groups_are_listed()
     ensures { GroupsAreListed }
 {}

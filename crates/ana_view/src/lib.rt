@@ -1,7 +1,7 @@
 //! The Asymmetric Namespace Access log page of each controller (Base 2.0, section 5.16.1.13): which ANA
-//! groups a configuration shows to the controllers of a subsystem on a port, in which states, how often
-//! edits changed that, for each controller, and the page's bytes from any offset. It knows no connection
-//! and no command.
+//! groups a configuration shows to a host by the controllers of a subsystem on a port, in which states,
+//! how often edits changed that, for each controller, and the page's bytes from any offset. It knows no
+//! connection and no command.
 #![tactic(auto)]
 
 mod bodies;

@@ -8,12 +8,12 @@ use crate::group_list::{AnaGroup, GroupList};
 use crate::groups::Groups;
 use config_tables::NamespaceTable;
 use indexmap::IndexMap;
-use nvt_config::Config;
+use nvt_config::Seen;
 use std::alloc::{AllocError, Global};
 use std::marker::Model;
 
 /// The groups of one subsystem: on each port for which a state was set, and those on every other port,
-/// where each state is optimized. Where it holds no namespace there are none, and no port.
+/// where each state is optimized. Where no namespace of it is seen there are none, and no port.
 #[derive(Drop)]
 pub(crate) struct SubsystemGroups {
     plain: GroupList,
@@ -29,22 +29,32 @@ impl Model for SubsystemGroups {
 }
 
 impl SubsystemGroups {
-    /// Those of a configuration.
+    /// None.
+    pub(crate) fn empty(alloc: Global) -> SubsystemGroups
+        ensures { result ≡ no_groups }
+    {
+        SubsystemGroups {
+            plain: GroupList::empty(alloc),
+            ports: IndexMap::new(alloc),
+        }
+    }
+
+    /// Those of a configuration as it is seen.
     pub(crate) fn of(
         alloc: Global,
-        config: &Config,
+        seen: &Seen<'_>,
         subsystem: &[u8],
     ) -> Result<SubsystemGroups, AllocError>
-        ensures groups { IfOk result (AreGroupsOf config.now subsystem.now) }
+        ensures groups { IfOk result (AreGroupsOf seen.now subsystem.now) }
         ensures sparse { IfOk result (λ groups. groups.plain ≡ [] → groups ≡ no_groups) }
     {
-        let namespaces = NamespaceTable::of(config.namespaces(), subsystem);
+        let namespaces = seen.table(subsystem);
         let plain = GroupList::of(alloc, &Groups::plain(&namespaces))?;
         let mut groups = SubsystemGroups {
             plain,
             ports: IndexMap::new(alloc),
         };
-        groups.add_ports(alloc, config, subsystem, &namespaces)?;
+        groups.add_ports(alloc, seen, subsystem, &namespaces)?;
         Ok(groups)
     }
 
@@ -66,28 +76,28 @@ impl SubsystemGroups {
         self.plain.is_empty() && self.ports.is_empty()
     }
 
-    // Adds those on each port for which a state was set, unless no namespace is held.
+    // Adds those on each port for which a state was set, unless no namespace is there.
     fn add_ports(
         &mut self,
         alloc: Global,
-        config: &Config,
+        seen: &Seen<'_>,
         subsystem: &[u8],
         namespaces: &NamespaceTable<'_>,
     ) -> Result<(), AllocError>
-        requires namespaces { AreNamespacesOf config.now subsystem.now namespaces.now }
+        requires namespaces { AreNamespacesOf seen.now subsystem.now namespaces.now }
         requires none { self.old.ports ≡ [] }
-        ensures listed { OnOk result (AreListed config.now subsystem.now self.new.ports) }
+        ensures listed { OnOk result (AreListed seen.now subsystem.now self.new.ports) }
         ensures ports { OnOk result (self.new.plain ≢ []
-            → HasPorts subsystem.now config.now.states self.new.ports) }
+            → HasPorts subsystem.now seen.now.states self.new.ports) }
         ensures sparse { OnOk result (self.new.plain ≡ [] → self.new.ports ≡ []) }
         ensures plain { self.new.plain ≡ self.old.plain }
     {
         if self.plain.is_empty() {
             return Ok(());
         }
-        for state in config.states() {
+        for state in seen.states() {
             if state.subsystem.as_bytes() == subsystem {
-                self.add(alloc, config, subsystem, namespaces, state.port)?;
+                self.add(alloc, seen, subsystem, namespaces, state.port)?;
             }
         }
         Ok(())
@@ -97,21 +107,21 @@ impl SubsystemGroups {
     fn add(
         &mut self,
         alloc: Global,
-        config: &Config,
+        seen: &Seen<'_>,
         subsystem: &[u8],
         namespaces: &NamespaceTable<'_>,
         port: u16,
     ) -> Result<(), AllocError>
-        requires namespaces { AreNamespacesOf config.now subsystem.now namespaces.now }
-        requires listed { AreListed config.now subsystem.now self.old.ports }
-        ensures listed { OnOk result (AreListed config.now subsystem.now self.new.ports) }
+        requires namespaces { AreNamespacesOf seen.now subsystem.now namespaces.now }
+        requires listed { AreListed seen.now subsystem.now self.old.ports }
+        ensures listed { OnOk result (AreListed seen.now subsystem.now self.new.ports) }
         ensures more { OnOk result (HasMore self.old.ports self.new.ports port) }
         ensures plain { self.new.plain ≡ self.old.plain }
     {
         if self.ports.contains_key(&port) {
             return Ok(());
         }
-        let list = GroupList::of(alloc, &Groups::of(namespaces, config, subsystem, port))?;
+        let list = GroupList::of(alloc, &Groups::of(namespaces, seen, subsystem, port))?;
         self.ports.insert(port, list)?;
         Ok(())
     }

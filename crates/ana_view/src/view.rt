@@ -1,27 +1,31 @@
 //! A view of the ANA groups: it follows the edits of a configuration and writes the log page of each
-//! controller.
-ghost use Rattle.std.specs.Prelude.{◌≡◌, ℕ, IfOk, IsOk, Ok, length, slice_get};
+//! controller, as its host sees it.
+ghost use Rattle.std.specs.Prelude.{◌≡◌, ◌<◌, [], IfOk, IsOk, Ok, length, slice_get};
+ghost use Rattle.std.specs.Option.{option_copied};
 ghost use Rattle.config_rules.specs.Accept.{accept};
+ghost use Rattle.name_table.specs.Variants.{count_at};
 ghost use Rattle.nvt_fields.specs.Window.{window};
 ghost use Rattle.ana_view.specs.Counts.{Counts};
-ghost use Rattle.ana_view.specs.View.{IsPlannedFor, IsShownAfter, PlansEdit, ShowsAna, Shown};
+ghost use Rattle.ana_view.specs.Reached.{IsOfEveryone, IsOfHost};
+ghost use Rattle.ana_view.specs.View.{IsPlannedFor, IsShownAfter, LeadsTo, PlansEdit, ShowsAna};
 ghost use Rattle.ana_view.specs.View.{groups_in, page_in};
-ghost use Rattle.std.specs.Option.{option_copied};
 
-use crate::bodies::Bodies;
+use crate::bodies::{Bodies, groups_of};
 use crate::counts::AnaCounts;
 use crate::group_list::AnaGroup;
 use crate::page::{page_len, write_page};
-use crate::plan::{Plan, ReachedGroups};
-use edit_reach::subsystem_reached;
+use crate::plan::{EveryoneGroups, HostGroups, Plan, Reached};
+use crate::subsystem::SubsystemGroups;
+use config_lists::show::is_shown_of;
+use edit_reach::{host_reached, subsystem_reached};
 use nvt_config::{Config, Edit};
 use std::alloc::{AllocError, Global};
 use std::marker::Model;
 
-/// The ANA groups that the controllers of each subsystem on each port show.
+/// The ANA groups that the controllers of each subsystem on each port show to each host.
 ///
 /// They are ready: no call but `new`, `prepare` and `prepare_to` walks over a configuration, and nothing
-/// is kept of one.
+/// is kept of one. Hosts that are shown nothing of a subsystem share its groups.
 #[derive(Drop)]
 pub struct AnaView {
     alloc: Global,
@@ -45,20 +49,24 @@ impl AnaView {
         Ok(AnaView { alloc, bodies })
     }
 
-    /// Takes all the memory to go over to what an edit makes of the configuration that the view shows:
-    /// none where the edit reaches no subsystem. Every answer is as before, also after want of memory.
+    /// Takes all the memory to go over to what an edit makes of the configuration that the view shows.
+    /// Every answer is as before, also after want of memory. An edit that reaches no subsystem's
+    /// namespaces or states costs nothing, one that reaches a subsystem's costs its own, for strangers
+    /// and for each host that is shown some, and one that shows or hides a namespace costs those of its
+    /// host.
     pub fn prepare(&mut self, config: &Config, edit: &Edit) -> Result<Plan, AllocError>
         requires { IsOk (accept config.now edit.now) }
         ensures planned { IfOk result (λ plan. IfOk (accept config.now edit.now)
             (λ next. PlansEdit config.now next plan)) }
-        ensures next { ShowsAna config.now self.old.shown
-            → IfOk result (λ plan. IfOk (accept config.now edit.now)
-            (λ next. (v : Shown) → IsShownAfter self.old.shown plan v → ShowsAna next v)) }
-        ensures room { IfOk result (IsPlannedFor self.new.room) }
+        ensures next { ShowsAna config.now self.old.shown → IfOk result (λ plan.
+            IfOk (accept config.now edit.now) (λ next. LeadsTo next self.old.shown plan)) }
+        ensures room { IfOk result (IsPlannedFor self.new) }
         ensures kept { self.new.shown ≡ self.old.shown }
     {
         if subsystem_reached(edit).is_none() {
-            return Ok(Plan { reached: None });
+            return Ok(Plan {
+                reached: Reached::Nothing,
+            });
         }
         let next = config.edited(edit)?;
         self.prepare_to(config, &next, edit)
@@ -73,51 +81,103 @@ impl AnaView {
     ) -> Result<Plan, AllocError>
         requires { accept config.now edit.now ≡ Ok next.now }
         ensures planned { IfOk result (PlansEdit config.now next.now) }
-        ensures next { ShowsAna config.now self.old.shown → IfOk result (λ plan. (v : Shown)
-            → IsShownAfter self.old.shown plan v → ShowsAna next.now v) }
-        ensures room { IfOk result (IsPlannedFor self.new.room) }
+        ensures next { ShowsAna config.now self.old.shown
+            → IfOk result (LeadsTo next.now self.old.shown) }
+        ensures room { IfOk result (IsPlannedFor self.new) }
         ensures kept { self.new.shown ≡ self.old.shown }
     {
         let Some(subsystem) = subsystem_reached(edit) else {
-            return Ok(Plan { reached: None });
+            return Ok(Plan {
+                reached: Reached::Nothing,
+            });
         };
         self.bodies.reserve()?;
-        let reached = ReachedGroups::of(self.alloc, config, next, subsystem)?;
+        let Some(host) = host_reached(edit) else {
+            let everyone = self.everyone(config, next, subsystem)?;
+            return Ok(Plan {
+                reached: Reached::Everyone(everyone),
+            });
+        };
+        let one = self.of_host(config, next, host, subsystem)?;
         Ok(Plan {
-            reached: Some(reached),
+            reached: Reached::Host(one),
+        })
+    }
+
+    // What an edit makes of a subsystem for every host.
+    fn everyone(
+        &self,
+        old: &Config,
+        new: &Config,
+        subsystem: &[u8],
+    ) -> Result<EveryoneGroups, AllocError>
+        ensures { IfOk result (IsOfEveryone old.now new.now subsystem.now) }
+    {
+        let name = Vec::from_slice(self.alloc, subsystem)?;
+        let before = groups_of(self.alloc, old, subsystem)?;
+        let after = groups_of(self.alloc, new, subsystem)?;
+        Ok(EveryoneGroups {
+            subsystem: name,
+            before,
+            after,
+        })
+    }
+
+    // What an edit makes of a subsystem for one host.
+    fn of_host(
+        &self,
+        old: &Config,
+        new: &Config,
+        host: &[u8],
+        subsystem: &[u8],
+    ) -> Result<HostGroups, AllocError>
+        ensures of { IfOk result (IsOfHost old.now new.now host.now subsystem.now) }
+        ensures empty { IfOk result (λ r. r.room.values ≡ []) }
+        ensures wide { IfOk result
+            (λ r. count_at self.now.shown.subsystems subsystem.now < r.room.room) }
+    {
+        let before = SubsystemGroups::of(self.alloc, &old.seen_by(host), subsystem)?;
+        let after = SubsystemGroups::of(self.alloc, &new.seen_by(host), subsystem)?;
+        let room = self.bodies.room_for_host(self.alloc, subsystem)?;
+        Ok(HostGroups {
+            subsystem: Vec::from_slice(self.alloc, subsystem)?,
+            host: Vec::from_slice(self.alloc, host)?,
+            before,
+            after,
+            nobody: SubsystemGroups::empty(self.alloc),
+            is_own: is_shown_of(new.shows(), subsystem, host),
+            room,
         })
     }
 
     /// Goes over to what was prepared last. Takes no memory.
     pub fn commit(&mut self, plan: Plan)
-        requires { IsPlannedFor self.old.room plan }
+        requires { IsPlannedFor self.old plan }
         ensures { IsShownAfter self.old.shown plan self.new.shown }
     {
-        if let Some(reached) = plan.reached {
-            let ReachedGroups {
-                subsystem,
-                before,
-                after,
-            } = reached;
-            drop(before);
-            self.bodies.set(subsystem, after);
+        match plan.reached {
+            Reached::Nothing => {}
+            Reached::Everyone(reached) => self.bodies.replace(reached),
+            Reached::Host(reached) => self.bodies.replace_of_host(reached),
         }
     }
 
-    /// The group of this number, from 0, of those that a controller of that subsystem on that port
-    /// shows.
-    pub fn group(&self, subsystem: &[u8], port: u16, index: usize) -> Option<&AnaGroup>
+    /// The group of this number, from 0, of those that a controller of that subsystem on that port shows
+    /// to the host of that name. The host may be one that was never added.
+    pub fn group(&self, host: &[u8], subsystem: &[u8], port: u16, index: usize) -> Option<&AnaGroup>
         ensures { option_copied result
-            ≡ slice_get (groups_in self.now.shown subsystem.now port) index }
+            ≡ slice_get (groups_in self.now.shown host.now subsystem.now port) index }
     {
-        self.bodies.get(subsystem, port).get(index)
+        self.bodies.get(host, subsystem, port).get(index)
     }
 
     /// Fills `out` with the Asymmetric Namespace Access log page (Base 2.0, section 5.16.1.13) of a
-    /// controller of that subsystem on that port, with its counts, from an offset on, and with zeros
-    /// past the page's end. With `groups_only` (Return Groups Only) no descriptor has identifiers.
+    /// controller of that subsystem on that port for the host of that name, with its counts, from an
+    /// offset on, and with zeros past the page's end. With `groups_only` (Return Groups Only) no
+    /// descriptor has identifiers.
     pub fn window(
         &self,
+        host: &[u8],
         subsystem: &[u8],
         port: u16,
         counts: &AnaCounts,
@@ -125,23 +185,24 @@ impl AnaView {
         offset: u64,
         out: &mut [u8],
     )
-        ensures { out.new ≡ window (page_in self.now.shown subsystem.now port counts.now groups_only)
+        ensures { out.new
+            ≡ window (page_in self.now.shown host.now subsystem.now port counts.now groups_only)
             offset (length out.old) }
     {
         write_page(
             out,
             offset,
-            self.bodies.get(subsystem, port),
+            self.bodies.get(host, subsystem, port),
             counts,
             groups_only,
         );
     }
 
     /// The length of that page in bytes.
-    pub fn len(&self, subsystem: &[u8], port: u16, groups_only: bool) -> u64
+    pub fn len(&self, host: &[u8], subsystem: &[u8], port: u16, groups_only: bool) -> u64
         ensures { (counts : Counts) → result
-            ≡ length (page_in self.now.shown subsystem.now port counts groups_only) }
+            ≡ length (page_in self.now.shown host.now subsystem.now port counts groups_only) }
     {
-        page_len(self.bodies.get(subsystem, port), groups_only)
+        page_len(self.bodies.get(host, subsystem, port), groups_only)
     }
 }

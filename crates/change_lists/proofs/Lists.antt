@@ -1,5 +1,5 @@
 -- The identifiers of a list rise, and are those of the subsystem's namespaces.
-use Rattle.std.proofs.Common.{◌≡◌, ◌==◌, ◌&&◌, ◌||◌, ℕ, zero, suc, ◌+◌, ◌<◌, ◌≤◌, Bool, true, false, not, List, [], ◌∷◌, All, AllPairs, nat_lt, nat_eq, filter, length, refl, ap, sym, ◌∙◌, arith}
+use Rattle.std.proofs.Common.{◌≡◌, ◌==◌, ◌&&◌, ◌||◌, ℕ, zero, suc, ◌+◌, ◌<◌, ◌≤◌, Bool, true, false, not, List, [], ◌∷◌, All, AllPairs, Contains, ◌↔◌, nat_lt, nat_eq, filter, length, refl, ap, sym, ◌∙◌, arith}
 use Rattle.std.proofs.lemmas.Bool.{and_from, and_parts, lt-ltb, ltb-true}
 use Rattle.std.proofs.lemmas.Bool.Decides.{nat_tests}
 use Rattle.std.proofs.lemmas.List.Elements.{All-cons, All-contains, All-nil, All-weaker}
@@ -16,7 +16,9 @@ use Rattle.config_rules.specs.Valid.{IsNamespace, IsValid}
 use Rattle.config_rules.proofs.Count.{namespaces_are_few}
 use Rattle.config_words.specs.Numbered.{active_nsids, is_there, nsids_where, numbers_from}
 use Rattle.config_words.proofs.Numbers.{kept_where, none_kept, numbers_between}
-use Rattle.change_lists.specs.ActiveList.{IsActive, IsActiveList, NsidsAreListed, nsids_above}
+use Rattle.config_rules.specs.Seen.{seen_by}
+use Rattle.config_rules.proofs.Seeing.{sees_what_is_shown}
+use Rattle.change_lists.specs.ActiveList.{IsActive, NsidsAreListed, list_page, nsids_above}
 use Rattle.change_lists.proofs.Pages.{length-kept, length-page}
 
 -- numbers in a row rise, and are those between two
@@ -31,12 +33,21 @@ numbers_rise first (suc n) =
     AllPairs-cons ◌<◌ first (numbers_from (suc first) n) (All-above first (suc first) n (omega arith)) (numbers_rise (suc first) n)
 
 -- a subsystem has a namespace of an identifier
-active_there : (c : Configuration) (subsystem : List ℕ) (k : ℕ) → IsActive c subsystem k → is_there c.namespaces subsystem k ≡ true
+abbrev IsThere : Configuration → List ℕ → ℕ → Type 0
+IsThere c subsystem nsid = (n : Namespace) × Contains c.namespaces n × (n.subsystem ≡ subsystem) × (n.nsid ≡ nsid)
+
+-- a list of those above one
+record IsListing (c : Configuration) (subsystem : List ℕ) (above : ℕ) (nsids : List ℕ) : Type 0 where
+  rising : AllPairs ◌<◌ nsids
+  listed : (nsid : ℕ) → Contains nsids nsid ↔ ((above < nsid) × IsThere c subsystem nsid)
+  fits : length (list_page nsids) ≤ 4096
+
+active_there : (c : Configuration) (subsystem : List ℕ) (k : ℕ) → IsThere c subsystem k → is_there c.namespaces subsystem k ≡ true
 active_there c subsystem k (n, (at, below, is), named, numbered) =
     list_any-from_Any (is_named subsystem k) c.namespaces
     (at, n, below, is, and_from (bytes_eq n.subsystem subsystem) (n.nsid == k) (bytes_eq-same n.subsystem subsystem named) (grind (arith, nat_tests, numbered)))
 
-there_active : (c : Configuration) (subsystem : List ℕ) (k : ℕ) → is_there c.namespaces subsystem k ≡ true → IsActive c subsystem k
+there_active : (c : Configuration) (subsystem : List ℕ) (k : ℕ) → is_there c.namespaces subsystem k ≡ true → IsThere c subsystem k
 there_active c subsystem k there =
     let (at, n, below, is, named) = Any-from_list_any (is_named subsystem k) c.namespaces there in
     let parts = and_parts (bytes_eq n.subsystem subsystem) (n.nsid == k) named in
@@ -51,13 +62,13 @@ abbrev Has : Configuration → List ℕ → ℕ → ℕ → ℕ → ℕ → Type
 Has c subsystem above first n k =
     (nat_lt above k && (is_there c.namespaces subsystem k && (nat_lt k (first + n) && not (nat_lt k first)))) ≡ true
 
-is_listed : (c : Configuration) (subsystem : List ℕ) (above first n k : ℕ) → Has c subsystem above first n k → (above < k) × IsActive c subsystem k
+is_listed : (c : Configuration) (subsystem : List ℕ) (above first n k : ℕ) → Has c subsystem above first n k → (above < k) × IsThere c subsystem k
 is_listed c subsystem above first n k has =
     let parts = and_parts (nat_lt above k) _ has in
     let there = and_parts (is_there c.namespaces subsystem k) _ parts.1 in
     (ltb-true above k parts.0, there_active c subsystem k there.0)
 
-has_listed : (c : Configuration) (subsystem : List ℕ) (above first n k : ℕ) → AreWithin first n c.namespaces → (above < k) × IsActive c subsystem k → Has c subsystem above first n k
+has_listed : (c : Configuration) (subsystem : List ℕ) (above first n k : ℕ) → AreWithin first n c.namespaces → (above < k) × IsThere c subsystem k → Has c subsystem above first n k
 has_listed c subsystem above first n k within (over, (m, found, named, numbered)) =
     let between = All-contains (λ m. (first ≤ m.nsid) × (m.nsid < first + n)) c.namespaces m within found in
     let there = active_there c subsystem k (m, found, named, numbered) in
@@ -104,7 +115,7 @@ few_there (m ∷ namespaces) subsystem first n =
       few_there namespaces subsystem first n,
     )
 
-listed_from : (c : Configuration) (subsystem : List ℕ) (above first n : ℕ) → IsValid c → AreWithin first n c.namespaces → IsActiveList c subsystem above (nsids_above above (filter (is_there c.namespaces subsystem) (numbers_from first n)))
+listed_from : (c : Configuration) (subsystem : List ℕ) (above first n : ℕ) → IsValid c → AreWithin first n c.namespaces → IsListing c subsystem above (nsids_above above (filter (is_there c.namespaces subsystem) (numbers_from first n)))
 listed_from c subsystem above first n valid within =
     let there : ℕ → Bool = is_there c.namespaces subsystem in
     let numbers : List ℕ = numbers_from first n in
@@ -125,6 +136,25 @@ nsids_within c valid =
     All-weaker (IsNamespace c.units c.subsystems) (λ m. (1 ≤ m.nsid) × (m.nsid < 1 + nsid_max))
     (λ m sound. (grind (arith, nat_tests, sound.nsid), grind (arith, nat_tests, sound.nsid))) c.namespaces valid.namespaces.sound
 
+-- what a host sees is there, and seen
+seen_there : (c : Configuration) (host subsystem : List ℕ) (k : ℕ) → IsThere (seen_by c host) subsystem k ↔ IsActive c host subsystem k
+seen_there c host subsystem k = (
+  λ (n, found, named, numbered). let both = (sees_what_is_shown.namespaces c host n).0 found in (n, both.0, both.1, named, numbered),
+  λ (n, found, sees, named, numbered). (n, (sees_what_is_shown.namespaces c host n).1 (found, sees), named, numbered),
+)
+
 pub nsids_listed : NsidsAreListed
 unfolding active_nsids nsids_where
-nsids_listed c subsystem above valid = listed_from c subsystem above 1 nsid_max valid (nsids_within c valid)
+nsids_listed c host subsystem above valid =
+    let seen : Configuration = seen_by c host in
+    let sound : IsValid seen = sees_what_is_shown.valid c host valid in
+    let listing : IsListing seen subsystem above (nsids_above above (active_nsids seen.namespaces subsystem)) = listed_from seen subsystem above 1 nsid_max sound (nsids_within seen sound) in
+    record {
+      rising = listing.rising;
+      listed = λ nsid.
+          let there = seen_there c host subsystem nsid in (
+            λ found. let is = (listing.listed nsid).0 found in (is.0, there.0 is.1),
+            λ active. (listing.listed nsid).1 (active.0, there.1 active.1),
+          );
+      fits = listing.fits;
+    }

@@ -22,9 +22,9 @@ pub(crate) fn write_list(out: &mut [u8], nsids: &[u32], above: u32)
     }
 }
 
-/// Whatever a configuration holds, the list of a subsystem above an identifier is strictly rising, has
-/// exactly the identifiers above it of the subsystem's namespaces, and fits the 4,096 bytes of an
-/// Identify. This is a fact of the definitions; a call does nothing.
+/// Whatever a configuration holds, the list of a subsystem above an identifier, as a host sees it, is
+/// strictly rising, has exactly the identifiers above it of the subsystem's namespaces that the host
+/// sees, and fits the 4,096 bytes of an Identify. This is a fact of the definitions; a call does nothing.
 pub fn nsids_are_listed()
     ensures { NsidsAreListed }
 {}

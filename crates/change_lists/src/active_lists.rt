@@ -1,33 +1,35 @@
-//! The identifiers of each subsystem's namespaces, ready.
-ghost use Rattle.std.specs.Prelude.{◌≡◌, ◌≤◌, ℕ, List, IfOk, OnOk, if◌then◌else◌};
-ghost use Rattle.std.specs.Str.{bytes_eq};
+//! The identifiers of each subsystem's namespaces, ready for each host.
+ghost use Rattle.std.specs.Prelude.{◌≡◌, ◌≤◌, ◌<◌, [], IfOk, OnOk};
+ghost use Rattle.config_rules.specs.Seen.{seen_by_strangers};
 ghost use Rattle.config_words.specs.Numbered.{active_nsids};
+ghost use Rattle.edit_reach.specs.Viewers.{AreOwnOf};
 ghost use Rattle.name_table.specs.Table.{IsPut};
-ghost use Rattle.change_lists.specs.ActiveView.{ShowsActive, nsids_in};
+ghost use Rattle.name_table.specs.Variants.{count_at};
+ghost use Rattle.change_lists.specs.ActiveView.{IsPlannedFor, IsShownAfter, ShowsActive};
+ghost use Rattle.change_lists.specs.ActiveView.{nsids_in};
+ghost use Rattle.change_lists.specs.ActiveView.{everyone, one_host};
+ghost use Rattle.change_lists.specs.Reached.{IsListFor};
 
-use config_tables::NamespaceTable;
-use config_words::Nsids;
-use name_table::NameTable;
-use nvt_config::{Config, Namespace};
+use crate::nsid_list::NsidList;
+use crate::plan::{EveryoneLists, HostLists};
+use name_table::{NameTable, VariantTable, Variants};
+use nvt_config::Config;
 use std::alloc::{AllocError, Global};
 use std::marker::Model;
 
-/// By a subsystem's name the identifiers of its namespaces, rising.
+/// By a subsystem's name the identifiers of its namespaces, rising: those that strangers see, and of each
+/// host that is shown some those that it sees.
 #[derive(Drop)]
 pub(crate) struct ActiveLists {
-    lists: NameTable<Vec<u32>>,
+    lists: VariantTable<NsidList>,
 }
 
 impl Model for ActiveLists {
-    ghost use Rattle.std.specs.Prelude.{map};
     ghost use Rattle.change_lists.specs.ActiveView.{ViewState};
 
     ghost Value = { ViewState };
 
-    ghost view = { λ l. record {
-      shown = record { lists = map (λ list. (list.0, list.1.items)) l.lists.values };
-      room = l.lists.room;
-    } };
+    ghost view = { λ l. record { shown = record { lists = l.lists.values }; room = l.lists.room } };
 }
 
 impl ActiveLists {
@@ -36,28 +38,39 @@ impl ActiveLists {
         ensures { IfOk result (λ lists. ShowsActive config.now lists.shown) }
     {
         let mut lists = ActiveLists {
-            lists: NameTable::new(alloc),
+            lists: VariantTable::new(alloc),
         };
         for subsystem in config.subsystems() {
             let name = subsystem.nqn.as_bytes();
-            let nsids = active_nsids(alloc, config.namespaces(), name)?;
+            let nsids = lists_of(alloc, config, name)?;
             lists.put(alloc, name, nsids)?;
         }
         Ok(lists)
     }
 
-    /// The identifiers of a subsystem's namespaces: none where it is not there.
-    #[tactic(auto, unfolding(crate::specs::ActiveView::nsids_in))]
-    pub(crate) fn get(&self, subsystem: &[u8]) -> &[u32]
-        ensures { result.now ≡ nsids_in self.now.shown subsystem.now }
+    // Puts the lists of a subsystem.
+    fn put(
+        &mut self,
+        alloc: Global,
+        subsystem: &[u8],
+        lists: Variants<NsidList>,
+    ) -> Result<(), AllocError>
+        ensures { OnOk result (IsPut self.old.shown.lists self.new.shown.lists subsystem.now lists) }
     {
-        match self.lists.get(subsystem) {
+        self.lists.put(alloc, subsystem, lists)
+    }
+
+    /// The identifiers of a subsystem's namespaces that a host sees: none where the subsystem is not there.
+    pub(crate) fn get(&self, host: &[u8], subsystem: &[u8]) -> &[u32]
+        ensures { result.now ≡ nsids_in self.now.shown host.now subsystem.now }
+    {
+        match self.lists.get(subsystem, host) {
             Some(nsids) => nsids.as_slice(),
             None => &[],
         }
     }
 
-    /// Makes room for the list of one subsystem more.
+    /// Makes room for the lists of one subsystem more.
     pub(crate) fn reserve(&mut self) -> Result<(), AllocError>
         ensures room { OnOk result (1 ≤ self.new.room) }
         ensures kept { self.new.shown ≡ self.old.shown }
@@ -65,49 +78,81 @@ impl ActiveLists {
         self.lists.reserve()
     }
 
-    /// Puts the identifiers of a subsystem's namespaces in the place of those of before. A subsystem that
-    /// has none takes no place.
-    pub(crate) fn replace(&mut self, subsystem: Vec<u8>, nsids: Vec<u32>)
-        requires { 1 ≤ self.old.room }
-        ensures { (other : List ℕ) → nsids_in self.new.shown other
-            ≡ (if bytes_eq other subsystem.items then nsids.items
-            else nsids_in self.old.shown other) }
+    /// Room for a list of one more host of a subsystem.
+    pub(crate) fn room_for_host(
+        &self,
+        alloc: Global,
+        subsystem: &[u8],
+    ) -> Result<NameTable<NsidList>, AllocError>
+        ensures empty { IfOk result (λ room. room.values ≡ []) }
+        ensures wide { IfOk result (λ room. count_at self.now.shown.lists subsystem.now < room.room) }
     {
-        if nsids.is_empty() {
+        self.lists.room_for_own(alloc, subsystem)
+    }
+
+    /// Puts the lists of a subsystem in the place of those of before. A subsystem of whose namespaces
+    /// nobody sees one takes no place.
+    pub(crate) fn replace(&mut self, reached: EveryoneLists)
+        requires { IsPlannedFor self.old (everyone reached) }
+        ensures { IsShownAfter self.old.shown (everyone reached) self.new.shown }
+    {
+        let EveryoneLists {
+            subsystem,
+            lists,
+            changed,
+        } = reached;
+        drop(changed);
+        if lists.is_uniform() && lists.common().is_empty() {
             self.lists.remove(subsystem.as_slice());
         } else {
-            self.lists.put_within(subsystem, nsids);
+            self.lists.put_within(subsystem, lists);
         }
     }
 
-    // Puts the identifiers of a subsystem's namespaces.
-    fn put(&mut self, alloc: Global, subsystem: &[u8], nsids: Vec<u32>) -> Result<(), AllocError>
-        ensures { OnOk result (IsPut self.old.shown.lists self.new.shown.lists subsystem.now nsids.items) }
+    /// Puts the list of one host of a subsystem in the place of the one of before, or takes that away.
+    pub(crate) fn replace_of_host(&mut self, reached: HostLists)
+        requires { IsPlannedFor self.old (one_host reached) }
+        ensures { IsShownAfter self.old.shown (one_host reached) self.new.shown }
     {
-        self.lists.put(alloc, subsystem, nsids)?;
-        Ok(())
+        let HostLists {
+            subsystem,
+            host,
+            nsids,
+            nobody,
+            changed,
+            is_own,
+            room,
+        } = reached;
+        drop(changed);
+        if is_own {
+            self.lists
+                .put_own_within(subsystem, host, nsids, nobody, room);
+        } else {
+            self.lists.remove_own(subsystem, host.as_slice());
+        }
     }
 }
 
-/// The identifiers of a subsystem's namespaces, rising.
-pub(crate) fn active_nsids(
+/// The identifiers of a subsystem's namespaces: those that strangers see, and of each host that is shown
+/// some those that it sees.
+pub(crate) fn lists_of(
     alloc: Global,
-    namespaces: &[Namespace],
+    config: &Config,
     subsystem: &[u8],
-) -> Result<Vec<u32>, AllocError>
-    ensures { IfOk result (λ nsids. nsids.items ≡ active_nsids namespaces.now subsystem.now) }
+) -> Result<Variants<NsidList>, AllocError>
+    ensures common { let seen = seen_by_strangers config.now in IfOk result
+        (λ lists. lists.common ≡ active_nsids seen.namespaces subsystem.now) }
+    ensures own { IfOk result (λ lists. AreOwnOf config.now.shows subsystem.now
+        (IsListFor config.now subsystem.now) lists.own) }
 {
-    let table = NamespaceTable::of(namespaces, subsystem);
-    listed(alloc, table.nsids())
-}
-
-// The identifiers that are left, as a list of their own.
-fn listed(alloc: Global, left: Nsids<'_>) -> Result<Vec<u32>, AllocError>
-    ensures { IfOk result (λ nsids. nsids.items ≡ left.entry) }
-{
-    let mut nsids = Vec::new(alloc);
-    for nsid in left {
-        nsids.push(nsid)?;
+    let strangers = NsidList::of(alloc, &config.seen_by_strangers(), subsystem)?;
+    let mut lists = Variants::new(alloc, strangers);
+    for show in config.shows() {
+        let host = show.host.as_bytes();
+        if show.subsystem.as_bytes() == subsystem && lists.own(host).is_none() {
+            let list = NsidList::of(alloc, &config.seen_by(host), subsystem)?;
+            lists.put(alloc, host, list)?;
+        }
     }
-    Ok(nsids)
+    Ok(lists)
 }

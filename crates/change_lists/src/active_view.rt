@@ -1,24 +1,28 @@
-//! A view of the active namespaces: it follows the edits of a configuration and lends each subsystem's list.
-ghost use Rattle.std.specs.Prelude.{◌≡◌, ℕ, IfOk, IsOk, MatchOption, Ok, false, length};
+//! A view of the active namespaces: it follows the edits of a configuration and lends each subsystem's
+//! list, as each host sees it.
+ghost use Rattle.std.specs.Prelude.{◌≡◌, IfOk, IsOk, Ok, length};
 ghost use Rattle.config_rules.specs.Accept.{accept};
-ghost use Rattle.config_rules.specs.Configuration.{Configuration};
-ghost use Rattle.config_words.specs.Numbered.{nsids_where};
 ghost use Rattle.nvt_fields.specs.Window.{window};
 ghost use Rattle.change_lists.specs.ActiveView.{IsPlannedFor, IsShownAfter, LeadsTo, PlansEdit};
 ghost use Rattle.change_lists.specs.ActiveView.{ShowsActive, active_page, nsids_in};
-ghost use Rattle.change_lists.specs.Changes.{changes_namespace};
+ghost use Rattle.change_lists.specs.Reached.{IsOfEveryone, IsOfHost};
+ghost use Rattle.name_table.specs.Variants.{count_at};
+ghost use Rattle.std.specs.Prelude.{◌<◌, []};
 
 use crate::active_list::write_list;
-use crate::active_lists::{ActiveLists, active_nsids};
-use crate::differences::changed_nsids;
-use config_words::NsidSet;
-use edit_reach::subsystem_reached;
+use crate::active_lists::{ActiveLists, lists_of};
+use crate::differences::{changed_nsids, changes_of};
+use crate::nsid_list::NsidList;
+use crate::plan::{EveryoneLists, HostLists, Plan, Reached};
+use config_lists::show::is_shown_of;
+use edit_reach::{host_reached, subsystem_reached};
 use nvt_config::{Config, Edit};
 use std::alloc::{AllocError, Global};
 use std::marker::Model;
 
-/// The identifiers of each subsystem's namespaces. They are ready: no call but `new` and `prepare`
-/// walks over a configuration, and nothing is kept of one.
+/// The identifiers of each subsystem's namespaces, as each host sees them. They are ready: no call but
+/// `new` and `prepare` walks over a configuration, and nothing is kept of one. Hosts that are shown
+/// nothing of a subsystem share its list.
 #[derive(Drop)]
 pub struct ActiveView {
     alloc: Global,
@@ -33,48 +37,6 @@ impl Model for ActiveView {
     ghost view = { λ v. v.lists };
 }
 
-/// What an edit will make of a view: the list of the subsystem that it reaches, and which of its
-/// namespaces the edit changes.
-#[derive(Drop)]
-pub struct Plan {
-    reached: Option<Reached>,
-}
-
-#[derive(Drop)]
-struct Reached {
-    subsystem: Vec<u8>,
-    nsids: Vec<u32>,
-    changed: NsidSet,
-}
-
-impl Model for Plan {
-    ghost use Rattle.std.specs.Option.{option_map};
-    ghost use Rattle.change_lists.specs.ActiveView.{Planned};
-
-    ghost Value = { Planned };
-
-    ghost view = { λ plan. option_map (λ r. record {
-      subsystem = r.subsystem.items;
-      nsids = r.nsids.items;
-      changed = r.changed;
-    }) plan.reached };
-}
-
-impl Plan {
-    /// The identifiers of the subsystem's namespaces whose size, block size, UUID or presence the edit
-    /// changes: none where it does not reach the subsystem.
-    pub fn changed(&self, subsystem: &[u8]) -> Option<&NsidSet>
-        ensures { (old new : Configuration) → PlansEdit old new self.now → MatchOption result
-            ((nsid : ℕ) → changes_namespace old new subsystem.now nsid ≡ false)
-            (λ changed. changed.now ≡ nsids_where (changes_namespace old new subsystem.now)) }
-    {
-        match &self.reached {
-            Some(reached) if reached.subsystem.as_slice() == subsystem => Some(&reached.changed),
-            _ => None,
-        }
-    }
-}
-
 impl ActiveView {
     /// The view of a configuration.
     pub fn new(alloc: Global, config: &Config) -> Result<ActiveView, AllocError>
@@ -86,18 +48,21 @@ impl ActiveView {
 
     /// Takes all the memory to go over to what an edit makes of the configuration that the view shows.
     /// Every answer is as before, also after want of memory. An edit that reaches no subsystem's
-    /// namespaces costs nothing, and one that reaches a subsystem's costs its own.
+    /// namespaces costs nothing, one that reaches a subsystem's costs its own, for strangers and for each
+    /// host that is shown some, and one that shows or hides a namespace costs those of its host.
     pub fn prepare(&mut self, config: &Config, edit: &Edit) -> Result<Plan, AllocError>
         requires { IsOk (accept config.now edit.now) }
         ensures plan { IfOk result (λ plan. IfOk (accept config.now edit.now)
             (λ next. PlansEdit config.now next plan)) }
         ensures next { ShowsActive config.now self.old.shown → IfOk result (λ plan.
             IfOk (accept config.now edit.now) (λ next. LeadsTo next self.old.shown plan)) }
-        ensures room { IfOk result (IsPlannedFor self.new.room) }
+        ensures room { IfOk result (IsPlannedFor self.new) }
         ensures kept { self.new.shown ≡ self.old.shown }
     {
         if subsystem_reached(edit).is_none() {
-            return Ok(Plan { reached: None });
+            return Ok(Plan {
+                reached: Reached::Nothing,
+            });
         }
         let next = config.edited(edit)?;
         self.prepare_to(config, &next, edit)
@@ -114,46 +79,101 @@ impl ActiveView {
         ensures plan { IfOk result (PlansEdit config.now next.now) }
         ensures next { ShowsActive config.now self.old.shown
             → IfOk result (LeadsTo next.now self.old.shown) }
-        ensures room { IfOk result (IsPlannedFor self.new.room) }
+        ensures room { IfOk result (IsPlannedFor self.new) }
         ensures kept { self.new.shown ≡ self.old.shown }
     {
         let Some(subsystem) = subsystem_reached(edit) else {
-            return Ok(Plan { reached: None });
+            return Ok(Plan {
+                reached: Reached::Nothing,
+            });
         };
         self.lists.reserve()?;
-        let nsids = active_nsids(self.alloc, next.namespaces(), subsystem)?;
+        let Some(host) = host_reached(edit) else {
+            let everyone = self.everyone(config, next, subsystem)?;
+            return Ok(Plan {
+                reached: Reached::Everyone(everyone),
+            });
+        };
+        let one = self.of_host(config, next, host, subsystem)?;
         Ok(Plan {
-            reached: Some(Reached {
-                subsystem: Vec::from_slice(self.alloc, subsystem)?,
-                nsids,
-                changed: changed_nsids(config, next, subsystem),
-            }),
+            reached: Reached::Host(one),
+        })
+    }
+
+    // What an edit makes of a subsystem for every host.
+    fn everyone(
+        &self,
+        old: &Config,
+        new: &Config,
+        subsystem: &[u8],
+    ) -> Result<EveryoneLists, AllocError>
+        ensures { IfOk result (IsOfEveryone old.now new.now subsystem.now) }
+    {
+        let name = Vec::from_slice(self.alloc, subsystem)?;
+        let lists = lists_of(self.alloc, new, subsystem)?;
+        let changed = changes_of(self.alloc, old, new, subsystem)?;
+        Ok(EveryoneLists {
+            subsystem: name,
+            lists,
+            changed,
+        })
+    }
+
+    // What an edit makes of a subsystem for one host.
+    fn of_host(
+        &self,
+        old: &Config,
+        new: &Config,
+        host: &[u8],
+        subsystem: &[u8],
+    ) -> Result<HostLists, AllocError>
+        ensures of { IfOk result (IsOfHost old.now new.now host.now subsystem.now) }
+        ensures empty { IfOk result (λ r. r.room.values ≡ []) }
+        ensures wide { IfOk result
+            (λ r. count_at self.now.shown.lists subsystem.now < r.room.room) }
+    {
+        let seen = new.seen_by(host);
+        let nsids = NsidList::of(self.alloc, &seen, subsystem)?;
+        let room = self.lists.room_for_host(self.alloc, subsystem)?;
+        let name = Vec::from_slice(self.alloc, subsystem)?;
+        Ok(HostLists {
+            subsystem: name,
+            host: Vec::from_slice(self.alloc, host)?,
+            nsids,
+            nobody: NsidList::empty(self.alloc),
+            changed: changed_nsids(&old.seen_by(host), &seen, subsystem),
+            is_own: is_shown_of(new.shows(), subsystem, host),
+            room,
         })
     }
 
     /// Goes over to what was prepared last. Takes no memory.
     pub fn commit(&mut self, plan: Plan)
-        requires { IsPlannedFor self.old.room plan }
+        requires { IsPlannedFor self.old plan }
         ensures { IsShownAfter self.old.shown plan self.new.shown }
     {
-        if let Some(reached) = plan.reached {
-            self.lists.replace(reached.subsystem, reached.nsids);
+        match plan.reached {
+            Reached::Nothing => {}
+            Reached::Everyone(reached) => self.lists.replace(reached),
+            Reached::Host(reached) => self.lists.replace_of_host(reached),
         }
     }
 
-    /// The identifiers of a subsystem's namespaces (Base 2.0, section 3.2.1.3), rising.
-    pub fn nsids(&self, subsystem: &[u8]) -> &[u32]
-        ensures { result.now ≡ nsids_in self.now.shown subsystem.now }
+    /// The identifiers of a subsystem's namespaces that the host of that name sees (Base 2.0, section
+    /// 3.2.1.3), rising. The host may be one that was never added.
+    pub fn nsids(&self, host: &[u8], subsystem: &[u8]) -> &[u32]
+        ensures { result.now ≡ nsids_in self.now.shown host.now subsystem.now }
     {
-        self.lists.get(subsystem)
+        self.lists.get(host, subsystem)
     }
 
     /// Fills `out` with the Active Namespace ID list of a subsystem (Base 2.0, section 5.17.2.2): the
-    /// identifiers above one of its namespaces, rising, 4 bytes each, and zeros past the list's end.
-    pub fn window(&self, subsystem: &[u8], above: u32, out: &mut [u8])
-        ensures { out.new
-            ≡ window (active_page self.now.shown subsystem.now above) 0 (length out.old) }
+    /// identifiers above one of its namespaces that the host of that name sees, rising, 4 bytes each, and
+    /// zeros past the list's end.
+    pub fn window(&self, host: &[u8], subsystem: &[u8], above: u32, out: &mut [u8])
+        ensures { out.new ≡ window (active_page self.now.shown host.now subsystem.now above) 0
+            (length out.old) }
     {
-        write_list(out, self.nsids(subsystem), above);
+        write_list(out, self.nsids(host, subsystem), above);
     }
 }

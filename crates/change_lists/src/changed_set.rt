@@ -8,9 +8,10 @@ ghost use Rattle.change_lists.specs.ChangedSet.{ChangedIsListed, changed_page, e
 ghost use Rattle.change_lists.specs.ActiveView.{PlansEdit};
 ghost use Rattle.change_lists.specs.Changes.{ChangesAreNoted, changes_namespaces, with_changes};
 ghost use Rattle.config_rules.specs.Configuration.{Configuration};
+ghost use Rattle.config_rules.specs.Seen.{seen_by};
 ghost use Rattle.nvt_fields.specs.Window.{window};
 
-use crate::active_view::Plan;
+use crate::plan::Plan;
 use config_words::{NsidSet, Nsids};
 use nvt_fields::write_part;
 use std::marker::Model;
@@ -64,14 +65,15 @@ impl ChangedSet {
     }
 
     /// Notes each namespace of the subsystem whose size, block size, UUID or presence an edit that is
-    /// planned changes; whether there is one. What an edit changes was compared as it was prepared.
-    pub fn note_planned(&mut self, plan: &Plan, subsystem: &[u8]) -> bool
+    /// planned changes as the host of that name sees it; whether there is one. What an edit changes was
+    /// compared as it was prepared.
+    pub fn note_planned(&mut self, plan: &Plan, host: &[u8], subsystem: &[u8]) -> bool
         ensures changed { (old new : Configuration) → PlansEdit old new plan.now
-            → result ≡ changes_namespaces old new subsystem.now }
-        ensures noted { (old new : Configuration) → PlansEdit old new plan.now
-            → self.new ≡ with_changes old new subsystem.now self.old }
+            → result ≡ changes_namespaces (seen_by old host.now) (seen_by new host.now) subsystem.now }
+        ensures noted { (old new : Configuration) → PlansEdit old new plan.now → self.new
+            ≡ with_changes (seen_by old host.now) (seen_by new host.now) subsystem.now self.old }
     {
-        match plan.changed(subsystem) {
+        match plan.changed(host, subsystem) {
             Some(changed) => add_all(&mut self.nsids, changed),
             None => false,
         }

@@ -1,23 +1,73 @@
 //! What a host is told to have changed of a namespace (Base 2.0, section 5.16.1.5).
-ghost use Rattle.std.specs.Prelude.{◌≡◌, Some};
+ghost use Rattle.std.specs.Prelude.{◌≡◌, ◌++◌, List, IfOk, OnOk, Some};
 ghost use Rattle.std.specs.Option.{option_copied, option_map};
 ghost use Rattle.config_words.specs.Numbered.{nsids_where};
+ghost use Rattle.config_lists.specs.declared.show.Show.{Show};
+ghost use Rattle.config_rules.specs.Seen.{seen_by_strangers};
+ghost use Rattle.edit_reach.specs.Viewers.{AreOwnOf};
 ghost use Rattle.change_lists.specs.Changes.{are_same, attributes_of, changes_namespace};
+ghost use Rattle.change_lists.specs.Reached.{AreChangesFor};
 ghost use Rattle.change_lists.specs.Tables.{differs, noted};
 
 use config_tables::NamespaceTable;
 use config_words::{NsidSet, Nsids};
-use nvt_config::{Config, Namespace};
+use name_table::Variants;
+use nvt_config::{Config, Namespace, Seen, Show};
+use std::alloc::{AllocError, Global};
 
 /// The identifiers of the subsystem's namespaces whose size, block size, UUID or presence an edit changes,
-/// from one configuration to the next. They are compared once, as an edit is prepared, and each controller
-/// of the subsystem notes them.
-pub(crate) fn changed_nsids(old: &Config, new: &Config, subsystem: &[u8]) -> NsidSet
+/// from one configuration to the next, as a host sees both. They are compared once, as an edit is
+/// prepared, and each controller of the subsystem whose host sees the same notes them.
+pub(crate) fn changed_nsids(old: &Seen<'_>, new: &Seen<'_>, subsystem: &[u8]) -> NsidSet
     ensures { result ≡ nsids_where (changes_namespace old.now new.now subsystem.now) }
 {
-    let before = NamespaceTable::of(old.namespaces(), subsystem);
-    let after = NamespaceTable::of(new.namespaces(), subsystem);
+    let before = old.table(subsystem);
+    let after = new.table(subsystem);
     differing(&before, &after)
+}
+
+/// Those of strangers, and of each host that is shown a namespace of the subsystem before or after.
+pub(crate) fn changes_of(
+    alloc: Global,
+    old: &Config,
+    new: &Config,
+    subsystem: &[u8],
+) -> Result<Variants<NsidSet>, AllocError>
+    ensures common { IfOk result (λ changed. changed.common ≡ nsids_where
+        (changes_namespace (seen_by_strangers old.now) (seen_by_strangers new.now) subsystem.now)) }
+    ensures own { IfOk result (λ changed. AreOwnOf (old.now.shows ++ new.now.shows) subsystem.now
+        (AreChangesFor old.now new.now subsystem.now) changed.own) }
+{
+    let (before, after) = (old.seen_by_strangers(), new.seen_by_strangers());
+    let mut changed = Variants::new(alloc, changed_nsids(&before, &after, subsystem));
+    add_changes(&mut changed, alloc, old.shows(), old, new, subsystem)?;
+    add_changes(&mut changed, alloc, new.shows(), old, new, subsystem)?;
+    Ok(changed)
+}
+
+// Adds those of each host to which one of these shows a namespace of the subsystem.
+fn add_changes(
+    changed: &mut Variants<NsidSet>,
+    alloc: Global,
+    shows: &[Show],
+    old: &Config,
+    new: &Config,
+    subsystem: &[u8],
+) -> Result<(), AllocError>
+    ensures own { (before : List Show)
+        → AreOwnOf before subsystem.now (AreChangesFor old.now new.now subsystem.now) changed.old.own
+        → OnOk result (AreOwnOf (before ++ shows.now) subsystem.now
+        (AreChangesFor old.now new.now subsystem.now) changed.new.own) }
+    ensures common { changed.new.common ≡ changed.old.common }
+{
+    for show in shows {
+        let host = show.host.as_bytes();
+        if show.subsystem.as_bytes() == subsystem && changed.own(host).is_none() {
+            let nsids = changed_nsids(&old.seen_by(host), &new.seen_by(host), subsystem);
+            changed.put(alloc, host, nsids)?;
+        }
+    }
+    Ok(())
 }
 
 // The identifiers whose namespaces are others after than before. Each of them is in a table.

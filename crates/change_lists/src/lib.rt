@@ -7,6 +7,9 @@ mod active_lists;
 pub mod active_view;
 pub mod changed_set;
 mod differences;
+mod nsid_list;
+pub mod plan;
 
-pub use active_view::{ActiveView, Plan};
+pub use active_view::ActiveView;
 pub use changed_set::{ChangedSet, empties};
+pub use plan::Plan;

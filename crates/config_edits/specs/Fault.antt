@@ -29,6 +29,7 @@ word_of_item item.Link = codes "Link"
 word_of_item item.Host = codes "Host"
 word_of_item item.Allow = codes "Allow"
 word_of_item item.Referral = codes "Referral"
+word_of_item item.Show = codes "Show"
 
 -- the kind of the refusal, and which value or item it is for
 abbrev pub reply_of : EditFault → List ℕ

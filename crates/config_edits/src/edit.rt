@@ -1,6 +1,7 @@
 //! The edits of a configuration.
 
 use config_lists::group_state::AnaState;
+use config_lists::namespace::Visibility;
 use config_lists::port::Family;
 use config_lists::subsystem::Access;
 use config_lists::text::Text;
@@ -29,12 +30,12 @@ pub enum Edit {
     SubsystemDel {
         nqn: Nqn,
     },
-    /// Adds a namespace after those that are there. Refused: `BadValue` of `Nsid` for one outside 1
-    /// to 4,096, of `Blocks` for 0, or for more than the disk has, where that is there, of
-    /// `BlockSize` for another than 512 and 4,096, of `Uuid` for the nil one, of `Group` for one
-    /// outside 1 to 32; `NoSuch` of `Subsystem`, then of `Disk`, where there is none; `Exists` of
-    /// `Namespace` for one of that subsystem and identifier, then of `Uuid` for that of a namespace
-    /// of any subsystem; `DiskInUse` where a namespace is on the disk.
+    /// Adds a namespace after those that are there; each host sees it. Refused: `BadValue` of `Nsid`
+    /// for one outside 1 to 4,096, of `Blocks` for 0, or for more than the disk has, where that is
+    /// there, of `BlockSize` for another than 512 and 4,096, of `Uuid` for the nil one, of `Group` for
+    /// one outside 1 to 32; `NoSuch` of `Subsystem`, then of `Disk`, where there is none; `Exists` of
+    /// `Namespace` for one of that subsystem and identifier, then of `Uuid` for that of a namespace of
+    /// any subsystem; `DiskInUse` where a namespace is on the disk.
     NamespaceAdd(NewNamespace),
     /// Sets the size of a namespace, in blocks. Refused: `BadValue` of `Blocks` for 0, or for more
     /// than its disk has, where the namespace is there; `NoSuch` of `Subsystem`, then of `Namespace`,
@@ -51,11 +52,33 @@ pub enum Edit {
         nsid: u64,
         group: u64,
     },
-    /// Removes a namespace. Refused: `NoSuch` of `Subsystem`, then of `Namespace`, where there is
-    /// none.
+    /// Removes a namespace, and its shows with it. Refused: `NoSuch` of `Subsystem`, then of
+    /// `Namespace`, where there is none.
     NamespaceDel {
         subsystem: Nqn,
         nsid: u64,
+    },
+    /// Sets which hosts see a namespace; its shows stay. Refused: `NoSuch` of `Subsystem`, then of
+    /// `Namespace`, where there is none.
+    NamespaceView {
+        subsystem: Nqn,
+        nsid: u64,
+        visibility: Visibility,
+    },
+    /// Shows a namespace to a host, after the shows that are there. Refused: `NoSuch` of `Subsystem`, of
+    /// `Namespace`, then of `Host` where no live one has the name; `Exists` for a show that is there;
+    /// `Full` where 1,024 shows are.
+    NamespaceShow {
+        subsystem: Nqn,
+        nsid: u64,
+        host: Nqn,
+    },
+    /// Ends a show. Refused: `NoSuch` of `Subsystem`, of `Namespace`, of `Host` where no live one has the
+    /// name, then of `Show`, where there is none.
+    NamespaceHide {
+        subsystem: Nqn,
+        nsid: u64,
+        host: Nqn,
     },
     /// Adds a port after those that are there. Refused: `BadValue` of `Port` for an `id` outside 1 to
     /// 65,535, of `Address` for one that is not 1 to 256 bytes from 21h to 7Eh, of `Service` for one
@@ -88,7 +111,8 @@ pub enum Edit {
         nqn: Nqn,
     },
     /// Makes a host no longer live; its name keeps its place. Refused: `NoSuch` where no live host has
-    /// the name; `InUse` of `Allow` where a subsystem allows it.
+    /// the name; `InUse` of `Allow` where a subsystem allows it, then of `Show` where it is shown a
+    /// namespace.
     HostDel {
         nqn: Nqn,
     },
@@ -154,6 +178,24 @@ impl Drop for Edit {
                 group: _,
             } => drop(subsystem),
             Edit::NamespaceDel { subsystem, nsid: _ } => drop(subsystem),
+            Edit::NamespaceView {
+                subsystem,
+                nsid: _,
+                visibility: _,
+            } => drop(subsystem),
+            Edit::NamespaceShow {
+                subsystem,
+                nsid: _,
+                host,
+            }
+            | Edit::NamespaceHide {
+                subsystem,
+                nsid: _,
+                host,
+            } => {
+                drop(subsystem);
+                drop(host);
+            }
             Edit::PortAdd(endpoint)
             | Edit::PortSet(endpoint)
             | Edit::ReferralAdd(endpoint)

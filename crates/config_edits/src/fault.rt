@@ -81,6 +81,7 @@ pub enum Item {
     Host,
     Allow,
     Referral,
+    Show,
 }
 
 impl fmt::Display for Value {
@@ -116,6 +117,7 @@ impl fmt::Display for Item {
             Item::Host => "Host",
             Item::Allow => "Allow",
             Item::Referral => "Referral",
+            Item::Show => "Show",
         })
     }
 }

@@ -1,5 +1,5 @@
 -- What a change of a list at the items that a test names keeps.
-use Rattle.std.proofs.Common.{◌≡◌, ◌≢◌, ℕ, ◌+◌, ◌<◌, ◌≤◌, Bool, true, false, not, cond, Option, Some, None, IfSome, find, List, [], ◌∷◌, ◌++◌, length, get_or, take, drop, map, All, AllPairs, nat_lt, position, refl, ap, sym, ◌∙◌, subst, arith, inl, inr}
+use Rattle.std.proofs.Common.{◌≡◌, ◌≢◌, ℕ, ◌+◌, ◌<◌, ◌≤◌, Bool, true, false, not, ◌&&◌, filter, cond, Option, Some, None, IfSome, find, List, [], ◌∷◌, ◌++◌, length, get_or, take, drop, map, All, AllPairs, nat_lt, position, refl, ap, sym, ◌∙◌, subst, arith, inl, inr}
 use Rattle.std.proofs.Math.ListN.{set}
 use Rattle.std.proofs.Math.Seq.{take-append_seam}
 use Rattle.std.proofs.lemmas.Bool.{both_ways, cond-true, cond-false, cond_both, cases_Bool, cases_lt, cases_order, lt-ltb, not_from_false, or_cases, or_left, or_right}
@@ -122,3 +122,18 @@ pub found_holds : {X : Type 0} (P : X → Type 0) (test : X → Bool) (xs : List
 found_holds P test [] all = tt
 found_holds P test (x ∷ xs) all =
     found_by P (test x) x (find test xs) (All-head P x xs all) (found_holds P test xs (All-tail P x xs all))
+
+-- what is found of those that pass a test passes both
+pub find-filter : {X : Type 0} (p q : X → Bool) (xs : List X) → find p (filter q xs) ≡ find (λ x. p x && q x) xs
+find-filter p q [] = refl
+find-filter p q (x ∷ xs) =
+    elim (cases_Bool (q x)) [
+      | inl kept ↦ elim (cases_Bool (p x)) [
+        | inl is ↦ rw (kept, is) refl
+        | inr not_it ↦ rw (kept, not_it) (find-filter p q xs)
+      ]
+      | inr left ↦ elim (cases_Bool (p x)) [
+        | inl is ↦ rw (left, is) (find-filter p q xs)
+        | inr not_it ↦ rw (left, not_it) (find-filter p q xs)
+      ]
+    ]

@@ -9,6 +9,7 @@ pub mod host;
 pub mod link;
 pub mod namespace;
 pub mod port;
+pub mod show;
 pub mod subsystem;
 pub mod text;
 
@@ -16,7 +17,8 @@ pub use allow::Allow;
 pub use group_state::{AnaState, GroupState};
 pub use host::Host;
 pub use link::Link;
-pub use namespace::{BlockSize, Namespace, Setting};
+pub use namespace::{BlockSize, Namespace, Setting, Visibility};
 pub use port::{Family, Port};
+pub use show::Show;
 pub use subsystem::{Access, Subsystem};
 pub use text::Text;

@@ -45,6 +45,15 @@ impl BlockSize {
     }
 }
 
+/// Which hosts see a namespace.
+#[derive(Clone, Copy, PartialEq, Eq)]
+pub enum Visibility {
+    /// Each host that may use its subsystem.
+    All,
+    /// The hosts that shows name.
+    Named,
+}
+
 /// Blocks that hosts read and write, on a disk of their own (Base 2.0, section 3.2.1).
 #[derive(Drop)]
 pub struct Namespace {
@@ -61,6 +70,7 @@ pub struct Namespace {
     pub uuid: Uuid,
     /// Its ANA group, from 1 to 32.
     pub group: u32,
+    pub visibility: Visibility,
 }
 
 /// What can be set of a namespace that is there.
@@ -70,10 +80,12 @@ pub enum Setting {
     Blocks(u64),
     /// Its ANA group.
     Group(u32),
+    /// Which hosts see it.
+    Visibility(Visibility),
 }
 
 impl Namespace {
-    fn has_name(&self, subsystem: &[u8], nsid: u64) -> bool
+    pub(crate) fn has_name(&self, subsystem: &[u8], nsid: u64) -> bool
         ensures { result ≡ is_named subsystem.now nsid self.now }
     {
         self.subsystem.as_bytes() == subsystem && u64::from(self.nsid) == nsid
@@ -85,6 +97,7 @@ impl Namespace {
         match value {
             Setting::Blocks(blocks) => self.blocks = blocks,
             Setting::Group(group) => self.group = group,
+            Setting::Visibility(visibility) => self.visibility = visibility,
         }
     }
 }
@@ -101,6 +114,7 @@ impl Clone for Namespace {
             block_size: self.block_size,
             uuid: self.uuid,
             group: self.group,
+            visibility: self.visibility,
         })
     }
 }

@@ -56,6 +56,7 @@ with_allows c allows valid sound = record {
   allows = sound;
   states = valid.states;
   referrals = valid.referrals;
+  shows = valid.shows;
 }
 
 pub IsValid-with_allow : (c : Configuration) (allow : Allow) → IsValid c → has_subsystem c.subsystems allow.subsystem ≡ true → has_live_host c.hosts allow.host ≡ true → has_allow c.allows allow.subsystem allow.host ≡ false → nat_le 1024 (length c.allows) ≡ false → IsValid (with_allow c allow)

@@ -1,18 +1,20 @@
 -- What a change of the hosts keeps.
-use Rattle.std.proofs.Common.{◌≡◌, ◌≤◌, ◌&&◌, ◌++◌, ◌∷◌, [], ℕ, Bool, true, false, not, List, nat_le, length, get_or, refl, sym, ◌∙◌, subst, inl, inr, arith}
+use Rattle.std.proofs.Common.{◌≡◌, ◌≤◌, ◌&&◌, ◌++◌, ◌∷◌, [], ℕ, Bool, true, false, not, List, All, nat_le, length, get_or, refl, sym, ◌∙◌, subst, inl, inr, arith}
 use Rattle.std.proofs.lemmas.Bool.{and_cases, and_from, and_left, and_parts, both_ways, cases_Bool, cond_both, false_from_ne_true, not-false, or_left}
 use Rattle.std.proofs.lemmas.Grind.{common_steps}
 use Rattle.std.proofs.lemmas.List.Folds.{list_any-append}
 use Rattle.std.specs.Str.{bytes_eq}
 use Rattle.config_lists.specs.declared.allow.Allow.{Allow}
 use Rattle.config_lists.specs.declared.host.Host.{Host}
+use Rattle.config_lists.specs.declared.show.Show.{Show}
 use Rattle.config_lists.specs.Lists.{changed_where}
 use Rattle.config_lists.proofs.Distinct.{distinct-push}
 use Rattle.config_lists.proofs.Lists.{no_item, length-changed_where, distinct-changed_where, list_any-changed_kept, list_any-changed_where}
 use Rattle.config_lists.proofs.Names.{bytes_eq-same, other_name}
-use Rattle.config_rules.specs.Configuration.{Configuration, has_host, has_live_host, is_host_allowed, with_host, with_live, with_new_host, without_host}
-use Rattle.config_rules.specs.Valid.{AreAllows, AreHosts, IsValid}
+use Rattle.config_rules.specs.Configuration.{Configuration, has_host, has_live_host, is_host_allowed, is_host_shown, with_host, with_live, with_new_host, without_host}
+use Rattle.config_rules.specs.Valid.{AreHosts, IsValid}
 use Rattle.config_rules.proofs.Allows.{AreAllows-elsewhere}
+use Rattle.config_rules.proofs.Shows.{AreShows-elsewhere}
 
 AreHosts-push : (hosts : List Host) (host : Host) → AreHosts hosts → has_host hosts host.nqn ≡ false → nat_le 256 (length hosts) ≡ false → AreHosts (hosts ++ host ∷ [])
 AreHosts-push hosts host valid absent room = record {
@@ -35,18 +37,20 @@ AreHosts-set hosts nqn live valid =
 pub hosts_alone : (c : Configuration) (nqn : List ℕ) → with_host c nqn ≡ record c { hosts = (with_host c nqn).hosts }
 hosts_alone c nqn = elim (cases_Bool (has_host c.hosts nqn)) [ inl back ↦ rw back refl | inr new ↦ rw new refl ]
 
--- what is true of a configuration stays where its hosts alone change, and those that are allowed are live
-with_hosts : (c : Configuration) (hosts : List Host) → IsValid c → AreHosts hosts → AreAllows c.subsystems hosts c.allows → IsValid (record c { hosts = hosts })
-with_hosts c hosts valid sound allows = record {
+-- what is true of a configuration stays where its hosts alone change, and those that are allowed or shown something are live
+with_hosts : (c : Configuration) (hosts : List Host) → IsValid c → AreHosts hosts → All (λ a. has_live_host c.hosts a.host ≡ true → has_live_host hosts a.host ≡ true) c.allows
+    → All (λ s. has_live_host c.hosts s.host ≡ true → has_live_host hosts s.host ≡ true) c.shows → IsValid (record c { hosts = hosts })
+with_hosts c hosts valid sound allowed shown = record {
   disks = valid.disks;
   subsystems = valid.subsystems;
   namespaces = valid.namespaces;
   ports = valid.ports;
   links = valid.links;
   hosts = sound;
-  allows = allows;
+  allows = AreAllows-elsewhere c.subsystems c.subsystems c.hosts hosts c.allows (λ _ _ _ there. there) allowed valid.allows;
   states = valid.states;
   referrals = valid.referrals;
+  shows = AreShows-elsewhere c.namespaces c.namespaces c.hosts hosts c.shows (λ _ _ _ there. there) shown valid.shows;
 }
 
 -- hosts that are made live are live
@@ -58,15 +62,19 @@ IsValid-coming_back : (c : Configuration) (nqn : List ℕ) → IsValid c → IsV
 IsValid-coming_back c nqn valid =
     let hosts : List Host = changed_where (λ h. bytes_eq h.nqn nqn) (live_set true) c.hosts in
     with_hosts c hosts valid (AreHosts-set c.hosts nqn true valid.hosts)
-    (AreAllows-elsewhere c.subsystems c.subsystems c.hosts hosts c.allows (λ _ _ _ there. there) (λ k d _. still_live c.hosts nqn (get_or c.allows k d).host) valid.allows)
+    (λ k d _. still_live c.hosts nqn (get_or c.allows k d).host)
+    (λ k d _. still_live c.hosts nqn (get_or c.shows k d).host)
+
+live_beside : (hosts : List Host) (host : Host) (name : List ℕ) → has_live_host hosts name ≡ true → has_live_host (hosts ++ host ∷ []) name ≡ true
+live_beside hosts host name there =
+    list_any-append (λ h. bytes_eq h.nqn name && h.live) hosts (host ∷ []) ∙ or_left (has_live_host hosts name) _ there
 
 IsValid-with_new_host : (c : Configuration) (host : Host) → IsValid c → has_host c.hosts host.nqn ≡ false → nat_le 256 (length c.hosts) ≡ false → IsValid (with_new_host c host)
 IsValid-with_new_host c host valid absent room =
     let hosts : List Host = c.hosts ++ host ∷ [] in
     with_hosts c hosts valid (AreHosts-push c.hosts host valid.hosts absent room)
-    (AreAllows-elsewhere c.subsystems c.subsystems c.hosts hosts c.allows (λ _ _ _ there. there) (λ k d _ there.
-    let allow : Allow = get_or c.allows k d in
-    list_any-append (λ h. bytes_eq h.nqn allow.host && h.live) c.hosts (host ∷ []) ∙ or_left (has_live_host c.hosts allow.host) _ there) valid.allows)
+    (λ k d _. live_beside c.hosts host (get_or c.allows k d).host)
+    (λ k d _. live_beside c.hosts host (get_or c.shows k d).host)
 
 -- a new name has room
 room_for : (hosts : List Host) (nqn : List ℕ) → (not (has_host hosts nqn) && nat_le 256 (length hosts)) ≡ false → has_host hosts nqn ≡ false → nat_le 256 (length hosts) ≡ false
@@ -89,11 +97,15 @@ other_live hosts nqn name differ =
     let other : bytes_eq h.nqn name ≡ false = false_from_ne_true (bytes_eq h.nqn name) (λ also. both_ways (bytes_eq h.nqn nqn) (other_name h.nqn nqn name differ also) same) in
     and_left (bytes_eq h.nqn name) false other ∙ sym (and_left (bytes_eq h.nqn name) h.live other)) hosts
 
-pub IsValid-without_host : (c : Configuration) (nqn : List ℕ) → IsValid c → is_host_allowed c.allows nqn ≡ false → IsValid (without_host c nqn)
-IsValid-without_host c nqn valid free =
+pub IsValid-without_host : (c : Configuration) (nqn : List ℕ) → IsValid c → is_host_allowed c.allows nqn ≡ false → is_host_shown c.shows nqn ≡ false → IsValid (without_host c nqn)
+IsValid-without_host c nqn valid free unshown =
     let hosts : List Host = changed_where (λ h. bytes_eq h.nqn nqn) (live_set false) c.hosts in
     with_hosts c hosts valid (AreHosts-set c.hosts nqn false valid.hosts)
-    (AreAllows-elsewhere c.subsystems c.subsystems c.hosts hosts c.allows (λ _ _ _ there. there) (λ k d below there.
+    (λ k d below there.
     let allow : Allow = get_or c.allows k d in
     let differ : bytes_eq allow.host nqn ≡ false = no_item (λ a. bytes_eq a.host nqn) c.allows k d free below in
-    other_live c.hosts nqn allow.host differ ∙ there) valid.allows)
+    other_live c.hosts nqn allow.host differ ∙ there)
+    (λ k d below there.
+    let show : Show = get_or c.shows k d in
+    let differ : bytes_eq show.host nqn ≡ false = no_item (λ s. bytes_eq s.host nqn) c.shows k d unshown below in
+    other_live c.hosts nqn show.host differ ∙ there)

@@ -6,6 +6,8 @@ pub mod Links
 pub mod Namespaces
 pub mod Ports
 pub mod Refusals
+pub mod Seeing
+pub mod Shows
 pub mod States
 pub mod Subsystems
 pub mod Valid

@@ -52,6 +52,7 @@ IsValid-with_link c link valid port subsystem absent = record {
   states = AreStates-more c.links (c.links ++ link ∷ []) c.states (λ s there.
       list_any-append (λ l. l.port == s.port && bytes_eq l.subsystem s.subsystem) c.links (link ∷ []) ∙ or_left (has_link c.links s.port s.subsystem) _ there) valid.states;
   referrals = valid.referrals;
+  shows = valid.shows;
 }
 
 pub IsValid-without_link : (c : Configuration) (port : ℕ) (nqn : List ℕ) → IsValid c → IsValid (without_link c port nqn)
@@ -71,4 +72,5 @@ IsValid-without_link c port nqn valid =
       states = AreStates-elsewhere c.links (without goes c.links) c.states (is_state_on port nqn) (λ s differ there.
           list_any-without (λ l. l.port == s.port && bytes_eq l.subsystem s.subsystem) goes (λ l same. other_link port s.port nqn s.subsystem l differ same) c.links ∙ there) valid.states;
       referrals = valid.referrals;
+      shows = valid.shows;
     }

@@ -1,7 +1,8 @@
 -- What a change of the namespaces keeps.
 use Rattle.std.proofs.Common.{◌≡◌, ◌*◌, ◌==◌, ◌||◌, ◌++◌, ◌∷◌, [], ℕ, Bool, true, false, not, List, Option, Some, None, All, nat_le, nat_lt, length, get_or, find, slice_get, unwrap_or, if◌then◌else◌, refl, sym, ◌∙◌, subst, arith}
-use Rattle.std.proofs.lemmas.Bool.{and_from, and_parts, cond_both, eq-eqb, eqb-false, eqb-true, le-leb, leb-false, ltb-false, or_parts}
-use Rattle.std.proofs.lemmas.List.Elements.{All-push, All-filter}
+use Rattle.std.proofs.lemmas.Bool.{and_from, and_parts, both_ways, cond_both, eq-eqb, eqb-false, eqb-true, false_from_ne_true, le-leb, leb-false, ltb-false, not-true, or_left, or_parts}
+use Rattle.std.proofs.lemmas.List.Elements.{All-push, All-filter, filter_passes}
+use Rattle.std.proofs.lemmas.List.Folds.{list_any-append}
 use Rattle.std.proofs.lemmas.List.Kept.{AllPairs-filter}
 use Rattle.std.proofs.lemmas.Option.{slice_get-get_or}
 use Rattle.std.specs.Option.{is_none}
@@ -9,15 +10,20 @@ use Rattle.std.specs.Str.{bytes_eq}
 use Rattle.config_lists.specs.declared.namespace.BlockSize.TheVariants.{Bytes512, Bytes4096}
 use Rattle.config_lists.specs.declared.namespace.Namespace.{Namespace}
 use Rattle.config_lists.specs.declared.namespace.Setting.{Setting}
-use Rattle.config_lists.specs.declared.namespace.Setting.TheVariants.{Blocks, Group}
+use Rattle.config_lists.specs.declared.namespace.Setting.TheVariants.{Blocks, Group, Visibility as VisibilitySet}
+use Rattle.config_lists.specs.declared.namespace.Visibility.{Visibility}
+use Rattle.config_lists.specs.declared.show.Show.{Show}
 use Rattle.config_lists.specs.declared.subsystem.Subsystem.{Subsystem}
 use Rattle.config_lists.specs.Namespace.{block_size_of, bytes_of, is_group, is_named, with_setting}
 use Rattle.config_lists.specs.Lists.{changed_where, without}
+use Rattle.config_lists.specs.Show.{is_show_of}
 use Rattle.config_lists.proofs.Distinct.{All-changed_at, distinct-push, distinct_after, found_alone}
+use Rattle.config_lists.proofs.Lists.{list_any-changed_where, list_any-without}
 use Rattle.config_lists.proofs.Names.{bytes_eq-same, same_name}
 use Rattle.config_rules.specs.Accept.{are_bad_blocks, are_bad_blocks_of, block_size_named, is_over}
 use Rattle.config_rules.specs.Configuration.{Configuration, has_namespace, has_subsystem, has_uuid, is_disk_used, with_namespace, with_namespace_set, without_namespace}
-use Rattle.config_rules.specs.Valid.{AreNamespaces, IsNamespace, IsValid, is_size_on}
+use Rattle.config_rules.specs.Valid.{AreNamespaces, AreShows, IsNamespace, IsValid, is_size_on}
+use Rattle.config_rules.proofs.Shows.{AreShows-elsewhere, AreShows-without}
 
 -- where each of the subsystems that they name stays
 pub AreNamespaces-elsewhere : (units : List ℕ) (ss ts : List Subsystem) (ns : List Namespace) → All (λ n. has_subsystem ss n.subsystem ≡ true → has_subsystem ts n.subsystem ≡ true) ns → AreNamespaces units ss ns → AreNamespaces units ts ns
@@ -62,6 +68,7 @@ AreNamespaces-push units ss ns n valid sound absent own free = record {
 apart_as_before : (P : List ℕ → ℕ → ℕ → List ℕ → Type 0) (value : Setting) (n : Namespace) → (let m : Namespace = with_setting value n in P m.subsystem m.nsid m.disk m.uuid) → P n.subsystem n.nsid n.disk n.uuid
 apart_as_before P (Blocks blocks) n same = same
 apart_as_before P (Group group) n same = same
+apart_as_before P (VisibilitySet visibility) n same = same
 
 AreNamespaces-set : (units : List ℕ) (ss : List Subsystem) (ns : List Namespace) (nqn : List ℕ) (nsid : ℕ) (value : Setting) → AreNamespaces units ss ns → All (λ n. is_named nqn nsid n ≡ true → IsNamespace units ss (with_setting value n)) ns → AreNamespaces units ss (changed_where (is_named nqn nsid) (with_setting value) ns)
 AreNamespaces-set units ss ns nqn nsid value valid sound =
@@ -117,9 +124,10 @@ AreNamespaces-without units ss ns nqn nsid valid =
       uuids = AllPairs-filter (λ a b. ¬ (a.uuid ≡ b.uuid)) stays ns valid.uuids;
     }
 
--- what is true of a configuration stays where its namespaces alone change
-with_namespaces : (c : Configuration) (ns : List Namespace) → IsValid c → AreNamespaces c.units c.subsystems ns → IsValid (record c { namespaces = ns })
-with_namespaces c ns valid sound = record {
+-- what is true of a configuration stays where its namespaces and its shows alone change
+with_namespaces : (c : Configuration) (ns : List Namespace) (shows : List Show) → IsValid c → AreNamespaces c.units c.subsystems ns → AreShows ns c.hosts shows
+    → IsValid (record c { namespaces = ns; shows = shows })
+with_namespaces c ns shows valid sound shown = record {
   disks = valid.disks;
   subsystems = valid.subsystems;
   namespaces = sound;
@@ -129,20 +137,74 @@ with_namespaces c ns valid sound = record {
   allows = valid.allows;
   states = valid.states;
   referrals = valid.referrals;
+  shows = shown;
 }
+
+-- the shows of a configuration, where each namespace that is there stays
+shows_stay : (c : Configuration) (ns : List Namespace) → ((nqn : List ℕ) (nsid : ℕ) → has_namespace c.namespaces nqn nsid ≡ true → has_namespace ns nqn nsid ≡ true) → IsValid c → AreShows ns c.hosts c.shows
+shows_stay c ns stay valid =
+    AreShows-elsewhere c.namespaces ns c.hosts c.hosts c.shows (λ k d _. let s : Show = get_or c.shows k d in stay s.subsystem s.nsid) (λ _ _ _ live. live) valid.shows
+
+-- .. where a value of one is set
+named_as_before : (nqn : List ℕ) (nsid : ℕ) (value : Setting) (n : Namespace) → is_named nqn nsid (with_setting value n) ≡ is_named nqn nsid n
+named_as_before nqn nsid (Blocks blocks) n = refl
+named_as_before nqn nsid (Group group) n = refl
+named_as_before nqn nsid (VisibilitySet visibility) n = refl
+
+stays_set : (ns : List Namespace) (nqn : List ℕ) (nsid : ℕ) (value : Setting) (name : List ℕ) (id : ℕ) → has_namespace ns name id ≡ true
+    → has_namespace (changed_where (is_named nqn nsid) (with_setting value) ns) name id ≡ true
+stays_set ns nqn nsid value name id there =
+    list_any-changed_where (is_named name id) (is_named nqn nsid) (with_setting value) (λ n _. named_as_before name id value n) ns ∙ there
+
+-- one that goes is not the one of a show that stays
+other_named : (nqn : List ℕ) (nsid : ℕ) (s : Show) (n : Namespace) → is_show_of nqn nsid s ≡ false → is_named s.subsystem s.nsid n ≡ true → is_named nqn nsid n ≡ false
+other_named nqn nsid s n other named =
+    let shown : (bytes_eq n.subsystem s.subsystem ≡ true) × ((n.nsid == s.nsid) ≡ true) = and_parts (bytes_eq n.subsystem s.subsystem) (n.nsid == s.nsid) named in
+    let subsystem = same_name n.subsystem s.subsystem shown.0 in
+    let id = eqb-true n.nsid s.nsid shown.1 in
+    false_from_ne_true (is_named nqn nsid n) (λ gone.
+    let both : (bytes_eq n.subsystem nqn ≡ true) × ((n.nsid == nsid) ≡ true) = and_parts (bytes_eq n.subsystem nqn) (n.nsid == nsid) gone in
+    let same : bytes_eq s.subsystem nqn ≡ true = subst (λ (l : List ℕ). bytes_eq l nqn ≡ true) subsystem both.0 in
+    let same_id : (s.nsid == nsid) ≡ true = subst (λ k. (k == nsid) ≡ true) id both.1 in
+    both_ways (is_show_of nqn nsid s) other (and_from (s.nsid == nsid) (bytes_eq s.subsystem nqn) same_id same))
+
+-- .. where one goes, with its shows
+shows_without : (c : Configuration) (nqn : List ℕ) (nsid : ℕ) → IsValid c → AreShows (without (is_named nqn nsid) c.namespaces) c.hosts (without (is_show_of nqn nsid) c.shows)
+shows_without c nqn nsid valid =
+    let goes : Show → Bool = is_show_of nqn nsid in
+    let left : List Show = without goes c.shows in
+    AreShows-elsewhere c.namespaces (without (is_named nqn nsid) c.namespaces) c.hosts c.hosts left (λ k d below there.
+    let s : Show = get_or left k d in
+    let stays : goes s ≡ false = not-true (goes s) (filter_passes (λ s. not (goes s)) c.shows k d below) in
+    list_any-without (is_named s.subsystem s.nsid) (is_named nqn nsid) (λ n named. other_named nqn nsid s n stays named) c.namespaces ∙ there)
+    (λ _ _ _ live. live) (AreShows-without c.namespaces c.hosts c.shows goes valid.shows)
 
 pub IsValid-with_namespace : (c : Configuration) (n : Namespace) → IsValid c → IsNamespace c.units c.subsystems n → has_namespace c.namespaces n.subsystem n.nsid ≡ false → has_uuid c.namespaces n.uuid ≡ false → is_disk_used c.namespaces n.disk ≡ false → IsValid (with_namespace c n)
 IsValid-with_namespace c n valid sound absent own free =
-    with_namespaces c (c.namespaces ++ n ∷ []) valid (AreNamespaces-push c.units c.subsystems c.namespaces n valid.namespaces sound absent own free)
+    let ns : List Namespace = c.namespaces ++ n ∷ [] in
+    with_namespaces c ns c.shows valid (AreNamespaces-push c.units c.subsystems c.namespaces n valid.namespaces sound absent own free)
+    (shows_stay c ns (λ nqn nsid there. list_any-append (is_named nqn nsid) c.namespaces (n ∷ []) ∙ or_left (has_namespace c.namespaces nqn nsid) _ there) valid)
+
+with_setting_valid : (c : Configuration) (nqn : List ℕ) (nsid : ℕ) (value : Setting) → IsValid c
+    → AreNamespaces c.units c.subsystems (changed_where (is_named nqn nsid) (with_setting value) c.namespaces) → IsValid (with_namespace_set c nqn nsid value)
+with_setting_valid c nqn nsid value valid sound =
+    let ns : List Namespace = changed_where (is_named nqn nsid) (with_setting value) c.namespaces in
+    with_namespaces c ns c.shows valid sound (shows_stay c ns (stays_set c.namespaces nqn nsid value) valid)
 
 pub IsValid-with_blocks : (c : Configuration) (nqn : List ℕ) (nsid blocks : ℕ) → IsValid c → are_bad_blocks_of c (find (is_named nqn nsid) c.namespaces) blocks ≡ false → IsValid (with_namespace_set c nqn nsid (Blocks blocks))
 IsValid-with_blocks c nqn nsid blocks valid fits =
-    with_namespaces c (changed_where (is_named nqn nsid) (with_setting (Blocks blocks)) c.namespaces) valid (sound_blocks c nqn nsid blocks valid.namespaces fits)
+    with_setting_valid c nqn nsid (Blocks blocks) valid (sound_blocks c nqn nsid blocks valid.namespaces fits)
 
 pub IsValid-with_group : (c : Configuration) (nqn : List ℕ) (nsid group : ℕ) → IsValid c → is_group group ≡ true → IsValid (with_namespace_set c nqn nsid (Group group))
 IsValid-with_group c nqn nsid group valid sound =
-    with_namespaces c (changed_where (is_named nqn nsid) (with_setting (Group group)) c.namespaces) valid (sound_group c nqn nsid group valid.namespaces sound)
+    with_setting_valid c nqn nsid (Group group) valid (sound_group c nqn nsid group valid.namespaces sound)
+
+pub IsValid-with_visibility : (c : Configuration) (nqn : List ℕ) (nsid : ℕ) (visibility : Visibility) → IsValid c → IsValid (with_namespace_set c nqn nsid (VisibilitySet visibility))
+IsValid-with_visibility c nqn nsid visibility valid =
+    with_setting_valid c nqn nsid (VisibilitySet visibility) valid (AreNamespaces-set c.units c.subsystems c.namespaces nqn nsid (VisibilitySet visibility) valid.namespaces (λ k d below named.
+    let old : IsNamespace c.units c.subsystems (get_or c.namespaces k d) = valid.namespaces.sound k d below in
+    record { subsystem = old.subsystem; nsid = old.nsid; size = old.size; uuid = old.uuid; group = old.group }))
 
 pub IsValid-without_namespace : (c : Configuration) (nqn : List ℕ) (nsid : ℕ) → IsValid c → IsValid (without_namespace c nqn nsid)
 IsValid-without_namespace c nqn nsid valid =
-    with_namespaces c (without (is_named nqn nsid) c.namespaces) valid (AreNamespaces-without c.units c.subsystems c.namespaces nqn nsid valid.namespaces)
+    with_namespaces c (without (is_named nqn nsid) c.namespaces) (without (is_show_of nqn nsid) c.shows) valid (AreNamespaces-without c.units c.subsystems c.namespaces nqn nsid valid.namespaces) (shows_without c nqn nsid valid)

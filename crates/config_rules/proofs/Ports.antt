@@ -55,6 +55,7 @@ with_ports c ports valid sound links = record {
   allows = valid.allows;
   states = valid.states;
   referrals = valid.referrals;
+  shows = valid.shows;
 }
 
 pub IsValid-with_port : (c : Configuration) (port : Port) → IsValid c → IsTrue (is_port port) → has_port c.ports port.id ≡ false → nat_le 16 (length c.ports) ≡ false → IsValid (with_port c port)
@@ -99,6 +100,7 @@ with_referrals c referrals valid sound = record {
   allows = valid.allows;
   states = valid.states;
   referrals = sound;
+  shows = valid.shows;
 }
 
 pub IsValid-with_referral : (c : Configuration) (referral : Port) → IsValid c → IsTrue (is_port referral) → has_port c.referrals referral.id ≡ false → nat_le 16 (length c.referrals) ≡ false → IsValid (with_referral c referral)

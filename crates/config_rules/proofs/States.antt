@@ -83,6 +83,7 @@ with_states c states valid sound = record {
   allows = valid.allows;
   states = sound;
   referrals = valid.referrals;
+  shows = valid.shows;
 }
 
 pub IsValid-with_ana_state : (c : Configuration) (port : ℕ) (nqn : List ℕ) (group : ℕ) (state : AnaState) → IsValid c → is_group group ≡ true → has_link c.links port nqn ≡ true → IsValid (with_ana_state c port nqn group state)

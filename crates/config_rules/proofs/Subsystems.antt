@@ -65,6 +65,7 @@ with_subsystems c ss valid sound namespaces links allows = record {
   allows = AreAllows-elsewhere c.subsystems ss c.hosts c.hosts c.allows allows (λ _ _ _ there. there) valid.allows;
   states = valid.states;
   referrals = valid.referrals;
+  shows = valid.shows;
 }
 
 -- a subsystem is found where it was found

@@ -4,7 +4,7 @@ use Rattle.std.proofs.lemmas.Bool.{and_from, not-false, not_from_false}
 use Rattle.std.specs.Option.{is_none}
 use Rattle.uuid.specs.Parts.{is_nil_bytes}
 use Rattle.config_edits.specs.declared.edit.Edit.{Edit}
-use Rattle.config_edits.specs.declared.edit.Edit.TheVariants.{SubsystemAdd, SubsystemSet, SubsystemDel, NamespaceAdd, NamespaceSize, NamespaceGroup, NamespaceDel, PortAdd, PortSet, PortDel, LinkAdd, LinkDel, HostAdd, HostDel, AllowAdd, AllowDel, AnaSet, ReferralAdd, ReferralSet, ReferralDel}
+use Rattle.config_edits.specs.declared.edit.Edit.TheVariants.{SubsystemAdd, SubsystemSet, SubsystemDel, NamespaceAdd, NamespaceSize, NamespaceGroup, NamespaceDel, NamespaceView, NamespaceShow, NamespaceHide, PortAdd, PortSet, PortDel, LinkAdd, LinkDel, HostAdd, HostDel, AllowAdd, AllowDel, AnaSet, ReferralAdd, ReferralSet, ReferralDel}
 use Rattle.config_edits.specs.declared.edit.Endpoint.{Endpoint}
 use Rattle.config_edits.specs.declared.edit.NewNamespace.{NewNamespace}
 use Rattle.config_lists.specs.declared.subsystem.Subsystem.{Subsystem}
@@ -12,15 +12,16 @@ use Rattle.config_lists.specs.Namespace.{block_size_of, is_group, is_nsid}
 use Rattle.config_lists.specs.Port.{is_port, is_port_number, is_address}
 use Rattle.config_lists.specs.Subsystem.{is_discovery, is_serial}
 use Rattle.config_rules.specs.Accept.{accept, are_bad_blocks, effect, namespace_of, port_of, refusals}
-use Rattle.config_rules.specs.Configuration.{Configuration, has_link, has_live_host, has_port, has_subsystem}
+use Rattle.config_rules.specs.Configuration.{Configuration, has_link, has_live_host, has_namespace, has_port, has_subsystem}
 use Rattle.config_rules.specs.Valid.{IsNamespace, IsValid, is_size_on}
 use Rattle.config_rules.proofs.Refusals.{IfOk-accept, Unless}
 use Rattle.config_rules.proofs.Subsystems.{IsValid-with_subsystem, IsValid-with_access, IsValid-without_subsystem}
-use Rattle.config_rules.proofs.Namespaces.{IsValid-with_blocks, IsValid-with_group, IsValid-with_namespace, IsValid-without_namespace, bytes_of-named, sound_size}
+use Rattle.config_rules.proofs.Namespaces.{IsValid-with_blocks, IsValid-with_group, IsValid-with_namespace, IsValid-with_visibility, IsValid-without_namespace, bytes_of-named, sound_size}
 use Rattle.config_rules.proofs.Ports.{IsValid-with_port, IsValid-with_port_set, IsValid-with_referral, IsValid-with_referral_set, IsValid-without_port, IsValid-without_referral}
 use Rattle.config_rules.proofs.Links.{IsValid-with_link, IsValid-without_link}
 use Rattle.config_rules.proofs.Hosts.{IsValid-with_host, IsValid-without_host}
 use Rattle.config_rules.proofs.Allows.{IsValid-with_allow, IsValid-without_allow}
+use Rattle.config_rules.proofs.Shows.{IsValid-with_show, IsValid-without_show}
 use Rattle.config_rules.proofs.States.{IsValid-with_ana_state}
 
 sound_port : (e : Endpoint) → not (is_port_number e.id) ≡ false → not (is_address e.address) ≡ false → not (is_port_number e.service) ≡ false → IsTrue (is_port (port_of e))
@@ -49,6 +50,10 @@ IsValid-effect c (NamespaceAdd n) valid = λ nsid fits named uuid group subsyste
 IsValid-effect c (NamespaceSize nqn nsid blocks) valid = λ fits subsystem there. IsValid-with_blocks c nqn nsid blocks valid fits
 IsValid-effect c (NamespaceGroup nqn nsid group) valid = λ sound subsystem there. IsValid-with_group c nqn nsid group valid (not-false (is_group group) sound)
 IsValid-effect c (NamespaceDel nqn nsid) valid = λ subsystem there. IsValid-without_namespace c nqn nsid valid
+IsValid-effect c (NamespaceView nqn nsid visibility) valid = λ subsystem there. IsValid-with_visibility c nqn nsid visibility valid
+IsValid-effect c (NamespaceShow nqn nsid host) valid = λ subsystem there live absent room.
+    IsValid-with_show c (record { subsystem = nqn; nsid = nsid; host = host }) valid (not-false (has_namespace c.namespaces nqn nsid) there) (not-false (has_live_host c.hosts host) live) absent room
+IsValid-effect c (NamespaceHide nqn nsid host) valid = λ subsystem there live shown. IsValid-without_show c nqn nsid host valid
 IsValid-effect c (PortAdd e) valid = λ number text listens absent room. IsValid-with_port c (port_of e) valid (sound_port e number text listens) absent room
 IsValid-effect c (PortSet e) valid = λ number text listens there. IsValid-with_port_set c (port_of e) valid (sound_port e number text listens)
 IsValid-effect c (PortDel id) valid = λ there free. IsValid-without_port c id valid free
@@ -56,7 +61,7 @@ IsValid-effect c (LinkAdd port nqn) valid = λ there subsystem absent.
     IsValid-with_link c (record { port = port; subsystem = nqn }) valid (not-false (has_port c.ports port) there) (not-false (has_subsystem c.subsystems nqn) subsystem) absent
 IsValid-effect c (LinkDel port nqn) valid = λ port_there subsystem there. IsValid-without_link c port nqn valid
 IsValid-effect c (HostAdd nqn) valid = λ absent fits. IsValid-with_host c nqn valid fits
-IsValid-effect c (HostDel nqn) valid = λ there free. IsValid-without_host c nqn valid free
+IsValid-effect c (HostDel nqn) valid = λ there free unshown. IsValid-without_host c nqn valid free unshown
 IsValid-effect c (AllowAdd nqn host) valid = λ subsystem live absent room.
     IsValid-with_allow c (record { subsystem = nqn; host = host }) valid (not-false (has_subsystem c.subsystems nqn) subsystem) (not-false (has_live_host c.hosts host) live) absent room
 IsValid-effect c (AllowDel nqn host) valid = λ subsystem live there. IsValid-without_allow c nqn host valid

@@ -4,20 +4,22 @@ use Rattle.uuid.specs.Parts.{is_nil_bytes}
 use Rattle.config_lists.specs.declared.namespace.BlockSize.{BlockSize}
 use Rattle.config_lists.specs.declared.namespace.BlockSize.TheVariants.{Bytes4096}
 use Rattle.config_lists.specs.declared.namespace.Namespace.{Namespace}
-use Rattle.config_lists.specs.declared.namespace.Setting.TheVariants.{Blocks, Group}
+use Rattle.config_lists.specs.declared.namespace.Setting.TheVariants.{Blocks, Group, Visibility}
+use Rattle.config_lists.specs.declared.namespace.Visibility.TheVariants.{All}
 use Rattle.config_lists.specs.declared.port.Port.{Port}
 use Rattle.config_lists.specs.Namespace.{block_size_of, bytes_of, is_group, is_named, is_nsid}
 use Rattle.config_lists.specs.Port.{is_port_number, is_address}
+use Rattle.config_lists.specs.Show.{has_show}
 use Rattle.config_lists.specs.Subsystem.{is_discovery, is_serial}
 use Rattle.config_edits.specs.declared.edit.Edit.{Edit}
-use Rattle.config_edits.specs.declared.edit.Edit.TheVariants.{SubsystemAdd, SubsystemSet, SubsystemDel, NamespaceAdd, NamespaceSize, NamespaceGroup, NamespaceDel, PortAdd, PortSet, PortDel, LinkAdd, LinkDel, HostAdd, HostDel, AllowAdd, AllowDel, AnaSet, ReferralAdd, ReferralSet, ReferralDel}
+use Rattle.config_edits.specs.declared.edit.Edit.TheVariants.{SubsystemAdd, SubsystemSet, SubsystemDel, NamespaceAdd, NamespaceSize, NamespaceGroup, NamespaceDel, NamespaceView, NamespaceShow, NamespaceHide, PortAdd, PortSet, PortDel, LinkAdd, LinkDel, HostAdd, HostDel, AllowAdd, AllowDel, AnaSet, ReferralAdd, ReferralSet, ReferralDel}
 use Rattle.config_edits.specs.declared.edit.Endpoint.{Endpoint}
 use Rattle.config_edits.specs.declared.edit.NewNamespace.{NewNamespace}
 use Rattle.config_edits.specs.declared.fault.EditFault.{EditFault}
 use Rattle.config_edits.specs.declared.fault.EditFault.TheVariants.{BadValue, NoSuch, Exists, DiskInUse, InUse, Full}
 use Rattle.config_edits.specs.declared.fault.Value.TheVariants as value
 use Rattle.config_edits.specs.declared.fault.Item.TheVariants as item
-use Rattle.config_rules.specs.Configuration.{Configuration, has_subsystem, with_subsystem, with_access, without_subsystem, has_namespace, has_namespaces, has_uuid, is_disk_used, with_namespace, with_namespace_set, without_namespace, has_port, with_port, with_port_set, without_port, has_link, is_port_linked, is_subsystem_linked, with_link, without_link, has_host, has_live_host, with_host, without_host, has_allow, is_subsystem_allowing, is_host_allowed, with_allow, without_allow, with_ana_state, with_referral, with_referral_set, without_referral}
+use Rattle.config_rules.specs.Configuration.{Configuration, has_subsystem, with_subsystem, with_access, without_subsystem, has_namespace, has_namespaces, has_uuid, is_disk_used, with_namespace, with_namespace_set, without_namespace, is_host_shown, with_show, without_show, has_port, with_port, with_port_set, without_port, has_link, is_port_linked, is_subsystem_linked, with_link, without_link, has_host, has_live_host, with_host, without_host, has_allow, is_subsystem_allowing, is_host_allowed, with_allow, without_allow, with_ana_state, with_referral, with_referral_set, without_referral}
 use Rattle.config_rules.specs.Valid.{IsValid}
 
 -- the fault if the test passes, and else what comes next
@@ -52,6 +54,7 @@ namespace_of n = record {
   block_size = block_size_named n.block_size;
   uuid = n.uuid;
   group = n.group;
+  visibility = All;
 }
 
 -- the port, or the referral, that is added or set
@@ -103,6 +106,23 @@ refusals c (NamespaceDel nqn nsid) =
     (not (has_subsystem c.subsystems nqn), NoSuch item.Subsystem)
     ∷ (not (has_namespace c.namespaces nqn nsid), NoSuch item.Namespace)
     ∷ []
+refusals c (NamespaceView nqn nsid visibility) =
+    (not (has_subsystem c.subsystems nqn), NoSuch item.Subsystem)
+    ∷ (not (has_namespace c.namespaces nqn nsid), NoSuch item.Namespace)
+    ∷ []
+refusals c (NamespaceShow nqn nsid host) =
+    (not (has_subsystem c.subsystems nqn), NoSuch item.Subsystem)
+    ∷ (not (has_namespace c.namespaces nqn nsid), NoSuch item.Namespace)
+    ∷ (not (has_live_host c.hosts host), NoSuch item.Host)
+    ∷ (has_show c.shows nqn nsid host, Exists item.Show)
+    ∷ (nat_le 1024 (length c.shows), Full item.Show)
+    ∷ []
+refusals c (NamespaceHide nqn nsid host) =
+    (not (has_subsystem c.subsystems nqn), NoSuch item.Subsystem)
+    ∷ (not (has_namespace c.namespaces nqn nsid), NoSuch item.Namespace)
+    ∷ (not (has_live_host c.hosts host), NoSuch item.Host)
+    ∷ (not (has_show c.shows nqn nsid host), NoSuch item.Show)
+    ∷ []
 refusals c (PortAdd e) =
     (not (is_port_number e.id), BadValue value.Port)
     ∷ (not (is_address e.address), BadValue value.Address)
@@ -137,6 +157,7 @@ refusals c (HostAdd nqn) =
 refusals c (HostDel nqn) =
     (not (has_live_host c.hosts nqn), NoSuch item.Host)
     ∷ (is_host_allowed c.allows nqn, InUse item.Allow)
+    ∷ (is_host_shown c.shows nqn, InUse item.Show)
     ∷ []
 refusals c (AllowAdd nqn host) =
     (not (has_subsystem c.subsystems nqn), NoSuch item.Subsystem)
@@ -179,6 +200,9 @@ effect c (NamespaceAdd n) = with_namespace c (namespace_of n)
 effect c (NamespaceSize nqn nsid blocks) = with_namespace_set c nqn nsid (Blocks blocks)
 effect c (NamespaceGroup nqn nsid group) = with_namespace_set c nqn nsid (Group group)
 effect c (NamespaceDel nqn nsid) = without_namespace c nqn nsid
+effect c (NamespaceView nqn nsid visibility) = with_namespace_set c nqn nsid (Visibility visibility)
+effect c (NamespaceShow nqn nsid host) = with_show c (record { subsystem = nqn; nsid = nsid; host = host })
+effect c (NamespaceHide nqn nsid host) = without_show c nqn nsid host
 effect c (PortAdd e) = with_port c (port_of e)
 effect c (PortSet e) = with_port_set c (port_of e)
 effect c (PortDel id) = without_port c id

@@ -10,11 +10,13 @@ use Rattle.config_lists.specs.declared.link.Link.{Link}
 use Rattle.config_lists.specs.declared.namespace.Namespace.{Namespace}
 use Rattle.config_lists.specs.declared.namespace.Setting.{Setting}
 use Rattle.config_lists.specs.declared.port.Port.{Port}
+use Rattle.config_lists.specs.declared.show.Show.{Show}
 use Rattle.config_lists.specs.declared.subsystem.Access.{Access}
 use Rattle.config_lists.specs.declared.subsystem.Subsystem.{Subsystem}
 use Rattle.config_lists.specs.GroupState.{is_optimized, is_state_for, is_state_on, with_state}
 use Rattle.config_lists.specs.Lists.{changed_where, without}
 use Rattle.config_lists.specs.Namespace.{is_named, with_setting}
+use Rattle.config_lists.specs.Show.{is_show_of, is_show_to}
 
 -- The disks' sizes in units of 512 bytes, and the lists, each in the order in which its items were
 -- added. A referral is the port of a discovery controller elsewhere.
@@ -28,6 +30,7 @@ pub record Configuration : Type 0 where
   pub allows : List Allow
   pub states : List GroupState
   pub referrals : List Port
+  pub shows : List Show
 
 abbrev pub disks_alone : List ℕ → Configuration
 disks_alone units = record {
@@ -40,6 +43,7 @@ disks_alone units = record {
   allows = [];
   states = [];
   referrals = [];
+  shows = [];
 }
 
 -- at most 256 disks of at most 2^40 units
@@ -78,13 +82,27 @@ is_disk_used namespaces disk = list_any (λ n. n.disk == disk) namespaces
 abbrev pub with_namespace : Configuration → Namespace → Configuration
 with_namespace c namespace = record c { namespaces = c.namespaces ++ namespace ∷ [] }
 
--- the namespace of that subsystem and identifier has this size, or is in this group
+-- the namespace of that subsystem and identifier has this size, is in this group, or is seen by these hosts
 abbrev pub with_namespace_set : Configuration → List ℕ → ℕ → Setting → Configuration
 with_namespace_set c nqn nsid value =
     record c { namespaces = changed_where (is_named nqn nsid) (with_setting value) c.namespaces }
 
+-- the namespace goes, and with it its shows
 abbrev pub without_namespace : Configuration → List ℕ → ℕ → Configuration
-without_namespace c nqn nsid = record c { namespaces = without (is_named nqn nsid) c.namespaces }
+without_namespace c nqn nsid = record c {
+  namespaces = without (is_named nqn nsid) c.namespaces;
+  shows = without (is_show_of nqn nsid) c.shows;
+}
+
+-- whether the host is shown a namespace
+abbrev pub is_host_shown : List Show → List ℕ → Bool
+is_host_shown shows host = list_any (λ s. bytes_eq s.host host) shows
+
+abbrev pub with_show : Configuration → Show → Configuration
+with_show c show = record c { shows = c.shows ++ show ∷ [] }
+
+abbrev pub without_show : Configuration → List ℕ → ℕ → List ℕ → Configuration
+without_show c nqn nsid host = record c { shows = without (is_show_to nqn nsid host) c.shows }
 
 -- whether a port, or a referral, of that number is there
 abbrev pub has_port : List Port → ℕ → Bool

@@ -7,12 +7,13 @@ use Rattle.config_lists.specs.declared.host.Host.{Host}
 use Rattle.config_lists.specs.declared.link.Link.{Link}
 use Rattle.config_lists.specs.declared.namespace.Namespace.{Namespace}
 use Rattle.config_lists.specs.declared.port.Port.{Port}
+use Rattle.config_lists.specs.declared.show.Show.{Show}
 use Rattle.config_lists.specs.declared.subsystem.Subsystem.{Subsystem}
 use Rattle.config_lists.specs.GroupState.{is_optimized}
 use Rattle.config_lists.specs.Namespace.{bytes_of, is_group, is_nsid}
 use Rattle.config_lists.specs.Port.{is_port}
 use Rattle.config_lists.specs.Subsystem.{is_subsystem}
-use Rattle.config_rules.specs.Configuration.{Configuration, are_disks, has_link, has_live_host, has_port, has_subsystem}
+use Rattle.config_rules.specs.Configuration.{Configuration, are_disks, has_link, has_live_host, has_namespace, has_port, has_subsystem}
 
 -- at most 32, with sound values, and no two with the same name
 pub record AreSubsystems (subsystems : List Subsystem) : Type 0 where
@@ -83,6 +84,17 @@ pub record AreStates (links : List Link) (states : List GroupState) : Type 0 whe
   pub sound : All (IsGroupState links) states
   pub distinct : AllPairs (λ s t. ¬ ((s.port ≡ t.port) × (s.subsystem ≡ t.subsystem) × (s.group ≡ t.group))) states
 
+-- the show's namespace is there, and its host is live
+pub record IsShow (namespaces : List Namespace) (hosts : List Host) (show : Show) : Type 0 where
+  pub named_namespace : IsTrue (has_namespace namespaces show.subsystem show.nsid)
+  pub host : IsTrue (has_live_host hosts show.host)
+
+-- at most 1,024, and no two of the same namespace to the same host
+pub record AreShows (namespaces : List Namespace) (hosts : List Host) (shows : List Show) : Type 0 where
+  pub count : length shows ≤ 1024
+  pub sound : All (IsShow namespaces hosts) shows
+  pub distinct : AllPairs (λ s t. ¬ ((s.subsystem ≡ t.subsystem) × (s.nsid ≡ t.nsid) × (s.host ≡ t.host))) shows
+
 -- what is true of each configuration
 pub record IsValid (c : Configuration) : Type 0 where
   pub disks : IsTrue (are_disks c.units)
@@ -94,6 +106,7 @@ pub record IsValid (c : Configuration) : Type 0 where
   pub allows : AreAllows c.subsystems c.hosts c.allows
   pub states : AreStates c.links c.states
   pub referrals : ArePorts c.referrals
+  pub shows : AreShows c.namespaces c.hosts c.shows
 
 -- each namespace has a disk of its own, so they are as few as disks may be
 abbrev pub NamespacesAreFew : Type 0

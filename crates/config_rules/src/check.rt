@@ -7,6 +7,7 @@ mod host;
 mod link;
 mod namespace;
 mod port;
+mod show;
 mod subsystem;
 
 use crate::lists::Lists;
@@ -41,6 +42,21 @@ impl Lists<'_> {
                 group,
             } => self.check_namespace_group(subsystem, *nsid, *group),
             Edit::NamespaceDel { subsystem, nsid } => self.check_namespace_del(subsystem, *nsid),
+            Edit::NamespaceView {
+                subsystem,
+                nsid,
+                visibility: _,
+            } => self.check_namespace_view(subsystem, *nsid),
+            Edit::NamespaceShow {
+                subsystem,
+                nsid,
+                host,
+            } => self.check_namespace_show(subsystem, *nsid, host),
+            Edit::NamespaceHide {
+                subsystem,
+                nsid,
+                host,
+            } => self.check_namespace_hide(subsystem, *nsid, host),
             Edit::PortAdd(endpoint) => self.check_port_add(endpoint),
             Edit::PortSet(endpoint) => self.check_port_set(endpoint),
             Edit::PortDel { id } => self.check_port_del(*id),

@@ -6,6 +6,7 @@ use config_lists::host::Host;
 use config_lists::link::Link;
 use config_lists::namespace::Namespace;
 use config_lists::port::Port;
+use config_lists::show::Show;
 use config_lists::subsystem::Subsystem;
 use std::marker::Model;
 
@@ -23,6 +24,7 @@ pub struct Lists<'a> {
     pub states: &'a [GroupState],
     /// The ports of discovery controllers elsewhere.
     pub referrals: &'a [Port],
+    pub shows: &'a [Show],
 }
 
 impl<'a> Model for Lists<'a> {
@@ -40,5 +42,6 @@ impl<'a> Model for Lists<'a> {
       allows = l.allows.now;
       states = l.states.now;
       referrals = l.referrals.now;
+      shows = l.shows.now;
     } };
 }

@@ -1,13 +1,34 @@
 -- How a table is filled, item by item.
-use Rattle.std.proofs.Common.{◌≡◌, ◌≢◌, ℕ, ◌<◌, ◌==◌, Bool, true, false, List, [], ◌∷◌, ◌++◌, find, get_or, length, replicate, set, Option, Some, None, refl, ap, sym, ◌∙◌, subst, arith, inl, inr}
+use Rattle.std.proofs.Common.{◌≡◌, ◌≢◌, ℕ, ◌<◌, ◌==◌, Bool, true, false, List, [], ◌∷◌, ◌++◌, ◌+◌, ◌&&◌, cond, filter, find, get_or, length, replicate, set, take, Option, Some, None, refl, ap, sym, ◌∙◌, subst, arith, inl, inr}
 use Rattle.std.proofs.lemmas.Bool.{cases_Bool, cases_lt}
 use Rattle.std.proofs.lemmas.Bool.Decides.{nat_tests}
-use Rattle.std.proofs.lemmas.List.{get_or-replicate, get_or-set_other, get_or-set_same, get_or_default, get_or_past, length-replicate, length-set}
+use Rattle.std.proofs.lemmas.List.Elements.{filter_more}
+use Rattle.std.proofs.lemmas.List.{append-nil, get_or-replicate, get_or-set_other, get_or-set_same, get_or_default, get_or_past, length-replicate, length-set}
 use Rattle.std.proofs.lemmas.List.Folds.{find-append}
 use Rattle.std.specs.Borrow.{Bor}
 use Rattle.std.specs.Option.{option_copied, option_or}
 use Rattle.std.specs.Prelude.{is_none, if◌then◌else◌}
 use Rattle.config_tables.specs.Tables.{IsEmptyTable, IsTable, with_first}
+
+-- ---- what a host sees, item by item
+
+-- the next item passes
+pub seen_more : {X : Type 0} (p : X → Bool) (xs : List X) (i : ℕ) (x : X) → i < length xs → x ≡ get_or xs i x → p x ≡ true → filter p (take (i + 1) xs) ≡ filter p (take i xs) ++ x ∷ []
+seen_more p xs i x below read passes =
+    filter_more p xs i x below ∙ ap (λ y. filter p (take i xs) ++ cond (p y) (y ∷ []) []) (sym read) ∙ ap (λ b. filter p (take i xs) ++ cond b (x ∷ []) []) passes
+
+-- it fails
+pub seen_past : {X : Type 0} (p : X → Bool) (xs : List X) (i : ℕ) (x : X) → i < length xs → x ≡ get_or xs i x → p x ≡ false → filter p (take (i + 1) xs) ≡ filter p (take i xs)
+seen_past p xs i x below read fails =
+    filter_more p xs i x below ∙ ap (λ y. filter p (take i xs) ++ cond (p y) (y ∷ []) []) (sym read) ∙ ap (λ b. filter p (take i xs) ++ cond b (x ∷ []) []) fails
+    ∙ append-nil (filter p (take i xs))
+
+-- what is seen and not of both is not the subsystem's own
+pub unowned : (own seen : Bool) → (own && seen) ≡ false → seen ≡ true → own ≡ false
+unowned true seen fails there = sym there ∙ fails
+unowned false seen fails there = refl
+
+-- ---- the table
 
 or_none : {X : Type 0} (o : Option X) → option_or o None ≡ o
 or_none None = refl

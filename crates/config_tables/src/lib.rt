@@ -1,5 +1,5 @@
-//! Tables by number of what a configuration has of one subsystem: by NSID its namespaces, and by ANA
-//! group the states that were set for it on a port. Each is taken by one walk over a list of the
+//! Tables by number of what a configuration has of one subsystem: by NSID its namespaces that a host
+//! sees, and by ANA group the states that were set for it on a port. Each is taken by one walk over a list of the
 //! configuration, and takes no memory.
 #![tactic(auto)]
 

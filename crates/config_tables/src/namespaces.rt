@@ -1,21 +1,25 @@
-//! The namespaces of one subsystem by their identifiers.
-ghost use Rattle.std.specs.Prelude.{◌≡◌, ◌≤◌, ◌+◌, ℕ, [], None, find, length, map, slice_index_or};
+//! The namespaces of one subsystem that a host sees, by their identifiers.
+ghost use Rattle.std.specs.Prelude.{◌≡◌, ◌≤◌, ◌+◌, ◌&&◌, ℕ, [], None, filter, find, length, map};
+ghost use Rattle.std.specs.Prelude.{slice_index_or};
 ghost use Rattle.std.specs.Option.{option_copied};
+ghost use Rattle.std.specs.Str.{bytes_eq};
 ghost use Rattle.config_lists.specs.Namespace.{is_named, nsid_max};
+ghost use Rattle.config_lists.specs.Show.{is_seen};
 ghost use Rattle.config_tables.specs.Nsids.{nsids_in};
 ghost use Rattle.config_tables.specs.Tables.{IsEmptyTable, IsTable};
 
 use crate::place::put_first;
 use config_lists::Namespace;
 use config_lists::namespace::NSID_MAX;
+use config_lists::show::{Show, is_seen};
 use config_words::{NsidSet, Nsids};
 use std::marker::Model;
 
 // How many places a table has: one for each identifier, and one for 0.
 const PLACES: usize = NSID_MAX as usize + 1;
 
-/// By NSID the namespaces of one subsystem (Base 2.0, section 3.2.1). A contract sees the list of
-/// them, from identifier 0 on.
+/// By NSID the namespaces of one subsystem that a host sees (Base 2.0, section 3.2.1). A contract sees
+/// the list of them, from identifier 0 on.
 #[derive(Drop)]
 pub struct NamespaceTable<'a> {
     places: [Option<&'a Namespace>; PLACES],
@@ -37,16 +41,22 @@ impl<'a> Model for NamespaceTable<'a> {
 }
 
 impl<'a> NamespaceTable<'a> {
-    /// Those of a configuration's namespaces, of which the first of an identifier counts.
-    pub fn of(namespaces: &'a [Namespace], subsystem: &[u8]) -> NamespaceTable<'a>
+    /// Those of a configuration's namespaces that the host of that name sees by these shows, of which
+    /// the first of an identifier counts.
+    pub fn of(
+        namespaces: &'a [Namespace],
+        shows: &[Show],
+        host: &[u8],
+        subsystem: &[u8],
+    ) -> NamespaceTable<'a>
         ensures found { (nsid : ℕ) → nsid ≤ nsid_max
-            → slice_index_or result nsid None
-            ≡ find (is_named subsystem.now nsid) namespaces.now }
+            → slice_index_or result nsid None ≡ find (is_named subsystem.now nsid)
+            (filter (is_seen shows.now host.now) namespaces.now) }
         ensures len { length result ≡ nsid_max + 1 }
     {
         let mut places = [None; PLACES];
         let mut taken = NsidSet::new();
-        set_places(&mut places, &mut taken, namespaces, subsystem);
+        set_places(&mut places, &mut taken, namespaces, shows, host, subsystem);
         NamespaceTable { places, taken }
     }
 
@@ -70,23 +80,35 @@ impl<'a> NamespaceTable<'a> {
     }
 }
 
-// Sets the place of each namespace of the subsystem, in a table that has none, and takes its identifier.
+// Sets the place of each namespace of the subsystem that the host sees, in a table that has none, and
+// takes its identifier.
 fn set_places<'a>(
     places: &mut [Option<&'a Namespace>; PLACES],
     taken: &mut NsidSet,
     namespaces: &'a [Namespace],
+    shows: &[Show],
+    host: &[u8],
     subsystem: &[u8],
 )
     requires empty { IsEmptyTable places.old }
     requires none { taken.old ≡ [] }
-    ensures places { IsTable (is_named subsystem.now) namespaces.now places.new }
+    ensures places { IsTable (is_named subsystem.now)
+        (filter (is_seen shows.now host.now) namespaces.now) places.new }
     ensures taken { taken.new ≡ nsids_in (map option_copied places.new) }
     ensures len { length places.new ≡ nsid_max + 1 }
 {
     for namespace in namespaces {
-        if namespace.subsystem.as_bytes() == subsystem {
+        if is_seen_of(namespace, shows, host, subsystem) {
             put_first(places, namespace.nsid as usize, namespace);
             taken.insert(namespace.nsid);
         }
     }
+}
+
+// Whether it is a namespace of the subsystem, and the host sees it.
+fn is_seen_of(namespace: &Namespace, shows: &[Show], host: &[u8], subsystem: &[u8]) -> bool
+    ensures { result ≡ (bytes_eq namespace.now.subsystem subsystem.now
+        && is_seen shows.now host.now namespace.now) }
+{
+    namespace.subsystem.as_bytes() == subsystem && is_seen(shows, host, namespace)
 }

@@ -13,6 +13,8 @@ use Rattle.config_edits.specs.declared.edit.Endpoint.{Endpoint}
 use Rattle.config_edits.specs.declared.edit.NewNamespace.{NewNamespace}
 use Rattle.config_lists.specs.declared.group_state.AnaState.{AnaState}
 use Rattle.config_lists.specs.declared.group_state.AnaState.TheVariants.{Optimized, NonOptimized, Inaccessible, PersistentLoss, Change}
+use Rattle.config_lists.specs.declared.namespace.Visibility.{Visibility}
+use Rattle.config_lists.specs.declared.namespace.Visibility.TheVariants.{All, Named}
 use Rattle.config_lists.specs.declared.port.Family.{Family}
 use Rattle.config_lists.specs.declared.port.Family.TheVariants.{Ipv4, Ipv6}
 use Rattle.config_lists.specs.declared.subsystem.Access.{Access}
@@ -20,7 +22,7 @@ use Rattle.config_lists.specs.declared.subsystem.Access.TheVariants.{Open, Close
 use Rattle.line_words.specs.Command.{command_from, grammar_of, is_noun}
 use Rattle.config_text.specs.EditLine.{IsEditOf, IsLineOf, IsSayable, command_of, line_of, values_of, words_of}
 use Rattle.line_words.specs.Said.{IsSaidBy}
-use Rattle.line_words.specs.Operand.{IsSaid, Value, access, allows, family, form_of, kind_of, name, number, state, text, uuid, word_of}
+use Rattle.line_words.specs.Operand.{IsSaid, Value, access, allows, family, form_of, kind_of, name, number, state, text, uuid, visibility, word_of}
 use Rattle.line_words.specs.Words.{command_fault, forms_fault, line_fault, verb_fault, words, words_fault}
 use Rattle.line_words.specs.declared.command.Command.{Command}
 use Rattle.line_words.specs.declared.command.Command.TheVariants as command
@@ -53,6 +55,9 @@ has_words command.NamespaceAdd = record { noun = refl; verb = refl; known_noun =
 has_words command.NamespaceSize = record { noun = refl; verb = refl; known_noun = refl; known = refl }
 has_words command.NamespaceGroup = record { noun = refl; verb = refl; known_noun = refl; known = refl }
 has_words command.NamespaceDel = record { noun = refl; verb = refl; known_noun = refl; known = refl }
+has_words command.NamespaceView = record { noun = refl; verb = refl; known_noun = refl; known = refl }
+has_words command.NamespaceShow = record { noun = refl; verb = refl; known_noun = refl; known = refl }
+has_words command.NamespaceHide = record { noun = refl; verb = refl; known_noun = refl; known = refl }
 has_words command.PortAdd = record { noun = refl; verb = refl; known_noun = refl; known = refl }
 has_words command.PortSet = record { noun = refl; verb = refl; known_noun = refl; known = refl }
 has_words command.PortDel = record { noun = refl; verb = refl; known_noun = refl; known = refl }
@@ -75,6 +80,7 @@ bytes_of (text x) = x
 bytes_of (uuid x) = x
 bytes_of (family x) = []
 bytes_of (access x) = []
+bytes_of (visibility x) = []
 bytes_of (state x) = []
 
 abbrev number_of : Value → ℕ
@@ -84,6 +90,7 @@ number_of (text x) = 0
 number_of (uuid x) = 0
 number_of (family x) = 0
 number_of (access x) = 0
+number_of (visibility x) = 0
 number_of (state x) = 0
 
 abbrev family_of : Value → Family
@@ -93,6 +100,7 @@ family_of (text x) = Ipv4
 family_of (uuid x) = Ipv4
 family_of (family x) = x
 family_of (access x) = Ipv4
+family_of (visibility x) = Ipv4
 family_of (state x) = Ipv4
 
 abbrev access_of : Value → Access
@@ -102,7 +110,18 @@ access_of (text x) = Open
 access_of (uuid x) = Open
 access_of (family x) = Open
 access_of (access x) = x
+access_of (visibility x) = Open
 access_of (state x) = Open
+
+abbrev visibility_of : Value → Visibility
+visibility_of (number x) = All
+visibility_of (name x) = All
+visibility_of (text x) = All
+visibility_of (uuid x) = All
+visibility_of (family x) = All
+visibility_of (access x) = All
+visibility_of (visibility x) = x
+visibility_of (state x) = All
 
 abbrev state_of : Value → AnaState
 state_of (number x) = Change
@@ -111,6 +130,7 @@ state_of (text x) = Change
 state_of (uuid x) = Change
 state_of (family x) = Change
 state_of (access x) = Change
+state_of (visibility x) = Change
 state_of (state x) = x
 
 abbrev at : List Value → ℕ → Value
@@ -131,6 +151,9 @@ edit_of command.NamespaceAdd vs = edit.NamespaceAdd (namespace_of vs)
 edit_of command.NamespaceSize vs = edit.NamespaceSize (bytes_of (at vs 0)) (number_of (at vs 1)) (number_of (at vs 2))
 edit_of command.NamespaceGroup vs = edit.NamespaceGroup (bytes_of (at vs 0)) (number_of (at vs 1)) (number_of (at vs 2))
 edit_of command.NamespaceDel vs = edit.NamespaceDel (bytes_of (at vs 0)) (number_of (at vs 1))
+edit_of command.NamespaceView vs = edit.NamespaceView (bytes_of (at vs 0)) (number_of (at vs 1)) (visibility_of (at vs 2))
+edit_of command.NamespaceShow vs = edit.NamespaceShow (bytes_of (at vs 0)) (number_of (at vs 1)) (bytes_of (at vs 2))
+edit_of command.NamespaceHide vs = edit.NamespaceHide (bytes_of (at vs 0)) (number_of (at vs 1)) (bytes_of (at vs 2))
 edit_of command.PortAdd vs = edit.PortAdd (endpoint_of vs)
 edit_of command.PortSet vs = edit.PortSet (endpoint_of vs)
 edit_of command.PortDel vs = edit.PortDel (number_of (at vs 0))
@@ -158,6 +181,9 @@ of_command (edit.NamespaceAdd n) = record { forms = refl; back = refl }
 of_command (edit.NamespaceSize s n b) = record { forms = refl; back = refl }
 of_command (edit.NamespaceGroup s n g) = record { forms = refl; back = refl }
 of_command (edit.NamespaceDel s n) = record { forms = refl; back = refl }
+of_command (edit.NamespaceView s n v) = record { forms = refl; back = refl }
+of_command (edit.NamespaceShow s n h) = record { forms = refl; back = refl }
+of_command (edit.NamespaceHide s n h) = record { forms = refl; back = refl }
 of_command (edit.PortAdd e) = record { forms = refl; back = refl }
 of_command (edit.PortSet e) = record { forms = refl; back = refl }
 of_command (edit.PortDel i) = record { forms = refl; back = refl }
@@ -180,6 +206,7 @@ value_from form.Text w = text w
 value_from form.Uuid w = uuid (unwrap_or (parsed w) [])
 value_from form.Family w = family (if bytes_eq w (codes "ipv4") then Ipv4 else Ipv6)
 value_from form.Access w = access (if bytes_eq w (codes "open") then Open else Closed)
+value_from form.Visibility w = visibility (if bytes_eq w (codes "all") then All else Named)
 value_from form.State w = state
     (if bytes_eq w (codes "optimized") then Optimized
     else if bytes_eq w (codes "non-optimized") then NonOptimized
@@ -195,6 +222,8 @@ value_back (family Ipv4) said = refl
 value_back (family Ipv6) said = refl
 value_back (access Open) said = refl
 value_back (access Closed) said = refl
+value_back (visibility All) said = refl
+value_back (visibility Named) said = refl
 value_back (state Optimized) said = refl
 value_back (state NonOptimized) said = refl
 value_back (state Inaccessible) said = refl
@@ -220,6 +249,8 @@ word_allowed (family Ipv4) said = refl
 word_allowed (family Ipv6) said = refl
 word_allowed (access Open) said = refl
 word_allowed (access Closed) said = refl
+word_allowed (visibility All) said = refl
+word_allowed (visibility Named) said = refl
 word_allowed (state Optimized) said = refl
 word_allowed (state NonOptimized) said = refl
 word_allowed (state Inaccessible) said = refl
@@ -238,6 +269,8 @@ value_word (family Ipv4) said = plain_word (codes "ipv4") refl
 value_word (family Ipv6) said = plain_word (codes "ipv6") refl
 value_word (access Open) said = plain_word (codes "open") refl
 value_word (access Closed) said = plain_word (codes "closed") refl
+value_word (visibility All) said = plain_word (codes "all") refl
+value_word (visibility Named) said = plain_word (codes "named") refl
 value_word (state Optimized) said = plain_word (codes "optimized") refl
 value_word (state NonOptimized) said = plain_word (codes "non-optimized") refl
 value_word (state Inaccessible) said = plain_word (codes "inaccessible") refl

@@ -5,10 +5,10 @@ use Rattle.config_edits.specs.declared.edit.Edit.{Edit}
 use Rattle.config_edits.specs.declared.edit.Edit.TheVariants as edit
 use Rattle.config_edits.specs.declared.edit.Endpoint.{Endpoint}
 use Rattle.config_edits.specs.declared.edit.NewNamespace.{NewNamespace}
-use Rattle.line_words.specs.Operand.{IsSaid, Value, access, family, name, number, state, text, uuid}
+use Rattle.line_words.specs.Operand.{IsSaid, Value, access, family, name, number, state, text, uuid, visibility}
 use Rattle.line_words.specs.Said.{said_words}
 use Rattle.line_words.specs.declared.command.Command.{Command}
-use Rattle.line_words.specs.declared.command.Command.TheVariants.{SubsystemAdd, SubsystemSet, SubsystemDel, NamespaceAdd, NamespaceSize, NamespaceGroup, NamespaceDel, PortAdd, PortSet, PortDel, LinkAdd, LinkDel, HostAdd, HostDel, AllowAdd, AllowDel, AnaSet, ReferralAdd, ReferralSet, ReferralDel}
+use Rattle.line_words.specs.declared.command.Command.TheVariants.{SubsystemAdd, SubsystemSet, SubsystemDel, NamespaceAdd, NamespaceSize, NamespaceGroup, NamespaceDel, NamespaceView, NamespaceShow, NamespaceHide, PortAdd, PortSet, PortDel, LinkAdd, LinkDel, HostAdd, HostDel, AllowAdd, AllowDel, AnaSet, ReferralAdd, ReferralSet, ReferralDel}
 
 abbrev pub command_of : Edit → Command
 command_of (edit.SubsystemAdd n s a) = SubsystemAdd
@@ -18,6 +18,9 @@ command_of (edit.NamespaceAdd n) = NamespaceAdd
 command_of (edit.NamespaceSize s n b) = NamespaceSize
 command_of (edit.NamespaceGroup s n g) = NamespaceGroup
 command_of (edit.NamespaceDel s n) = NamespaceDel
+command_of (edit.NamespaceView s n v) = NamespaceView
+command_of (edit.NamespaceShow s n h) = NamespaceShow
+command_of (edit.NamespaceHide s n h) = NamespaceHide
 command_of (edit.PortAdd e) = PortAdd
 command_of (edit.PortSet e) = PortSet
 command_of (edit.PortDel i) = PortDel
@@ -48,6 +51,9 @@ values_of (edit.NamespaceAdd new) = namespace_values new
 values_of (edit.NamespaceSize subsystem nsid blocks) = name subsystem ∷ number nsid ∷ number blocks ∷ []
 values_of (edit.NamespaceGroup subsystem nsid group) = name subsystem ∷ number nsid ∷ number group ∷ []
 values_of (edit.NamespaceDel subsystem nsid) = name subsystem ∷ number nsid ∷ []
+values_of (edit.NamespaceView subsystem nsid who) = name subsystem ∷ number nsid ∷ visibility who ∷ []
+values_of (edit.NamespaceShow subsystem nsid host) = name subsystem ∷ number nsid ∷ name host ∷ []
+values_of (edit.NamespaceHide subsystem nsid host) = name subsystem ∷ number nsid ∷ name host ∷ []
 values_of (edit.PortAdd endpoint) = endpoint_values endpoint
 values_of (edit.PortSet endpoint) = endpoint_values endpoint
 values_of (edit.PortDel id) = number id ∷ []

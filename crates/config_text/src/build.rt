@@ -8,7 +8,9 @@ ghost use Rattle.line_words.specs.declared.command.Command.TheVariants as comman
 
 use config_edits::{Edit, Endpoint, NewNamespace};
 use config_lists::Text;
-use line_words::operand::{access_at, family_at, name_at, number_at, state_at, text_at, uuid_at};
+use line_words::operand::{
+    access_at, family_at, name_at, number_at, state_at, text_at, uuid_at, visibility_at,
+};
 use line_words::{Command, Operand};
 use nvt_fields::Nqn;
 use std::alloc::{AllocError, Global};
@@ -30,6 +32,9 @@ pub(crate) fn build(
         Command::NamespaceSize => namespace_size(alloc, operands),
         Command::NamespaceGroup => namespace_group(alloc, operands),
         Command::NamespaceDel => namespace_del(alloc, operands),
+        Command::NamespaceView => namespace_view(alloc, operands),
+        Command::NamespaceShow => namespace_show(alloc, operands),
+        Command::NamespaceHide => namespace_hide(alloc, operands),
         Command::PortAdd => port_add(alloc, operands),
         Command::PortSet => port_set(alloc, operands),
         Command::PortDel => Ok(port_del(operands)),
@@ -139,6 +144,41 @@ fn namespace_del(alloc: Global, operands: &[Operand<'_>]) -> Result<Edit, AllocE
     Ok(Edit::NamespaceDel {
         subsystem: read_name(alloc, operands, 0)?,
         nsid: number_at(operands, 1),
+    })
+}
+
+fn namespace_view(alloc: Global, operands: &[Operand<'_>]) -> Result<Edit, AllocError>
+    requires { map form_of (values operands.now) ≡ (grammar_of command.NamespaceView).forms }
+    ensures { IfOk result (IsEditOf command.NamespaceView (values operands.now)) }
+{
+    Ok(Edit::NamespaceView {
+        subsystem: read_name(alloc, operands, 0)?,
+        nsid: number_at(operands, 1),
+        visibility: visibility_at(operands, 2),
+    })
+}
+
+fn namespace_show(alloc: Global, operands: &[Operand<'_>]) -> Result<Edit, AllocError>
+    requires { map form_of (values operands.now) ≡ (grammar_of command.NamespaceShow).forms }
+    ensures { IfOk result (IsEditOf command.NamespaceShow (values operands.now)) }
+{
+    let subsystem = read_name(alloc, operands, 0)?;
+    Ok(Edit::NamespaceShow {
+        subsystem,
+        nsid: number_at(operands, 1),
+        host: read_name(alloc, operands, 2)?,
+    })
+}
+
+fn namespace_hide(alloc: Global, operands: &[Operand<'_>]) -> Result<Edit, AllocError>
+    requires { map form_of (values operands.now) ≡ (grammar_of command.NamespaceHide).forms }
+    ensures { IfOk result (IsEditOf command.NamespaceHide (values operands.now)) }
+{
+    let subsystem = read_name(alloc, operands, 0)?;
+    Ok(Edit::NamespaceHide {
+        subsystem,
+        nsid: number_at(operands, 1),
+        host: read_name(alloc, operands, 2)?,
     })
 }
 

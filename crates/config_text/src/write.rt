@@ -2,13 +2,13 @@
 ghost use Rattle.std.specs.Prelude.{◌≡◌, ◌+◌, ◌≤◌, [], ◌∷◌, ◌++◌, Some, codes, length, nat_le};
 ghost use Rattle.config_text.specs.EditLine.{command_of, endpoint_values, line_of, namespace_values};
 ghost use Rattle.config_text.specs.EditLine.{values_of};
-ghost use Rattle.line_words.specs.Operand.{access, name, number, state, text, values};
+ghost use Rattle.line_words.specs.Operand.{access, name, number, state, text, values, visibility};
 ghost use Rattle.config_text.specs.Output.{AppendsOrFull, head_of, spaced};
 
 use arrayvec::ArrayVec;
 use bytes::BytesMut;
 use config_edits::{Edit, Endpoint, NewNamespace};
-use config_lists::{Access, AnaState, Text};
+use config_lists::{Access, AnaState, Text, Visibility};
 use line_words::{Command, Operand, Operands, Scratch};
 use nvt_fields::Nqn;
 use std::error::Error;
@@ -100,6 +100,9 @@ fn command_of(edit: &Edit) -> Command
         Edit::NamespaceSize { .. } => Command::NamespaceSize,
         Edit::NamespaceGroup { .. } => Command::NamespaceGroup,
         Edit::NamespaceDel { .. } => Command::NamespaceDel,
+        Edit::NamespaceView { .. } => Command::NamespaceView,
+        Edit::NamespaceShow { .. } => Command::NamespaceShow,
+        Edit::NamespaceHide { .. } => Command::NamespaceHide,
         Edit::PortAdd(_) => Command::PortAdd,
         Edit::PortSet(_) => Command::PortSet,
         Edit::PortDel { .. } => Command::PortDel,
@@ -140,6 +143,21 @@ fn operands_of(edit: &Edit) -> Operands<'_>
             group,
         } => of_setting(subsystem, *nsid, *group),
         Edit::NamespaceDel { subsystem, nsid } => of_namespace(subsystem, *nsid),
+        Edit::NamespaceView {
+            subsystem,
+            nsid,
+            visibility,
+        } => of_view(subsystem, *nsid, *visibility),
+        Edit::NamespaceShow {
+            subsystem,
+            nsid,
+            host,
+        }
+        | Edit::NamespaceHide {
+            subsystem,
+            nsid,
+            host,
+        } => of_show(subsystem, *nsid, host),
         Edit::PortAdd(endpoint) | Edit::PortSet(endpoint) => of_endpoint(endpoint),
         Edit::ReferralAdd(endpoint) | Edit::ReferralSet(endpoint) => of_endpoint(endpoint),
         Edit::PortDel { id } | Edit::ReferralDel { id } => of_number(*id),
@@ -215,6 +233,28 @@ fn of_setting(subsystem: &Nqn, nsid: u64, setting: u64) -> Operands<'_>
     operands.push(Operand::Name(subsystem.as_bytes()));
     operands.push(Operand::Number(nsid));
     operands.push(Operand::Number(setting));
+    operands
+}
+
+fn of_view(subsystem: &Nqn, nsid: u64, who: Visibility) -> Operands<'_>
+    ensures { values result.items
+        ≡ name subsystem.now ∷ number nsid ∷ visibility who ∷ [] }
+{
+    let mut operands = ArrayVec::new();
+    operands.push(Operand::Name(subsystem.as_bytes()));
+    operands.push(Operand::Number(nsid));
+    operands.push(Operand::Visibility(who));
+    operands
+}
+
+fn of_show<'a>(subsystem: &'a Nqn, nsid: u64, host: &'a Nqn) -> Operands<'a>
+    ensures { values result.items
+        ≡ name subsystem.now ∷ number nsid ∷ name host.now ∷ [] }
+{
+    let mut operands = ArrayVec::new();
+    operands.push(Operand::Name(subsystem.as_bytes()));
+    operands.push(Operand::Number(nsid));
+    operands.push(Operand::Name(host.as_bytes()));
     operands
 }
 

@@ -67,6 +67,7 @@ alone_is_valid units are = record {
   allows = record { count = omega arith; sound = All-nil _; distinct = λ _ j _ _ below. none_below j below };
   states = record { sound = All-nil _; distinct = λ _ j _ _ below. none_below j below };
   referrals = record { count = omega arith; sound = All-nil _; distinct = λ _ j _ _ below. none_below j below };
+  shows = record { count = omega arith; sound = All-nil _; distinct = λ _ j _ _ below. none_below j below };
 }
 
 sound_at : (disks : Opening) (events : List Event) → IsTrue (are_disks (map length disks)) → All AddsNamed events → IsSound (config_of disks (happened disks events))

@@ -4,13 +4,15 @@ use Rattle.std.proofs.Math.Path.{fun_ext}
 use Rattle.std.proofs.lemmas.Bool.{cases_Bool, both_ways, false_from_ne_true}
 use Rattle.std.proofs.lemmas.List.Folds.{list_any-append}
 use Rattle.config_edits.specs.declared.edit.Edit.{Edit}
-use Rattle.config_edits.specs.declared.edit.Edit.TheVariants.{NamespaceAdd, NamespaceSize, NamespaceGroup, NamespaceDel, HostDel, AllowAdd, AllowDel, AnaSet}
+use Rattle.config_edits.specs.declared.edit.Edit.TheVariants.{NamespaceAdd, NamespaceSize, NamespaceGroup, NamespaceDel, NamespaceView, NamespaceShow, NamespaceHide, HostDel, AllowAdd, AllowDel, AnaSet}
 use Rattle.config_edits.specs.declared.edit.NewNamespace.{NewNamespace}
 use Rattle.config_lists.specs.declared.allow.Allow.{Allow}
 use Rattle.config_lists.specs.declared.group_state.AnaState.{AnaState}
 use Rattle.config_lists.specs.declared.group_state.GroupState.{GroupState}
 use Rattle.config_lists.specs.declared.host.Host.{Host}
 use Rattle.config_lists.specs.declared.namespace.Namespace.{Namespace}
+use Rattle.config_lists.specs.declared.namespace.Visibility.{Visibility}
+use Rattle.config_lists.specs.declared.show.Show.{Show}
 use Rattle.config_lists.specs.Lists.{without}
 use Rattle.config_rules.specs.Accept.{accept, effect}
 use Rattle.config_rules.specs.Configuration.{Configuration, has_allow, with_allow, without_allow}
@@ -25,8 +27,8 @@ use Rattle.discovery_view.proofs.Strangers.{shown_who}
 
 -- ---- what no record tells of
 
-other_namespaces : (c : Configuration) (namespaces : List Namespace) → Leaves no_host c (record c { namespaces = namespaces })
-other_namespaces c namespaces = record { catalog = refl; places = λ host apart. refl }
+other_namespaces : (c : Configuration) (namespaces : List Namespace) (shows : List Show) → Leaves no_host c (record c { namespaces = namespaces; shows = shows })
+other_namespaces c namespaces shows = record { catalog = refl; places = λ host apart. refl }
 
 other_states : (c : Configuration) (states : List GroupState) → Leaves no_host c (record c { states = states })
 other_states c states = record { catalog = refl; places = λ host apart. refl }
@@ -102,13 +104,19 @@ pub nobody_reached : (edit : Edit)
     ⊎ (((nqn : List ℕ) × (nsid : ℕ) × (blocks : ℕ) × (edit ≡ NamespaceSize nqn nsid blocks))
     ⊎ (((nqn : List ℕ) × (nsid : ℕ) × (group : ℕ) × (edit ≡ NamespaceGroup nqn nsid group))
     ⊎ (((nqn : List ℕ) × (nsid : ℕ) × (edit ≡ NamespaceDel nqn nsid))
+    ⊎ (((nqn : List ℕ) × (nsid : ℕ) × (visibility : Visibility) × (edit ≡ NamespaceView nqn nsid visibility))
+    ⊎ (((nqn : List ℕ) × (nsid : ℕ) × (host : List ℕ) × (edit ≡ NamespaceShow nqn nsid host))
+    ⊎ (((nqn : List ℕ) × (nsid : ℕ) × (host : List ℕ) × (edit ≡ NamespaceHide nqn nsid host))
     ⊎ (((nqn : List ℕ) × (edit ≡ HostDel nqn))
-    ⊎ ((port : ℕ) × (nqn : List ℕ) × (group : ℕ) × (state : AnaState) × (edit ≡ AnaSet port nqn group state))))))
+    ⊎ ((port : ℕ) × (nqn : List ℕ) × (group : ℕ) × (state : AnaState) × (edit ≡ AnaSet port nqn group state)))))))))
     → (c d : Configuration) → accept c edit ≡ Ok d → Leaves no_host c d
-nobody_reached edit (inl (n, is)) c d ok = then_leaves c d edit (NamespaceAdd n) is ok (other_namespaces c _)
-nobody_reached edit (inr (inl (nqn, nsid, blocks, is))) c d ok = then_leaves c d edit (NamespaceSize nqn nsid blocks) is ok (other_namespaces c _)
-nobody_reached edit (inr (inr (inl (nqn, nsid, group, is)))) c d ok = then_leaves c d edit (NamespaceGroup nqn nsid group) is ok (other_namespaces c _)
-nobody_reached edit (inr (inr (inr (inl (nqn, nsid, is))))) c d ok = then_leaves c d edit (NamespaceDel nqn nsid) is ok (other_namespaces c _)
-nobody_reached edit (inr (inr (inr (inr (inl (nqn, is)))))) c d ok = then_leaves c d edit (HostDel nqn) is ok (other_hosts c _)
-nobody_reached edit (inr (inr (inr (inr (inr (port, nqn, group, state, is)))))) c d ok =
+nobody_reached edit (inl (n, is)) c d ok = then_leaves c d edit (NamespaceAdd n) is ok (other_namespaces c _ _)
+nobody_reached edit (inr (inl (nqn, nsid, blocks, is))) c d ok = then_leaves c d edit (NamespaceSize nqn nsid blocks) is ok (other_namespaces c _ _)
+nobody_reached edit (inr (inr (inl (nqn, nsid, group, is)))) c d ok = then_leaves c d edit (NamespaceGroup nqn nsid group) is ok (other_namespaces c _ _)
+nobody_reached edit (inr (inr (inr (inl (nqn, nsid, is))))) c d ok = then_leaves c d edit (NamespaceDel nqn nsid) is ok (other_namespaces c _ _)
+nobody_reached edit (inr (inr (inr (inr (inl (nqn, nsid, visibility, is)))))) c d ok = then_leaves c d edit (NamespaceView nqn nsid visibility) is ok (other_namespaces c _ _)
+nobody_reached edit (inr (inr (inr (inr (inr (inl (nqn, nsid, host, is))))))) c d ok = then_leaves c d edit (NamespaceShow nqn nsid host) is ok (other_namespaces c _ _)
+nobody_reached edit (inr (inr (inr (inr (inr (inr (inl (nqn, nsid, host, is)))))))) c d ok = then_leaves c d edit (NamespaceHide nqn nsid host) is ok (other_namespaces c _ _)
+nobody_reached edit (inr (inr (inr (inr (inr (inr (inr (inl (nqn, is))))))))) c d ok = then_leaves c d edit (HostDel nqn) is ok (other_hosts c _)
+nobody_reached edit (inr (inr (inr (inr (inr (inr (inr (inr (port, nqn, group, state, is))))))))) c d ok =
     then_leaves c d edit (AnaSet port nqn group state) is ok (subst (Leaves no_host c) (sym (states_alone c port nqn group state)) (other_states c _))

@@ -24,6 +24,9 @@ pub(crate) fn reach_of(edit: &Edit) -> Reach<'_>
         | Edit::NamespaceSize { .. }
         | Edit::NamespaceGroup { .. }
         | Edit::NamespaceDel { .. }
+        | Edit::NamespaceView { .. }
+        | Edit::NamespaceShow { .. }
+        | Edit::NamespaceHide { .. }
         | Edit::HostDel { .. }
         | Edit::AnaSet { .. } => Reach::Nobody,
         Edit::AllowAdd { subsystem, host } => Reach::Host(Allowance::Given { subsystem, host }),

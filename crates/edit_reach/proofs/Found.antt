@@ -1,14 +1,17 @@
 -- What is found of a subsystem is found among its own, and nothing of one that is not there.
-use Rattle.std.proofs.Common.{◌≡◌, ◌==◌, ◌&&◌, ℕ, Bool, true, false, Option, None, List, [], ◌∷◌, All, filter, find, bytes_eq, refl, ap, sym, subst, ◌∙◌, inl, inr}
-use Rattle.std.proofs.lemmas.Bool.{and_parts, both_ways, cases_Bool}
+use Rattle.std.proofs.Common.{◌≡◌, ◌==◌, ◌&&◌, ℕ, Bool, true, false, Option, None, List, [], ◌∷◌, All, Any, filter, find, bytes_eq, refl, ap, sym, subst, ◌∙◌, inl, inr}
+use Rattle.std.proofs.lemmas.Bool.{and_parts, both_ways, cases_Bool, false_from_ne_true}
 use Rattle.std.proofs.lemmas.List.Elements.{All-head, All-tail}
+use Rattle.std.proofs.lemmas.List.Folds.{Any-from_list_any}
 use Rattle.config_lists.specs.declared.group_state.GroupState.{GroupState}
 use Rattle.config_lists.specs.declared.namespace.Namespace.{Namespace}
+use Rattle.config_lists.specs.declared.show.Show.{Show}
 use Rattle.config_lists.specs.GroupState.{is_state_for, is_state_on, state_for, state_or}
 use Rattle.config_lists.specs.Namespace.{is_named}
+use Rattle.config_lists.specs.Show.{is_show_in, is_shown_of}
 use Rattle.config_lists.proofs.Names.{same_name}
 use Rattle.config_rules.specs.Configuration.{Configuration, has_subsystem}
-use Rattle.config_rules.specs.Valid.{IsNamespace, IsValid}
+use Rattle.config_rules.specs.Valid.{IsNamespace, IsShow, IsValid}
 use Rattle.edit_reach.specs.Reach.{StaysAsItWas}
 
 found_among : {X : Type 0} (p test : X → Bool) → ((x : X) → test x ≡ true → p x ≡ true) → (xs : List X) → find test (filter p xs) ≡ find test xs
@@ -58,3 +61,17 @@ none_of c subsystem nsid (n ∷ namespaces) sound none =
 
 pub none_found : (c : Configuration) (subsystem : List ℕ) → IsValid c → has_subsystem c.subsystems subsystem ≡ false → (nsid : ℕ) → find (is_named subsystem nsid) c.namespaces ≡ None
 none_found c subsystem valid none nsid = none_of c subsystem nsid c.namespaces valid.namespaces.sound none
+
+-- and nobody is shown anything of it
+pub unshown_absent : (c : Configuration) (subsystem host : List ℕ) → IsValid c → has_subsystem c.subsystems subsystem ≡ false → is_shown_of c.shows subsystem host ≡ false
+unshown_absent c subsystem host valid none =
+    false_from_ne_true (is_shown_of c.shows subsystem host) (λ shown.
+    let any : Any (λ s. is_show_in subsystem host s ≡ true) c.shows = Any-from_list_any (is_show_in subsystem host) c.shows shown in
+    let s : Show = any.1 in
+    let sound : IsShow c.namespaces c.hosts s = subst (λ (x : Show). IsShow c.namespaces c.hosts x) any.3 (valid.shows.sound any.0 s any.2) in
+    let own : bytes_eq s.subsystem subsystem ≡ true = (and_parts (bytes_eq s.subsystem subsystem) (bytes_eq s.host host) any.4).0 in
+    let of_it : Any (λ n. is_named s.subsystem s.nsid n ≡ true) c.namespaces = Any-from_list_any (is_named s.subsystem s.nsid) c.namespaces sound.named_namespace in
+    let n : Namespace = of_it.1 in
+    let there : IsNamespace c.units c.subsystems n = subst (λ (x : Namespace). IsNamespace c.units c.subsystems x) of_it.3 (valid.namespaces.sound of_it.0 n of_it.2) in
+    let named : n.subsystem ≡ subsystem = same_name n.subsystem s.subsystem (and_parts (bytes_eq n.subsystem s.subsystem) (n.nsid == s.nsid) of_it.4).0 ∙ same_name s.subsystem subsystem own in
+    both_ways (has_subsystem c.subsystems subsystem) none (subst (λ (l : List ℕ). has_subsystem c.subsystems l ≡ true) named there.subsystem))

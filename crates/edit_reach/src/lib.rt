@@ -4,4 +4,4 @@
 
 pub mod reach;
 
-pub use reach::{others_stay, subsystem_reached};
+pub use reach::{host_reached, others_stay, subsystem_reached};

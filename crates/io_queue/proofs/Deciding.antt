@@ -1,8 +1,7 @@
 -- What a command's checks look at.
-use Rattle.std.proofs.Common.{◌≡◌, ℕ, List, Option, Some, None, Result, Ok, find, refl, ap, ◌∙◌}
+use Rattle.std.proofs.Common.{◌≡◌, ℕ, List, Option, Some, None, Result, Ok, refl, ap, ◌∙◌}
 use Rattle.config_lists.specs.declared.group_state.AnaState.{AnaState}
 use Rattle.config_lists.specs.declared.namespace.Namespace.{Namespace}
-use Rattle.config_lists.specs.Namespace.{is_named}
 use Rattle.config_rules.specs.Configuration.{Configuration}
 use Rattle.nvt_fields.specs.declared.status.Status.{Status}
 use Rattle.pdu_codec.specs.Sqe.{nsid_of, opcode_of}
@@ -11,34 +10,34 @@ use Rattle.io_queue.specs.Beginning.{begin, on_namespace, on_opcode}
 use Rattle.io_queue.specs.Finishing.{finish, on_namespace_again}
 use Rattle.io_queue.specs.Laws.{DecidedByOwnAlone, SeenAlike}
 use Rattle.io_queue.specs.Opcode.{opcode_of_code}
-use Rattle.io_queue.specs.Reach.{found_reached, reached, state_verdict, then_do}
+use Rattle.io_queue.specs.Reach.{found_reached, namespace_seen, reached, state_verdict, then_do}
 
-found_alike : (c d : Configuration) (port : ℕ) (subsystem : List ℕ) → SeenAlike port subsystem c d → (o : Option Namespace)
+found_alike : (c d : Configuration) (host : List ℕ) (port : ℕ) (subsystem : List ℕ) → SeenAlike host port subsystem c d → (o : Option Namespace)
     → found_reached o c port subsystem ≡ found_reached o d port subsystem
-found_alike c d port subsystem h None = refl
-found_alike c d port subsystem h (Some n) =
+found_alike c d host port subsystem h None = refl
+found_alike c d host port subsystem h (Some n) =
     ap (λ (state : AnaState). then_do (state_verdict state) (λ reached. let found : Result Namespace Status = Ok n in found)) (h.states n.group)
 
-reached_alike : (c d : Configuration) (port : ℕ) (subsystem entry : List ℕ) → SeenAlike port subsystem c d
-    → reached c port subsystem entry ≡ reached d port subsystem entry
-reached_alike c d port subsystem entry h =
+reached_alike : (c d : Configuration) (host : List ℕ) (port : ℕ) (subsystem entry : List ℕ) → SeenAlike host port subsystem c d
+    → reached c host port subsystem entry ≡ reached d host port subsystem entry
+reached_alike c d host port subsystem entry h =
     ap (λ (o : Option Namespace). found_reached o c port subsystem) (h.namespaces (nsid_of entry))
-    ∙ found_alike c d port subsystem h (find (is_named subsystem (nsid_of entry)) d.namespaces)
+    ∙ found_alike c d host port subsystem h (namespace_seen d host subsystem (nsid_of entry))
 
-opcode_alike : (c d : Configuration) (port : ℕ) (subsystem entry : List ℕ) (len : ℕ) → SeenAlike port subsystem c d → (code : Option IoOpcode)
-    → on_opcode code c port subsystem entry len ≡ on_opcode code d port subsystem entry len
-opcode_alike c d port subsystem entry len h None = refl
-opcode_alike c d port subsystem entry len h (Some code) =
-    ap (λ (r : Result Namespace Status). then_do r (λ n. on_namespace n code entry len)) (reached_alike c d port subsystem entry h)
+opcode_alike : (c d : Configuration) (host : List ℕ) (port : ℕ) (subsystem entry : List ℕ) (len : ℕ) → SeenAlike host port subsystem c d → (code : Option IoOpcode)
+    → on_opcode code c host port subsystem entry len ≡ on_opcode code d host port subsystem entry len
+opcode_alike c d host port subsystem entry len h None = refl
+opcode_alike c d host port subsystem entry len h (Some code) =
+    ap (λ (r : Result Namespace Status). then_do r (λ n. on_namespace n code entry len)) (reached_alike c d host port subsystem entry h)
 
-pub begun_alike : (c d : Configuration) (port : ℕ) (subsystem entry : List ℕ) (len : ℕ) → SeenAlike port subsystem c d
-    → begin c port subsystem entry len ≡ begin d port subsystem entry len
-begun_alike c d port subsystem entry len h = opcode_alike c d port subsystem entry len h (opcode_of_code (opcode_of entry))
+pub begun_alike : (c d : Configuration) (host : List ℕ) (port : ℕ) (subsystem entry : List ℕ) (len : ℕ) → SeenAlike host port subsystem c d
+    → begin c host port subsystem entry len ≡ begin d host port subsystem entry len
+begun_alike c d host port subsystem entry len h = opcode_alike c d host port subsystem entry len h (opcode_of_code (opcode_of entry))
 
-pub finished_alike : (c d : Configuration) (port : ℕ) (subsystem entry : List ℕ) (came : ℕ) → SeenAlike port subsystem c d
-    → finish c port subsystem entry came ≡ finish d port subsystem entry came
-finished_alike c d port subsystem entry came h =
-    ap (λ (r : Result Namespace Status). then_do r (λ n. on_namespace_again n (opcode_of_code (opcode_of entry)) entry came)) (reached_alike c d port subsystem entry h)
+pub finished_alike : (c d : Configuration) (host : List ℕ) (port : ℕ) (subsystem entry : List ℕ) (came : ℕ) → SeenAlike host port subsystem c d
+    → finish c host port subsystem entry came ≡ finish d host port subsystem entry came
+finished_alike c d host port subsystem entry came h =
+    ap (λ (r : Result Namespace Status). then_do r (λ n. on_namespace_again n (opcode_of_code (opcode_of entry)) entry came)) (reached_alike c d host port subsystem entry h)
 
 pub decided_by_own_alone : DecidedByOwnAlone
 decided_by_own_alone = record { begins = begun_alike; finishes = finished_alike }

@@ -1,5 +1,5 @@
 -- The extent of a command that passes every check is on the disk of its namespace.
-use Rattle.std.proofs.Common.{◌≡◌, ◌≤◌, ℕ, ◌+◌, ◌*◌, ◌^◌, ◌==◌, Bool, true, false, not, ◌||◌, List, Option, Some, None, Result, Ok, Err, IfOk, find, length, nat_le, nat_lt, slice_get, get_or, refl, ap, ◌∙◌, arith}
+use Rattle.std.proofs.Common.{◌≡◌, ◌≤◌, ℕ, ◌+◌, ◌*◌, ◌^◌, ◌==◌, Bool, true, false, not, ◌||◌, List, Option, Some, None, Result, Ok, Err, IfOk, length, nat_le, nat_lt, slice_get, get_or, refl, ap, ◌∙◌, arith}
 use Rattle.std.specs.Prelude.{if◌then◌else◌}
 use Rattle.std.specs.List.{list_all}
 use Rattle.std.proofs.lemmas.Bool.{and_parts, eqb-true, leb-true, ltb-false}
@@ -11,7 +11,9 @@ use Rattle.config_lists.specs.declared.namespace.Namespace.{Namespace}
 use Rattle.config_lists.specs.Namespace.{bytes_of, is_named}
 use Rattle.config_lists.proofs.Lists.{found_holds}
 use Rattle.config_rules.specs.Configuration.{Configuration, are_disks}
+use Rattle.config_rules.specs.Seen.{seen_by}
 use Rattle.config_rules.specs.Valid.{IsNamespace, IsValid, is_size_on}
+use Rattle.config_rules.proofs.Seeing.{sees_what_is_shown}
 use Rattle.nvt_fields.specs.declared.status.Status.{Status}
 use Rattle.nvt_fields.specs.Status.{data_sgl_length_invalid, invalid_field, lba_out_of_range, sgl_offset_invalid, sgl_type_invalid}
 use Rattle.pdu_codec.specs.declared.command.BlockCommand.{BlockCommand}
@@ -30,7 +32,7 @@ use Rattle.io_queue.specs.Operation.{HasExtent, IsWithin, operation_on}
 use Rattle.io_queue.specs.Beginning.{IsBegunWithin, begin, compare_begun, is_capsule_offset, is_transport, on_namespace, on_opcode, performed, locate, locate_at, read, write_begun}
 use Rattle.io_queue.specs.Blocks.{data_len, extent_of, in_range, limited, units_of}
 use Rattle.io_queue.specs.Finishing.{covered, finish, on_namespace_again}
-use Rattle.io_queue.specs.Reach.{FitsDisk, IsSmall, found_reached, reached, refuse, state_verdict, then_do}
+use Rattle.io_queue.specs.Reach.{FitsDisk, IsSmall, found_reached, namespace_seen, reached, refuse, state_verdict, then_do}
 
 -- ---- the disk of a namespace
 
@@ -54,10 +56,11 @@ on_disk_by units n (Some size) disks is fits = record {
   bound = disk_bounded units n.disk size disks is;
 }
 
-pub found_on_disk : (c : Configuration) (subsystem : List ℕ) (nsid : ℕ) (n : Namespace) → IsValid c
-    → find (is_named subsystem nsid) c.namespaces ≡ Some n → FitsDisk c.units n
-found_on_disk c subsystem nsid n valid found =
-    let holds = found_holds (IsNamespace c.units c.subsystems) (is_named subsystem nsid) c.namespaces valid.namespaces.sound in
+pub found_on_disk : (c : Configuration) (host subsystem : List ℕ) (nsid : ℕ) (n : Namespace) → IsValid c
+    → namespace_seen c host subsystem nsid ≡ Some n → FitsDisk c.units n
+found_on_disk c host subsystem nsid n valid found =
+    let seen = sees_what_is_shown.valid c host valid in
+    let holds = found_holds (IsNamespace c.units c.subsystems) (is_named subsystem nsid) (seen_by c host).namespaces seen.namespaces.sound in
     let sound : IsNamespace c.units c.subsystems n = rw found at holds in
     on_disk_by c.units n (slice_get c.units n.disk) valid.disks refl sound.size
 
@@ -228,28 +231,28 @@ any_ok : {A B : Type 0} (r : Result A B) → IfOk r (λ a. Unit {0})
 any_ok (Ok a) = tt
 any_ok (Err b) = tt
 
-found_fits : (c : Configuration) (port : ℕ) (subsystem : List ℕ) (nsid : ℕ) → IsValid c → (o : Option Namespace)
-    → find (is_named subsystem nsid) c.namespaces ≡ o → IfOk (found_reached o c port subsystem) (FitsDisk c.units)
-found_fits c port subsystem nsid valid None is = tt
-found_fits c port subsystem nsid valid (Some n) is =
+found_fits : (c : Configuration) (host : List ℕ) (port : ℕ) (subsystem : List ℕ) (nsid : ℕ) → IsValid c → (o : Option Namespace)
+    → namespace_seen c host subsystem nsid ≡ o → IfOk (found_reached o c port subsystem) (FitsDisk c.units)
+found_fits c host port subsystem nsid valid None is = tt
+found_fits c host port subsystem nsid valid (Some n) is =
     then_holds (λ reached. Unit {0}) (FitsDisk c.units) (state_verdict (state_for port subsystem n.group c.states)) _
-    (any_ok (state_verdict (state_for port subsystem n.group c.states))) (λ reached h. found_on_disk c subsystem nsid n valid is)
+    (any_ok (state_verdict (state_for port subsystem n.group c.states))) (λ reached h. found_on_disk c host subsystem nsid n valid is)
 
-reached_fits : (c : Configuration) (port : ℕ) (subsystem entry : List ℕ) → IsValid c → IfOk (reached c port subsystem entry) (FitsDisk c.units)
-reached_fits c port subsystem entry valid =
-    found_fits c port subsystem (nsid_of entry) valid (find (is_named subsystem (nsid_of entry)) c.namespaces) refl
+reached_fits : (c : Configuration) (host : List ℕ) (port : ℕ) (subsystem entry : List ℕ) → IsValid c → IfOk (reached c host port subsystem entry) (FitsDisk c.units)
+reached_fits c host port subsystem entry valid =
+    found_fits c host port subsystem (nsid_of entry) valid (namespace_seen c host subsystem (nsid_of entry)) refl
 
-pub decided_within : (c : Configuration) (port : ℕ) (subsystem entry : List ℕ) (len : ℕ) → IsValid c
-    → IfOk (begin c port subsystem entry len) (IsBegunWithin c.units len)
-decided_within c port subsystem entry len valid = by (opcode_of_code (opcode_of entry)) where
-  by : (code : Option IoOpcode) → IfOk (on_opcode code c port subsystem entry len) (IsBegunWithin c.units len)
+pub decided_within : (c : Configuration) (host : List ℕ) (port : ℕ) (subsystem entry : List ℕ) (len : ℕ) → IsValid c
+    → IfOk (begin c host port subsystem entry len) (IsBegunWithin c.units len)
+decided_within c host port subsystem entry len valid = by (opcode_of_code (opcode_of entry)) where
+  by : (code : Option IoOpcode) → IfOk (on_opcode code c host port subsystem entry len) (IsBegunWithin c.units len)
   by None = tt
   by (Some code) =
-      then_holds (FitsDisk c.units) (IsBegunWithin c.units len) (reached c port subsystem entry) _ (reached_fits c port subsystem entry valid)
+      then_holds (FitsDisk c.units) (IsBegunWithin c.units len) (reached c host port subsystem entry) _ (reached_fits c host port subsystem entry valid)
       (λ n on. begun_within c.units n code entry len on)
 
-pub finished_within : (c : Configuration) (port : ℕ) (subsystem entry : List ℕ) (came : ℕ) → IsValid c
-    → IfOk (finish c port subsystem entry came) (IsWithin c.units came)
-finished_within c port subsystem entry came valid =
-    then_holds (FitsDisk c.units) (IsWithin c.units came) (reached c port subsystem entry) _ (reached_fits c port subsystem entry valid)
+pub finished_within : (c : Configuration) (host : List ℕ) (port : ℕ) (subsystem entry : List ℕ) (came : ℕ) → IsValid c
+    → IfOk (finish c host port subsystem entry came) (IsWithin c.units came)
+finished_within c host port subsystem entry came valid =
+    then_holds (FitsDisk c.units) (IsWithin c.units came) (reached c host port subsystem entry) _ (reached_fits c host port subsystem entry valid)
     (λ n on. again_within c.units n (opcode_of_code (opcode_of entry)) entry came on)

@@ -78,16 +78,17 @@ on_namespace n opcode.Compare entry capsule_len =
 on_namespace n opcode.WriteZeroes entry capsule_len =
     then_do (in_range n (block_command_of entry)) (λ extent. Ok (Perform (operation_on extent (action.WriteZeroes (block_command_of entry).fua))))
 
-abbrev pub on_opcode : Option IoOpcode → Configuration → ℕ → List ℕ → List ℕ → ℕ → Result Begun Status
-on_opcode None config port subsystem entry capsule_len = Err invalid_opcode
-on_opcode (Some code) config port subsystem entry capsule_len =
-    then_do (reached config port subsystem entry) (λ n. on_namespace n code entry capsule_len)
+abbrev pub on_opcode : Option IoOpcode → Configuration → List ℕ → ℕ → List ℕ → List ℕ → ℕ → Result Begun Status
+on_opcode None config host port subsystem entry capsule_len = Err invalid_opcode
+on_opcode (Some code) config host port subsystem entry capsule_len =
+    then_do (reached config host port subsystem entry) (λ n. on_namespace n code entry capsule_len)
 
 -- What the command of this entry, in a capsule with so many bytes of data, begins: an operation on its disk, or that the
--- host is asked for so many bytes; or why it is refused. The controller is of this subsystem, and was made through this
--- port.
-abbrev pub begin : Configuration → ℕ → List ℕ → List ℕ → ℕ → Result Begun Status
-begin config port subsystem entry capsule_len = on_opcode (opcode_of_code (opcode_of entry)) config port subsystem entry capsule_len
+-- host is asked for so many bytes; or why it is refused. The controller is of this subsystem, and this host made it
+-- through this port.
+abbrev pub begin : Configuration → List ℕ → ℕ → List ℕ → List ℕ → ℕ → Result Begun Status
+begin config host port subsystem entry capsule_len =
+    on_opcode (opcode_of_code (opcode_of entry)) config host port subsystem entry capsule_len
 
 -- ---- what holds of it
 

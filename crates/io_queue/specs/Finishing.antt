@@ -32,8 +32,8 @@ on_namespace_again n (Some opcode.Read) entry came = Err invalid_opcode
 on_namespace_again n (Some opcode.WriteZeroes) entry came = Err invalid_opcode
 on_namespace_again n None entry came = Err invalid_opcode
 
--- What the command of this entry does to its disk once so many bytes came for it, or why it is refused: its namespace, its
--- ANA state, its range and its length are looked at again.
-abbrev pub finish : Configuration → ℕ → List ℕ → List ℕ → ℕ → Result Operation Status
-finish config port subsystem entry came =
-    then_do (reached config port subsystem entry) (λ n. on_namespace_again n (opcode_of_code (opcode_of entry)) entry came)
+-- What the command of this entry does to its disk once so many bytes came for it, or why it is refused: its namespace and
+-- whether this host sees it, its ANA state, its range and its length are looked at again.
+abbrev pub finish : Configuration → List ℕ → ℕ → List ℕ → List ℕ → ℕ → Result Operation Status
+finish config host port subsystem entry came =
+    then_do (reached config host port subsystem entry) (λ n. on_namespace_again n (opcode_of_code (opcode_of entry)) entry came)

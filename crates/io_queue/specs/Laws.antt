@@ -3,6 +3,7 @@ use Rattle.std.specs.Prelude.{◌≡◌, ◌≤◌, ◌⊎◌, ℕ, ◌+◌, ◌
 use Rattle.config_lists.specs.GroupState.{state_for}
 use Rattle.config_lists.specs.Namespace.{is_named}
 use Rattle.config_rules.specs.Configuration.{Configuration}
+use Rattle.config_rules.specs.Seen.{seen_by}
 use Rattle.io_queue.specs.declared.operation.Action.{Action}
 use Rattle.io_queue.specs.declared.operation.Action.TheVariants as action
 use Rattle.io_queue.specs.declared.operation.Extent.{Extent}
@@ -15,17 +16,22 @@ use Rattle.io_queue.specs.Operation.{IsOnDisk, brought, disk_of, operation_on}
 
 -- ---- what is decided
 
--- Two configurations show a subsystem the same on a port: which namespaces it has, and the state of each ANA group.
-pub record SeenAlike (port : ℕ) (subsystem : List ℕ) (c d : Configuration) : Type 0 where
-  pub namespaces : (nsid : ℕ) → find (is_named subsystem nsid) c.namespaces ≡ find (is_named subsystem nsid) d.namespaces
+-- Two configurations show a host the same of a subsystem on a port: which namespaces the host sees of it, and the state of
+-- each ANA group.
+pub record SeenAlike (host : List ℕ) (port : ℕ) (subsystem : List ℕ) (c d : Configuration) : Type 0 where
+  pub namespaces : (nsid : ℕ)
+      → find (is_named subsystem nsid) (seen_by c host).namespaces ≡ find (is_named subsystem nsid) (seen_by d host).namespaces
   pub states : (group : ℕ) → state_for port subsystem group c.states ≡ state_for port subsystem group d.states
 
--- .. then each command on a controller of it begins the same, and is finished the same, whatever else they have
+-- .. then each command on a controller of it that the host made begins the same, and is finished the same, whatever else
+-- they have
 pub record DecidedByOwnAlone : Type 0 where
-  pub begins : (c d : Configuration) (port : ℕ) (subsystem entry : List ℕ) (capsule_len : ℕ) → SeenAlike port subsystem c d
-      → begin c port subsystem entry capsule_len ≡ begin d port subsystem entry capsule_len
-  pub finishes : (c d : Configuration) (port : ℕ) (subsystem entry : List ℕ) (came : ℕ) → SeenAlike port subsystem c d
-      → finish c port subsystem entry came ≡ finish d port subsystem entry came
+  pub begins : (c d : Configuration) (host : List ℕ) (port : ℕ) (subsystem entry : List ℕ) (capsule_len : ℕ)
+      → SeenAlike host port subsystem c d
+      → begin c host port subsystem entry capsule_len ≡ begin d host port subsystem entry capsule_len
+  pub finishes : (c d : Configuration) (host : List ℕ) (port : ℕ) (subsystem entry : List ℕ) (came : ℕ)
+      → SeenAlike host port subsystem c d
+      → finish c host port subsystem entry came ≡ finish d host port subsystem entry came
 
 -- ---- what is read
 

@@ -6,6 +6,7 @@ use Rattle.config_lists.specs.declared.namespace.Namespace.{Namespace}
 use Rattle.config_lists.specs.GroupState.{state_for}
 use Rattle.config_lists.specs.Namespace.{bytes_of, is_named}
 use Rattle.config_rules.specs.Configuration.{Configuration}
+use Rattle.config_rules.specs.Seen.{seen_by}
 use Rattle.nvt_fields.specs.declared.status.Status.{Status}
 use Rattle.nvt_fields.specs.Status.{ana_inaccessible, ana_persistent_loss, ana_transition, invalid_namespace_or_format}
 use Rattle.pdu_codec.specs.Sqe.{nsid_of}
@@ -27,14 +28,19 @@ state_verdict Inaccessible = Err ana_inaccessible
 state_verdict PersistentLoss = Err ana_persistent_loss
 state_verdict Change = Err ana_transition
 
+-- the namespace of this subsystem and this identifier, if it is there and this host sees it
+abbrev pub namespace_seen : Configuration → List ℕ → List ℕ → ℕ → Option Namespace
+namespace_seen config host subsystem nsid = let seen = seen_by config host in find (is_named subsystem nsid) seen.namespaces
+
 abbrev pub found_reached : Option Namespace → Configuration → ℕ → List ℕ → Result Namespace Status
 found_reached None config port subsystem = Err invalid_namespace_or_format
 found_reached (Some n) config port subsystem = then_do (state_verdict (state_for port subsystem n.group config.states)) (λ reached. Ok n)
 
--- the namespace that the command of this entry names, on a controller of this subsystem that was made through this port,
--- or why it is not reached: it is not active, or by the state of its ANA group
-abbrev pub reached : Configuration → ℕ → List ℕ → List ℕ → Result Namespace Status
-reached config port subsystem entry = found_reached (find (is_named subsystem (nsid_of entry)) config.namespaces) config port subsystem
+-- the namespace that the command of this entry names, on a controller of this subsystem that this host made through this
+-- port, or why it is not reached: it is not active for the host, or by the state of its ANA group
+abbrev pub reached : Configuration → List ℕ → ℕ → List ℕ → List ℕ → Result Namespace Status
+reached config host port subsystem entry =
+    found_reached (namespace_seen config host subsystem (nsid_of entry)) config port subsystem
 
 -- ---- what holds of it
 

@@ -40,7 +40,7 @@ pub fn begin(
     sqe: &Sqe<'_>,
     capsule_len: u64,
 ) -> Result<Begun, Status>
-    ensures begun { result ≡ begin config.now controller.now.port
+    ensures begun { result ≡ begin config.now controller.now.host.now controller.now.port
         controller.now.subsystem.now sqe.now.entry.now capsule_len }
     ensures within { IfOk result (IsBegunWithin config.now.units capsule_len) }
 {

@@ -15,14 +15,15 @@ use nvt_fields::Status;
 use pdu_codec::{BlockCommand, Sqe};
 
 /// What a Write or a Compare of this controller does, for which so many bytes came, or the status that it
-/// is refused with: its namespace, its ANA state, its range and its length are looked at again.
+/// is refused with: its namespace and whether the host sees it, its ANA state, its range and its length
+/// are looked at again.
 pub fn finish(
     config: &Config,
     controller: &IoController<'_>,
     sqe: &Sqe<'_>,
     came: u64,
 ) -> Result<Operation, Status>
-    ensures finished { result ≡ finish config.now controller.now.port
+    ensures finished { result ≡ finish config.now controller.now.host.now controller.now.port
         controller.now.subsystem.now sqe.now.entry.now came }
     ensures within { IfOk result (IsWithin config.now.units came) }
 {

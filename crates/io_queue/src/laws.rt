@@ -1,9 +1,9 @@
 //! Laws of the I/O commands. Each is a fact of the definitions; a call does nothing.
 ghost use Rattle.io_queue.specs.Laws.{DecidedByOwnAlone, ReadsWhatWasWritten};
 
-/// What a command begins, what it does once its data has come, or why it is refused, depends on the namespaces of its
-/// controller's subsystem, on the states of their groups on its port, and on nothing else of the
-/// configuration.
+/// What a command begins, what it does once its data has come, or why it is refused, depends on the
+/// namespaces of its controller's subsystem that its host sees, on the states of their groups on its
+/// port, and on nothing else of the configuration.
 #[tactic(auto, using(crate::proofs::Deciding::decided_by_own_alone))]
 pub fn decided_by_own_alone()
     ensures { DecidedByOwnAlone }

@@ -3,13 +3,14 @@ use Rattle.std.proofs.Common.{◌≡◌, ℕ, zero, suc, List, [], ◌∷◌, So
 use Rattle.std.specs.Prelude.{slice_get, slice_index_or}
 use Rattle.std.specs.Borrow.{Bor}
 use Rattle.config_lists.specs.declared.group_state.AnaState.{AnaState}
+use Rattle.config_lists.specs.declared.namespace.Visibility.{Visibility}
 use Rattle.config_lists.specs.declared.port.Family.{Family}
 use Rattle.config_lists.specs.declared.subsystem.Access.{Access}
 use Rattle.line_words.specs.Operand.{form_of, value_of, values}
 use Rattle.line_words.specs.declared.operand.Form.{Form}
 use Rattle.line_words.specs.declared.operand.Form.TheVariants as form
 use Rattle.line_words.specs.declared.operand.Operand.{Operand}
-use Rattle.line_words.specs.declared.operand.Operand.TheVariants.{Number, Name, Text, Uuid, Family as FamilyOf, Access as AccessOf, State}
+use Rattle.line_words.specs.declared.operand.Operand.TheVariants.{Number, Name, Text, Uuid, Family as FamilyOf, Access as AccessOf, Visibility as VisibilityOf, State}
 
 pub record IsAt (os : List Operand) (at : ℕ) (f : Form) (o : Operand) : Type 0 where
   pub value_is : slice_get (values os) at ≡ Some (value_of o)
@@ -30,6 +31,7 @@ only_number (Text x) is other = cc
 only_number (Uuid x) is other = cc
 only_number (FamilyOf x) is other = cc
 only_number (AccessOf x) is other = cc
+only_number (VisibilityOf x) is other = cc
 only_number (State x) is other = cc
 
 pub no_other_number : (os : List Operand) (at : ℕ) (d : Operand) → slice_get (map form_of (values os)) at ≡ Some form.Number → ((x : ℕ) → slice_index_or os at d ≡ Number x → ⊥) → ⊥
@@ -42,6 +44,7 @@ only_name (Text x) is other = cc
 only_name (Uuid x) is other = cc
 only_name (FamilyOf x) is other = cc
 only_name (AccessOf x) is other = cc
+only_name (VisibilityOf x) is other = cc
 only_name (State x) is other = cc
 
 pub no_other_name : (os : List Operand) (at : ℕ) (d : Operand) → slice_get (map form_of (values os)) at ≡ Some form.Name → ((x : Bor (List ℕ)) → slice_index_or os at d ≡ Name x → ⊥) → ⊥
@@ -54,6 +57,7 @@ only_text (Text x) is other = other x refl
 only_text (Uuid x) is other = cc
 only_text (FamilyOf x) is other = cc
 only_text (AccessOf x) is other = cc
+only_text (VisibilityOf x) is other = cc
 only_text (State x) is other = cc
 
 pub no_other_text : (os : List Operand) (at : ℕ) (d : Operand) → slice_get (map form_of (values os)) at ≡ Some form.Text → ((x : Bor (List ℕ)) → slice_index_or os at d ≡ Text x → ⊥) → ⊥
@@ -66,6 +70,7 @@ only_uuid (Text x) is other = cc
 only_uuid (Uuid x) is other = other x refl
 only_uuid (FamilyOf x) is other = cc
 only_uuid (AccessOf x) is other = cc
+only_uuid (VisibilityOf x) is other = cc
 only_uuid (State x) is other = cc
 
 pub no_other_uuid : (os : List Operand) (at : ℕ) (d : Operand) → slice_get (map form_of (values os)) at ≡ Some form.Uuid → ((x : List ℕ) → slice_index_or os at d ≡ Uuid x → ⊥) → ⊥
@@ -78,6 +83,7 @@ only_family (Text x) is other = cc
 only_family (Uuid x) is other = cc
 only_family (FamilyOf x) is other = other x refl
 only_family (AccessOf x) is other = cc
+only_family (VisibilityOf x) is other = cc
 only_family (State x) is other = cc
 
 pub no_other_family : (os : List Operand) (at : ℕ) (d : Operand) → slice_get (map form_of (values os)) at ≡ Some form.Family → ((x : Family) → slice_index_or os at d ≡ FamilyOf x → ⊥) → ⊥
@@ -90,10 +96,24 @@ only_access (Text x) is other = cc
 only_access (Uuid x) is other = cc
 only_access (FamilyOf x) is other = cc
 only_access (AccessOf x) is other = other x refl
+only_access (VisibilityOf x) is other = cc
 only_access (State x) is other = cc
 
 pub no_other_access : (os : List Operand) (at : ℕ) (d : Operand) → slice_get (map form_of (values os)) at ≡ Some form.Access → ((x : Access) → slice_index_or os at d ≡ AccessOf x → ⊥) → ⊥
 no_other_access os at d has other = only_access (slice_index_or os at d) (operand_at os at d (slice_index_or os at d) form.Access has refl).form_is other
+
+only_visibility : (o : Operand) → form_of (value_of o) ≡ form.Visibility → ((x : Visibility) → o ≡ VisibilityOf x → ⊥) → ⊥
+only_visibility (Number x) is other = cc
+only_visibility (Name x) is other = cc
+only_visibility (Text x) is other = cc
+only_visibility (Uuid x) is other = cc
+only_visibility (FamilyOf x) is other = cc
+only_visibility (AccessOf x) is other = cc
+only_visibility (VisibilityOf x) is other = other x refl
+only_visibility (State x) is other = cc
+
+pub no_other_visibility : (os : List Operand) (at : ℕ) (d : Operand) → slice_get (map form_of (values os)) at ≡ Some form.Visibility → ((x : Visibility) → slice_index_or os at d ≡ VisibilityOf x → ⊥) → ⊥
+no_other_visibility os at d has other = only_visibility (slice_index_or os at d) (operand_at os at d (slice_index_or os at d) form.Visibility has refl).form_is other
 
 only_state : (o : Operand) → form_of (value_of o) ≡ form.State → ((x : AnaState) → o ≡ State x → ⊥) → ⊥
 only_state (Number x) is other = cc
@@ -102,6 +122,7 @@ only_state (Text x) is other = cc
 only_state (Uuid x) is other = cc
 only_state (FamilyOf x) is other = cc
 only_state (AccessOf x) is other = cc
+only_state (VisibilityOf x) is other = cc
 only_state (State x) is other = other x refl
 
 pub no_other_state : (os : List Operand) (at : ℕ) (d : Operand) → slice_get (map form_of (values os)) at ≡ Some form.State → ((x : AnaState) → slice_index_or os at d ≡ State x → ⊥) → ⊥

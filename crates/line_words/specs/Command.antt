@@ -3,9 +3,9 @@ use Rattle.std.specs.Prelude.{ℕ, Bool, ◌&&◌, List, [], ◌∷◌, codes, O
 use Rattle.std.specs.List.{list_any}
 use Rattle.std.specs.Str.{bytes_eq}
 use Rattle.line_words.specs.declared.command.Command.{Command}
-use Rattle.line_words.specs.declared.command.Command.TheVariants.{SubsystemAdd, SubsystemSet, SubsystemDel, NamespaceAdd, NamespaceSize, NamespaceGroup, NamespaceDel, PortAdd, PortSet, PortDel, LinkAdd, LinkDel, HostAdd, HostDel, AllowAdd, AllowDel, AnaSet, ReferralAdd, ReferralSet, ReferralDel}
+use Rattle.line_words.specs.declared.command.Command.TheVariants.{SubsystemAdd, SubsystemSet, SubsystemDel, NamespaceAdd, NamespaceSize, NamespaceGroup, NamespaceDel, NamespaceView, NamespaceShow, NamespaceHide, PortAdd, PortSet, PortDel, LinkAdd, LinkDel, HostAdd, HostDel, AllowAdd, AllowDel, AnaSet, ReferralAdd, ReferralSet, ReferralDel}
 use Rattle.line_words.specs.declared.operand.Form.{Form}
-use Rattle.line_words.specs.declared.operand.Form.TheVariants.{Number, Name, Text, Uuid, Family, Access, State}
+use Rattle.line_words.specs.declared.operand.Form.TheVariants.{Number, Name, Text, Uuid, Family, Access, Visibility, State}
 
 -- the two words that a command begins with, and the forms of the words after them
 pub record Grammar : Type 0 where
@@ -24,6 +24,9 @@ grammar_of NamespaceAdd = record { noun = codes "ns"; verb = codes "add"; forms 
 grammar_of NamespaceSize = record { noun = codes "ns"; verb = codes "size"; forms = Name ∷ Number ∷ Number ∷ [] }
 grammar_of NamespaceGroup = record { noun = codes "ns"; verb = codes "group"; forms = Name ∷ Number ∷ Number ∷ [] }
 grammar_of NamespaceDel = record { noun = codes "ns"; verb = codes "del"; forms = Name ∷ Number ∷ [] }
+grammar_of NamespaceView = record { noun = codes "ns"; verb = codes "view"; forms = Name ∷ Number ∷ Visibility ∷ [] }
+grammar_of NamespaceShow = record { noun = codes "ns"; verb = codes "show"; forms = Name ∷ Number ∷ Name ∷ [] }
+grammar_of NamespaceHide = record { noun = codes "ns"; verb = codes "hide"; forms = Name ∷ Number ∷ Name ∷ [] }
 grammar_of PortAdd = record { noun = codes "port"; verb = codes "add"; forms = endpoint }
 grammar_of PortSet = record { noun = codes "port"; verb = codes "set"; forms = endpoint }
 grammar_of PortDel = record { noun = codes "port"; verb = codes "del"; forms = Number ∷ [] }
@@ -42,6 +45,7 @@ abbrev pub commands : List Command
 commands =
     SubsystemAdd ∷ SubsystemSet ∷ SubsystemDel
     ∷ NamespaceAdd ∷ NamespaceSize ∷ NamespaceGroup ∷ NamespaceDel
+    ∷ NamespaceView ∷ NamespaceShow ∷ NamespaceHide
     ∷ PortAdd ∷ PortSet ∷ PortDel ∷ LinkAdd ∷ LinkDel ∷ HostAdd ∷ HostDel ∷ AllowAdd ∷ AllowDel
     ∷ AnaSet ∷ ReferralAdd ∷ ReferralSet ∷ ReferralDel ∷ []
 

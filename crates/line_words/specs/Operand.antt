@@ -2,16 +2,17 @@
 use Rattle.std.specs.Prelude.{◌≡◌, ℕ, ◌^◌, ◌<◌, Bool, IsTrue, List, length, All, map}
 use Rattle.std.specs.Fmt.{decimal}
 use Rattle.config_lists.specs.declared.group_state.AnaState.{AnaState}
+use Rattle.config_lists.specs.declared.namespace.Visibility.{Visibility}
 use Rattle.config_lists.specs.declared.port.Family.{Family}
 use Rattle.config_lists.specs.declared.subsystem.Access.{Access}
 use Rattle.line_words.specs.Number.{is_number}
-use Rattle.line_words.specs.Word.{access_word, family_word, is_access, is_family, is_name_word, is_state, is_text_word, is_uuid_word, state_word, uuid_word}
+use Rattle.line_words.specs.Word.{access_word, family_word, is_access, is_family, is_name_word, is_state, is_text_word, is_uuid_word, is_visibility, state_word, uuid_word, visibility_word}
 use Rattle.line_words.specs.declared.fault.LineFaultKind.{LineFaultKind}
 use Rattle.line_words.specs.declared.fault.LineFaultKind.TheVariants.{BadNumber, BadNqn, BadUuid, BadWord}
 use Rattle.line_words.specs.declared.operand.Form.{Form}
 use Rattle.line_words.specs.declared.operand.Form.TheVariants as form
 use Rattle.line_words.specs.declared.operand.Operand.{Operand}
-use Rattle.line_words.specs.declared.operand.Operand.TheVariants.{Number, Name, Text, Uuid, Family as FamilyOf, Access as AccessOf, State}
+use Rattle.line_words.specs.declared.operand.Operand.TheVariants.{Number, Name, Text, Uuid, Family as FamilyOf, Access as AccessOf, Visibility as VisibilityOf, State}
 
 -- a value, apart from where its bytes lie
 pub data Value : Type 0 where
@@ -21,6 +22,7 @@ pub data Value : Type 0 where
   uuid : List ℕ → Value
   family : Family → Value
   access : Access → Value
+  visibility : Visibility → Value
   state : AnaState → Value
 
 -- its one word
@@ -31,6 +33,7 @@ word_of (text bytes) = bytes
 word_of (uuid bytes) = uuid_word bytes
 word_of (family f) = family_word f
 word_of (access a) = access_word a
+word_of (visibility v) = visibility_word v
 word_of (state s) = state_word s
 
 -- what its word has to be
@@ -41,6 +44,7 @@ form_of (text bytes) = form.Text
 form_of (uuid bytes) = form.Uuid
 form_of (family f) = form.Family
 form_of (access a) = form.Access
+form_of (visibility v) = form.Visibility
 form_of (state s) = form.State
 
 -- whether it has a word: numbers are below 2^64, names are names, texts are words, a UUID has 16 bytes
@@ -51,6 +55,7 @@ IsSaid (text bytes) = IsTrue (is_text_word bytes)
 IsSaid (uuid bytes) = (length bytes ≡ 16) × All (λ b. b < 256) bytes
 IsSaid (family f) = Unit {0}
 IsSaid (access a) = Unit {0}
+IsSaid (visibility v) = Unit {0}
 IsSaid (state s) = Unit {0}
 
 abbrev pub allows : Form → List ℕ → Bool
@@ -60,6 +65,7 @@ allows form.Text word = is_text_word word
 allows form.Uuid word = is_uuid_word word
 allows form.Family word = is_family word
 allows form.Access word = is_access word
+allows form.Visibility word = is_visibility word
 allows form.State word = is_state word
 
 -- the fault of a word that is not of the form
@@ -70,6 +76,7 @@ kind_of form.Text = BadWord
 kind_of form.Uuid = BadUuid
 kind_of form.Family = BadWord
 kind_of form.Access = BadWord
+kind_of form.Visibility = BadWord
 kind_of form.State = BadWord
 
 -- what an operand of the code says
@@ -80,6 +87,7 @@ value_of (Text bytes) = text bytes.now
 value_of (Uuid bytes) = uuid bytes
 value_of (FamilyOf f) = family f
 value_of (AccessOf a) = access a
+value_of (VisibilityOf v) = visibility v
 value_of (State s) = state s
 
 abbrev pub values : List Operand → List Value

@@ -6,6 +6,8 @@ use Rattle.std.specs.Option.{option_map_or}
 use Rattle.std.specs.Str.{bytes_eq}
 use Rattle.config_lists.specs.declared.group_state.AnaState.{AnaState}
 use Rattle.config_lists.specs.declared.group_state.AnaState.TheVariants.{Optimized, NonOptimized, Inaccessible, PersistentLoss, Change}
+use Rattle.config_lists.specs.declared.namespace.Visibility.{Visibility}
+use Rattle.config_lists.specs.declared.namespace.Visibility.TheVariants.{All, Named}
 use Rattle.config_lists.specs.declared.port.Family.{Family}
 use Rattle.config_lists.specs.declared.port.Family.TheVariants.{Ipv4, Ipv6}
 use Rattle.config_lists.specs.declared.subsystem.Access.{Access}
@@ -21,6 +23,10 @@ abbrev pub access_word : Access → List ℕ
 access_word Open = codes "open"
 access_word Closed = codes "closed"
 
+abbrev pub visibility_word : Visibility → List ℕ
+visibility_word All = codes "all"
+visibility_word Named = codes "named"
+
 abbrev pub state_word : AnaState → List ℕ
 state_word Optimized = codes "optimized"
 state_word NonOptimized = codes "non-optimized"
@@ -33,6 +39,9 @@ is_family word = bytes_eq word (codes "ipv4") || bytes_eq word (codes "ipv6")
 
 abbrev pub is_access : List ℕ → Bool
 is_access word = bytes_eq word (codes "open") || bytes_eq word (codes "closed")
+
+abbrev pub is_visibility : List ℕ → Bool
+is_visibility word = bytes_eq word (codes "all") || bytes_eq word (codes "named")
 
 abbrev pub is_state : List ℕ → Bool
 is_state word =

@@ -16,6 +16,9 @@ pub enum Command {
     NamespaceSize,
     NamespaceGroup,
     NamespaceDel,
+    NamespaceView,
+    NamespaceShow,
+    NamespaceHide,
     PortAdd,
     PortSet,
     PortDel,
@@ -40,6 +43,9 @@ pub const COMMANDS: &[Command] = &[
     Command::NamespaceSize,
     Command::NamespaceGroup,
     Command::NamespaceDel,
+    Command::NamespaceView,
+    Command::NamespaceShow,
+    Command::NamespaceHide,
     Command::PortAdd,
     Command::PortSet,
     Command::PortDel,
@@ -72,7 +78,10 @@ impl Command {
             Command::NamespaceAdd
             | Command::NamespaceSize
             | Command::NamespaceGroup
-            | Command::NamespaceDel => b"ns",
+            | Command::NamespaceDel
+            | Command::NamespaceView
+            | Command::NamespaceShow
+            | Command::NamespaceHide => b"ns",
             Command::PortAdd | Command::PortSet | Command::PortDel => b"port",
             Command::LinkAdd | Command::LinkDel => b"link",
             Command::HostAdd | Command::HostDel => b"host",
@@ -105,6 +114,9 @@ impl Command {
             | Command::ReferralDel => b"del",
             Command::NamespaceSize => b"size",
             Command::NamespaceGroup => b"group",
+            Command::NamespaceView => b"view",
+            Command::NamespaceShow => b"show",
+            Command::NamespaceHide => b"hide",
         }
     }
 
@@ -121,6 +133,10 @@ impl Command {
                 &[Form::Name, Form::Number, Form::Number]
             }
             Command::NamespaceDel => &[Form::Name, Form::Number],
+            Command::NamespaceView => &[Form::Name, Form::Number, Form::Visibility],
+            Command::NamespaceShow | Command::NamespaceHide => {
+                &[Form::Name, Form::Number, Form::Name]
+            }
             Command::PortAdd | Command::PortSet | Command::ReferralAdd | Command::ReferralSet => &[
                 Form::Number,
                 Form::Family,

@@ -1,18 +1,18 @@
 //! The values that a line says after its first two words, each by one word.
 ghost use Rattle.std.specs.Prelude.{◌≡◌, IfSome, Some, is_some, map, slice_get};
 ghost use Rattle.line_words.specs.Operand.{Reads, allows, form_of, kind_of, value_of, values};
-ghost use Rattle.line_words.specs.Operand.{number, name, text, uuid, family, access, state};
-ghost use Rattle.line_words.specs.Operand.{word_of};
+ghost use Rattle.line_words.specs.Operand.{number, name, text, uuid, family, access, visibility};
+ghost use Rattle.line_words.specs.Operand.{state, word_of};
 ghost use Rattle.line_words.specs.declared.operand.Form.TheVariants as form;
 
 use crate::fault::LineFaultKind;
 use crate::number::read_number;
 use crate::word::{
     access_word, family_word, is_name_word, is_text_word, read_access, read_family, read_state,
-    read_uuid, state_word,
+    read_uuid, read_visibility, state_word, visibility_word,
 };
 use arrayvec::ArrayVec;
-use config_lists::{Access, AnaState, Family};
+use config_lists::{Access, AnaState, Family, Visibility};
 use itoa::Buffer;
 use uuid::Uuid;
 
@@ -28,6 +28,7 @@ pub enum Form {
     Uuid,
     Family,
     Access,
+    Visibility,
     State,
 }
 
@@ -40,7 +41,9 @@ impl Form {
             Form::Number => LineFaultKind::BadNumber,
             Form::Name => LineFaultKind::BadNqn,
             Form::Uuid => LineFaultKind::BadUuid,
-            Form::Text | Form::Family | Form::Access | Form::State => LineFaultKind::BadWord,
+            Form::Text | Form::Family | Form::Access | Form::Visibility | Form::State => {
+                LineFaultKind::BadWord
+            }
         }
     }
 
@@ -57,6 +60,7 @@ impl Form {
             Form::Uuid => Some(Operand::Uuid(read_uuid(word)?)),
             Form::Family => Some(Operand::Family(read_family(word)?)),
             Form::Access => Some(Operand::Access(read_access(word)?)),
+            Form::Visibility => Some(Operand::Visibility(read_visibility(word)?)),
             Form::State => Some(Operand::State(read_state(word)?)),
         }
     }
@@ -71,6 +75,7 @@ pub enum Operand<'a> {
     Uuid(Uuid),
     Family(Family),
     Access(Access),
+    Visibility(Visibility),
     State(AnaState),
 }
 
@@ -111,6 +116,7 @@ impl<'a> Operand<'a> {
             Operand::Uuid(uuid) => uuid.hyphenated().encode_lower(&mut scratch.uuid).as_bytes(),
             Operand::Family(family) => family_word(*family),
             Operand::Access(access) => access_word(*access),
+            Operand::Visibility(visibility) => visibility_word(*visibility),
             Operand::State(state) => state_word(*state),
         }
     }
@@ -175,6 +181,17 @@ pub fn access_at(operands: &[Operand<'_>], at: usize) -> Access
 {
     match operands[at] {
         Operand::Access(access) => access,
+        _ => unreachable!(),
+    }
+}
+
+/// Which hosts see a namespace, as the word at a place says.
+pub fn visibility_at(operands: &[Operand<'_>], at: usize) -> Visibility
+    requires { slice_get (map form_of (values operands.now)) at ≡ Some form.Visibility }
+    ensures { slice_get (values operands.now) at ≡ Some (visibility result) }
+{
+    match operands[at] {
+        Operand::Visibility(visibility) => visibility,
         _ => unreachable!(),
     }
 }

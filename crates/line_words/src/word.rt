@@ -4,9 +4,9 @@ ghost use Rattle.std.specs.Char.{is_ascii_graphic};
 ghost use Rattle.std.specs.List.{list_all, starts_with};
 ghost use Rattle.line_words.specs.Word.{access_word, family_word, is_access, is_family};
 ghost use Rattle.line_words.specs.Word.{is_name_word, is_state, is_text_word, is_uuid_word};
-ghost use Rattle.line_words.specs.Word.{state_word, uuid_word};
+ghost use Rattle.line_words.specs.Word.{is_visibility, state_word, uuid_word, visibility_word};
 
-use config_lists::{Access, AnaState, Family};
+use config_lists::{Access, AnaState, Family, Visibility};
 use nvt_fields::name::{NQN_MAX, NQN_MIN};
 use uuid::Uuid;
 
@@ -25,6 +25,15 @@ pub(crate) fn access_word(access: Access) -> &'static [u8]
     match access {
         Access::Open => b"open",
         Access::Closed => b"closed",
+    }
+}
+
+pub(crate) fn visibility_word(visibility: Visibility) -> &'static [u8]
+    ensures { result.now ≡ visibility_word visibility }
+{
+    match visibility {
+        Visibility::All => b"all",
+        Visibility::Named => b"named",
     }
 }
 
@@ -62,6 +71,19 @@ pub(crate) fn read_access(word: &[u8]) -> Option<Access>
     }
     if word == b"closed".as_slice() {
         return Some(Access::Closed);
+    }
+    None
+}
+
+pub(crate) fn read_visibility(word: &[u8]) -> Option<Visibility>
+    ensures variant { is_some result ≡ is_visibility word.now }
+    ensures some { IfSome result (λ visibility. word.now ≡ visibility_word visibility) }
+{
+    if word == b"all".as_slice() {
+        return Some(Visibility::All);
+    }
+    if word == b"named".as_slice() {
+        return Some(Visibility::Named);
     }
     None
 }

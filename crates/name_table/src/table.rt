@@ -1,5 +1,5 @@
 //! A table of values by name.
-ghost use Rattle.std.specs.Prelude.{◌≡◌, ◌≤◌, [], OnErr, OnOk};
+ghost use Rattle.std.specs.Prelude.{◌≡◌, ◌≤◌, ◌<◌, ◌^◌, ◌↔◌, [], IfOk, IsTrue, OnErr, OnOk, length};
 ghost use Rattle.std.specs.Option.{option_copied};
 ghost use Rattle.name_table.specs.Table.{IsPut, IsRemoved, value_of};
 
@@ -35,6 +35,30 @@ impl<T: Drop> NameTable<T> {
         NameTable {
             values: IndexMap::new(alloc),
         }
+    }
+
+    /// A table without a name, with room for that many.
+    pub fn with_room(alloc: Global, names: usize) -> Result<NameTable<T>, AllocError>
+        ensures empty { IfOk result (λ table. table.values ≡ []) }
+        ensures room { IfOk result (λ table. names ≤ table.room) }
+    {
+        let values = IndexMap::with_capacity(alloc, names)?;
+        Ok(NameTable { values })
+    }
+
+    /// How many names have a value.
+    pub fn len(&self) -> usize
+        ensures len { result ≡ length self.now.values }
+        ensures small { result < 2 ^ 63 }
+    {
+        self.values.len()
+    }
+
+    /// Whether no name has a value.
+    pub fn is_empty(&self) -> bool
+        ensures { IsTrue result ↔ (self.now.values ≡ []) }
+    {
+        self.values.is_empty()
     }
 
     /// The value of the name, if it has one.
@@ -77,5 +101,29 @@ impl<T: Drop> NameTable<T> {
         ensures room { self.old.room ≤ self.new.room }
     {
         drop(self.values.swap_remove(name));
+    }
+
+    /// Takes the name away, and hands out the value that it had.
+    pub fn take(&mut self, name: &[u8]) -> Option<T>
+        ensures value { result ≡ value_of self.old.values name.now }
+        ensures removed { IsRemoved self.old.values self.new.values name.now }
+        ensures room { self.old.room ≤ self.new.room }
+    {
+        self.values.swap_remove(name)
+    }
+
+    /// Moves every value to `room`, which is empty and holds one name more than this table; so this takes no
+    /// memory.
+    pub fn move_to(self, room: NameTable<T>) -> NameTable<T>
+        requires empty { room.values ≡ [] }
+        requires wide { length self.values < room.room }
+        ensures values { result.values ≡ self.values }
+        ensures room { 1 ≤ result.room }
+    {
+        let NameTable { mut values } = room;
+        for (name, value) in self.values {
+            drop(values.insert(name, value).unwrap());
+        }
+        NameTable { values }
     }
 }

@@ -8,6 +8,7 @@ use Rattle.event_queue.specs.Occurrence.{accepted, was_reset as events_reset}
 use Rattle.event_queue.specs.Told.{IsAnswered, answer_to, events_of}
 use Rattle.event_queue.proofs.Edits.{edits_are_told}
 use Rattle.event_queue.proofs.Steps.{answered_next, called_next, told_as_it_happened}
+use Rattle.config_rules.specs.Seen.{seen_by}
 use Rattle.ana_view.specs.Counts.{Counts}
 use Rattle.ana_view.proofs.Counting.{changes_are_counted}
 use Rattle.change_lists.specs.Changes.{changed_nsids, emptied}
@@ -58,10 +59,10 @@ counts_next (discovery host) (edited old new) before = refl
 counts_next (discovery host) (update u) before = refl
 counts_next (discovery host) was_reset before = refl
 counts_next (discovery host) was_enabled before = refl
-counts_next (io subsystem port) (edited old new) before = changes_are_counted.after_edit (counts_happened before) old new subsystem port
-counts_next (io subsystem port) (update u) before = refl
-counts_next (io subsystem port) was_reset before = refl
-counts_next (io subsystem port) was_enabled before = changes_are_counted.once_enabled (counts_happened before) subsystem port
+counts_next (io host subsystem port) (edited old new) before = changes_are_counted.after_edit (counts_happened host before) (seen_by old host) (seen_by new host) subsystem port
+counts_next (io host subsystem port) (update u) before = refl
+counts_next (io host subsystem port) was_reset before = refl
+counts_next (io host subsystem port) was_enabled before = changes_are_counted.once_enabled (counts_happened host before) subsystem port
 
 -- ---- the namespaces that changed
 
@@ -75,13 +76,13 @@ set_next (discovery host) (edited old new) before = refl
 set_next (discovery host) (update u) before = emptied_none (empties_set u)
 set_next (discovery host) was_reset before = refl
 set_next (discovery host) was_enabled before = refl
-set_next (io subsystem port) (edited old new) before = changes_are_noted.after_changes (set_happened before) old new subsystem
-set_next (io subsystem port) (update u) before = by_test (empties_set u) where
-  by_test : (b : Bool) → changed_nsids (if b then emptied ∷ set_happened before else set_happened before) subsystem ≡ (if b then [] else changed_nsids (set_happened before) subsystem)
-  by_test true = changes_are_noted.once_emptied (set_happened before) subsystem
+set_next (io host subsystem port) (edited old new) before = changes_are_noted.after_changes (set_happened host before) (seen_by old host) (seen_by new host) subsystem
+set_next (io host subsystem port) (update u) before = by_test (empties_set u) where
+  by_test : (b : Bool) → changed_nsids (if b then emptied ∷ set_happened host before else set_happened host before) subsystem ≡ (if b then [] else changed_nsids (set_happened host before) subsystem)
+  by_test true = changes_are_noted.once_emptied (set_happened host before) subsystem
   by_test false = refl
-set_next (io subsystem port) was_reset before = refl
-set_next (io subsystem port) was_enabled before = changes_are_noted.once_emptied (set_happened before) subsystem
+set_next (io host subsystem port) was_reset before = refl
+set_next (io host subsystem port) was_enabled before = changes_are_noted.once_emptied (set_happened host before) subsystem
 
 -- ---- all of it
 
@@ -97,8 +98,8 @@ all_next views x before =
 
 all_after : (views : Views) (happened : List Occurrence) → notices_of views happened ≡ notices_after views happened
 all_after (discovery host) [] = refl
-all_after (io subsystem port) [] =
-    same_state (notices_of (io subsystem port) []) (notices_after (io subsystem port) []) refl (changes_are_counted.first subsystem port) (changes_are_noted.first subsystem)
+all_after (io host subsystem port) [] =
+    same_state (notices_of (io host subsystem port) []) (notices_after (io host subsystem port) []) refl (changes_are_counted.first subsystem port) (changes_are_noted.first subsystem)
 all_after views (x ∷ before) = all_next views x before ∙ ap (called views x) (all_after views before)
 
 pub notices_look_back : NoticesLookBack

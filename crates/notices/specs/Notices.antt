@@ -3,6 +3,7 @@ use Rattle.std.specs.Prelude.{ℕ, List, []}
 use Rattle.event_queue.specs.declared.completion.Completion.{Completion}
 use Rattle.event_queue.specs.Events.{EventState, after_edit, edit_answers, events_at_connect}
 use Rattle.config_rules.specs.Configuration.{Configuration}
+use Rattle.config_rules.specs.Seen.{seen_by}
 use Rattle.ana_view.specs.Counts.{Counts, counts_after, no_changes}
 use Rattle.change_lists.specs.Changes.{with_changes}
 use Rattle.notices.specs.Viewer.{Views, changes_seen, discovery, io}
@@ -19,14 +20,14 @@ notices_at_connect = record { events = events_at_connect; counts = no_changes; c
 
 -- ---- an edit, from one configuration to another
 
--- counts and set after it: a discovery controller keeps its own
+-- counts and set after it, as the host sees both configurations: a discovery controller keeps its own
 abbrev pub counts_noted : Configuration → Configuration → Views → Counts → Counts
 counts_noted old new (discovery host) counts = counts
-counts_noted old new (io subsystem port) counts = counts_after old new subsystem port counts
+counts_noted old new (io host subsystem port) counts = counts_after (seen_by old host) (seen_by new host) subsystem port counts
 
 abbrev pub set_noted : Configuration → Configuration → Views → List ℕ → List ℕ
 set_noted old new (discovery host) set = set
-set_noted old new (io subsystem port) set = with_changes old new subsystem set
+set_noted old new (io host subsystem port) set = with_changes (seen_by old host) (seen_by new host) subsystem set
 
 abbrev pub noted : Configuration → Configuration → Views → NoticeState → NoticeState
 noted old new views s = record {

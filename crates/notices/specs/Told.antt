@@ -8,6 +8,7 @@ use Rattle.event_queue.specs.Laws.{happens}
 use Rattle.event_queue.specs.Occurrence.{Occurrence as EventOccurrence, accepted, read_page, set_mask, was_reset as events_reset}
 use Rattle.event_queue.specs.Told.{Happened, answer_to, edit_after, edit_sends, events_of, is_accepted}
 use Rattle.config_rules.specs.Configuration.{Configuration}
+use Rattle.config_rules.specs.Seen.{seen_by}
 use Rattle.ana_view.specs.Changes.{Occurrence as CountOccurrence, counts_of, edited as counts_edited, enabled as counts_enabled}
 use Rattle.ana_view.specs.Counts.{Counts, no_changes}
 use Rattle.change_lists.specs.Changes.{Occurrence as SetOccurrence, changed_nsids, edited as set_edited, emptied}
@@ -51,31 +52,33 @@ request_owed views before cid =
 
 -- ---- the change counts
 
-abbrev pub counts_happened : List Occurrence → List CountOccurrence
-counts_happened [] = []
-counts_happened (edited old new ∷ before) = counts_edited old new ∷ counts_happened before
-counts_happened (update u ∷ before) = counts_happened before
-counts_happened (was_reset ∷ before) = counts_happened before
-counts_happened (was_enabled ∷ before) = counts_enabled ∷ counts_happened before
+-- what happened to them: each edit, as the host saw both configurations
+abbrev pub counts_happened : List ℕ → List Occurrence → List CountOccurrence
+counts_happened host [] = []
+counts_happened host (edited old new ∷ before) = counts_edited (seen_by old host) (seen_by new host) ∷ counts_happened host before
+counts_happened host (update u ∷ before) = counts_happened host before
+counts_happened host (was_reset ∷ before) = counts_happened host before
+counts_happened host (was_enabled ∷ before) = counts_enabled ∷ counts_happened host before
 
 -- a discovery controller has no ANA groups, and its counts are 0
 abbrev pub counts_seen : Views → List Occurrence → Counts
 counts_seen (discovery host) happened = no_changes
-counts_seen (io subsystem port) happened = counts_of (counts_happened happened) subsystem port
+counts_seen (io host subsystem port) happened = counts_of (counts_happened host happened) subsystem port
 
 -- ---- the namespaces that changed
 
-abbrev pub set_happened : List Occurrence → List SetOccurrence
-set_happened [] = []
-set_happened (edited old new ∷ before) = set_edited old new ∷ set_happened before
-set_happened (update u ∷ before) = if empties_set u then emptied ∷ set_happened before else set_happened before
-set_happened (was_reset ∷ before) = set_happened before
-set_happened (was_enabled ∷ before) = emptied ∷ set_happened before
+-- what happened to them: each edit, as the host saw both configurations
+abbrev pub set_happened : List ℕ → List Occurrence → List SetOccurrence
+set_happened host [] = []
+set_happened host (edited old new ∷ before) = set_edited (seen_by old host) (seen_by new host) ∷ set_happened host before
+set_happened host (update u ∷ before) = if empties_set u then emptied ∷ set_happened host before else set_happened host before
+set_happened host (was_reset ∷ before) = set_happened host before
+set_happened host (was_enabled ∷ before) = emptied ∷ set_happened host before
 
 -- a discovery controller has no namespaces
 abbrev pub changed_seen : Views → List Occurrence → List ℕ
 changed_seen (discovery host) happened = []
-changed_seen (io subsystem port) happened = changed_nsids (set_happened happened) subsystem
+changed_seen (io host subsystem port) happened = changed_nsids (set_happened host happened) subsystem
 
 -- ---- all of it
 

@@ -68,8 +68,8 @@ impl Notices {
     }
 
     /// Tells an edit that does not end the controller, before its plan is committed. Of an I/O
-    /// controller the namespaces that it changes join the set, and what it changes of the ANA groups
-    /// is counted; of a discovery controller both stay. Answers the event requests to complete, in
+    /// controller the namespaces that it changes for its host join the set, and what it changes of the
+    /// ANA groups is counted; of a discovery controller both stay. Answers the event requests to complete, in
     /// order.
     pub fn tell(&mut self, plan: &PlannedEdit<'_>, viewer: &Viewer<'_>) -> Completing
         ensures result { (old new : Configuration) → Plans old new plan.now
@@ -97,9 +97,13 @@ impl Notices {
                 ana: false,
                 discovery: plan.changes_discovery(host),
             },
-            Viewer::Io { subsystem, port } => ViewChanges {
-                namespace: self.changed.note_planned(plan.active(), subsystem),
-                ana: self.counts.note(plan.ana(), subsystem, port),
+            Viewer::Io {
+                host,
+                subsystem,
+                port,
+            } => ViewChanges {
+                namespace: self.changed.note_planned(plan.active(), host, subsystem),
+                ana: self.counts.note(plan.ana(), host, subsystem, port),
                 discovery: false,
             },
         }

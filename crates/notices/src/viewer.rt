@@ -8,9 +8,11 @@ pub enum Viewer<'a> {
         /// The name of the host.
         host: &'a [u8],
     },
-    /// An I/O controller shows the namespaces of its subsystem, and the subsystem's ANA groups on its
-    /// port.
+    /// An I/O controller shows the namespaces of its subsystem that its host sees, and the subsystem's
+    /// ANA groups of these on its port.
     Io {
+        /// The name of the host.
+        host: &'a [u8],
         /// The name of the subsystem.
         subsystem: &'a [u8],
         port: u16,

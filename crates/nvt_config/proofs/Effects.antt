@@ -2,15 +2,17 @@
 use Rattle.std.proofs.Common.{◌≡◌, ◌<◌, ◌≤◌, ◌==◌, ◌&&◌, ℕ, true, false, not, List, Ok, Any, IsTrue, IsOk, IfOk, nat_le, length, refl, sym, ◌∙◌, subst, ap, arith}
 use Rattle.std.proofs.lemmas.Bool.{and_parts, cond-true, cond-false, eqb-true, leb-true, leb-false, not-false}
 use Rattle.std.proofs.lemmas.List.Folds.{Any-from_list_any}
+use Rattle.std.specs.Str.{bytes_eq}
 use Rattle.config_lists.specs.declared.group_state.AnaState.{AnaState}
 use Rattle.config_lists.specs.declared.port.Port.{Port}
 use Rattle.config_lists.specs.GroupState.{is_optimized}
-use Rattle.config_lists.specs.Namespace.{is_group, is_nsid, nsid_max}
+use Rattle.config_lists.specs.declared.namespace.Namespace.{Namespace}
+use Rattle.config_lists.specs.Namespace.{is_group, is_named, is_nsid, nsid_max}
 use Rattle.config_lists.specs.Port.{is_port, is_port_number, is_address}
 use Rattle.config_edits.specs.declared.edit.Edit.{Edit}
-use Rattle.config_edits.specs.declared.edit.Edit.TheVariants.{NamespaceAdd, NamespaceGroup, LinkAdd, AnaSet}
+use Rattle.config_edits.specs.declared.edit.Edit.TheVariants.{NamespaceAdd, NamespaceGroup, NamespaceShow, LinkAdd, AnaSet}
 use Rattle.config_edits.specs.declared.edit.NewNamespace.{NewNamespace}
-use Rattle.config_rules.specs.Configuration.{Configuration, has_port, has_host, with_live, with_new_host, with_host, has_state, with_new_state, with_state_set, without_state, with_ana_state}
+use Rattle.config_rules.specs.Configuration.{Configuration, has_namespace, has_port, has_host, with_live, with_new_host, with_host, has_state, with_new_state, with_state_set, without_state, with_ana_state}
 use Rattle.config_rules.specs.Accept.{accept, effect}
 use Rattle.config_rules.specs.Valid.{IsValid}
 use Rattle.config_rules.proofs.Refusals.{accept-effect, passed_all}
@@ -60,6 +62,21 @@ pub linked_port : (c v : Configuration) (port : ℕ) (nqn : List ℕ) → c ≡ 
 linked_port c v port nqn same ok valid =
     passed_all v (LinkAdd port nqn) (port ≤ 65535) ok (λ there subsystem absent.
     port_number c port valid (ap (λ w. has_port w.ports port) same ∙ not-false (has_port v.ports port) there))
+
+-- a namespace that is shown has an identifier that may be
+nsid_of : (c : Configuration) (nqn : List ℕ) (nsid : ℕ) → IsValid c → has_namespace c.namespaces nqn nsid ≡ true → nsid ≤ nsid_max
+nsid_of c nqn nsid valid found =
+    let any : Any (λ n. is_named nqn nsid n ≡ true) c.namespaces = Any-from_list_any (is_named nqn nsid) c.namespaces found in
+    let n : Namespace = any.1 in
+    let same : n.nsid ≡ nsid = eqb-true n.nsid nsid (and_parts (bytes_eq n.subsystem nqn) (n.nsid == nsid) any.4).1 in
+    let sound : IsTrue (is_nsid n.nsid) = subst (λ (m : Namespace). IsTrue (is_nsid m.nsid)) any.3 (valid.namespaces.sound any.0 n any.2).nsid in
+    let most : n.nsid ≤ nsid_max = leb-true n.nsid nsid_max (and_parts (nat_le 1 n.nsid) (nat_le n.nsid nsid_max) sound).1 in
+    omega arith
+
+pub shown_nsid : (c v : Configuration) (nqn : List ℕ) (nsid : ℕ) (host : List ℕ) → c ≡ v → IsOk (accept v (NamespaceShow nqn nsid host)) → IsValid c → nsid ≤ nsid_max
+shown_nsid c v nqn nsid host same ok valid =
+    passed_all v (NamespaceShow nqn nsid host) (nsid ≤ nsid_max) ok (λ subsystem there live absent room.
+    nsid_of c nqn nsid valid (ap (λ w. has_namespace w.namespaces nqn nsid) same ∙ not-false (has_namespace v.namespaces nqn nsid) there))
 
 -- an ANA state is set on a port that is there, for a group that may be
 pub state_numbers : (c v : Configuration) (port : ℕ) (nqn : List ℕ) (group : ℕ) (state : AnaState) → c ≡ v → IsOk (accept v (AnaSet port nqn group state)) → IsValid c → (port ≤ 65535) × (group ≤ 32)

@@ -2,10 +2,10 @@
 use Rattle.std.specs.Prelude.{◌≡◌, ◌<◌, length, vec_capacity, Ok}
 use Rattle.config_edits.specs.declared.edit.Edit.{Edit}
 use Rattle.config_rules.specs.Accept.{accept}
-use Rattle.config_rules.specs.Configuration.{Configuration, with_subsystem, with_access, without_subsystem, with_namespace, with_namespace_set, without_namespace, with_port, with_port_set, without_port, with_link, without_link, with_live, with_new_host, with_allow, without_allow, with_new_state, with_state_set, without_state, with_referral, with_referral_set, without_referral}
+use Rattle.config_rules.specs.Configuration.{Configuration, with_subsystem, with_access, without_subsystem, with_namespace, with_namespace_set, without_namespace, with_port, with_port_set, without_port, with_link, without_link, with_live, with_new_host, with_allow, without_allow, with_new_state, with_state_set, without_state, with_referral, with_referral_set, without_referral, with_show, without_show}
 use Rattle.config_rules.specs.Valid.{IsValid}
 use Rattle.nvt_config.specs.declared.plan.Change.{Change}
-use Rattle.nvt_config.specs.declared.plan.Change.TheVariants.{AddSubsystem, SetAccess, RemoveSubsystem, AddNamespace, SetNamespace, RemoveNamespace, AddPort, ReplacePort, RemovePort, AddLink, RemoveLink, AddHost, SetLive, AddAllow, RemoveAllow, AddState, ReplaceState, RemoveState, AddReferral, ReplaceReferral, RemoveReferral}
+use Rattle.nvt_config.specs.declared.plan.Change.TheVariants.{AddSubsystem, SetAccess, RemoveSubsystem, AddNamespace, SetNamespace, RemoveNamespace, AddPort, ReplacePort, RemovePort, AddLink, RemoveLink, AddHost, SetLive, AddAllow, RemoveAllow, AddState, ReplaceState, RemoveState, AddReferral, ReplaceReferral, RemoveReferral, AddShow, RemoveShow}
 use Rattle.nvt_config.specs.declared.plan.Plan.{Plan}
 
 abbrev pub changed_by : Change → Configuration → Configuration
@@ -30,6 +30,8 @@ changed_by (RemoveState port nqn group) c = without_state c port nqn.now group
 changed_by (AddReferral addition) c = with_referral c addition.item
 changed_by (ReplaceReferral referral) c = with_referral_set c referral
 changed_by (RemoveReferral id) c = without_referral c id
+changed_by (AddShow addition) c = with_show c addition.item
+changed_by (RemoveShow nqn nsid host) c = without_show c nqn.now nsid host.now
 
 -- the configuration that a plan makes of this one
 abbrev pub made : Plan → Configuration → Configuration
@@ -58,6 +60,8 @@ HasRoom (RemoveState port nqn group) c = Unit {0}
 HasRoom (AddReferral addition) c = length c.referrals < vec_capacity addition.list
 HasRoom (ReplaceReferral referral) c = Unit {0}
 HasRoom (RemoveReferral id) c = Unit {0}
+HasRoom (AddShow addition) c = length c.shows < vec_capacity addition.list
+HasRoom (RemoveShow nqn nsid host) c = Unit {0}
 
 -- the plan can be carried out: it makes a configuration within its limits, and has all the memory for it
 pub record IsReady (plan : Plan) (c : Configuration) : Type 0 where

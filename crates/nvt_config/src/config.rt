@@ -22,6 +22,7 @@ use config_lists::host::Host;
 use config_lists::link::Link;
 use config_lists::namespace::{Namespace, Setting};
 use config_lists::port::Port;
+use config_lists::show::Show;
 use config_lists::subsystem::Subsystem;
 use config_rules::{Lists, are_disks};
 use std::alloc::{AllocError, Global};
@@ -29,8 +30,8 @@ use std::marker::Model;
 
 /// The disks' sizes in units of 512 bytes, and the lists, each in the order in which its items were
 /// added. There are at most 256 disks of at most 2^40 units, 32 subsystems, 16 ports, 256 hosts, those
-/// that are not live counted, 1,024 allows and 16 referrals. No two items of a list have the same
-/// name, and what an item names is there. Each namespace fits on a disk of its own.
+/// that are not live counted, 1,024 allows, 16 referrals and 1,024 shows. No two items of a list have
+/// the same name, and what an item names is there. Each namespace fits on a disk of its own.
 pub struct Config {
     units: Vec<u64>,
     subsystems: Vec<Subsystem>,
@@ -42,6 +43,7 @@ pub struct Config {
     states: Vec<GroupState>,
     // The ports of discovery controllers elsewhere.
     referrals: Vec<Port>,
+    shows: Vec<Show>,
 }
 
 // Written out, and not derived, so that whoever lets a configuration fall proves one call.
@@ -57,6 +59,7 @@ impl Drop for Config {
             allows,
             states,
             referrals,
+            shows,
         } = self;
         drop(units);
         drop(subsystems);
@@ -67,6 +70,7 @@ impl Drop for Config {
         drop(allows);
         drop(states);
         drop(referrals);
+        drop(shows);
     }
 }
 
@@ -86,6 +90,7 @@ impl Model for Config {
       allows = c.allows.items;
       states = c.states.items;
       referrals = c.referrals.items;
+      shows = c.shows.items;
     } };
 
     ghost invariant = { λ c. IsValid (record {
@@ -98,6 +103,7 @@ impl Model for Config {
       allows = c.allows.items;
       states = c.states.items;
       referrals = c.referrals.items;
+      shows = c.shows.items;
     }) };
 }
 
@@ -123,6 +129,7 @@ impl Config {
                 allows: Vec::new(alloc),
                 states: Vec::new(alloc),
                 referrals: Vec::new(alloc),
+                shows: Vec::new(alloc),
             }),
             Err(AllocError) => Err(NewFault::Memory),
         }
@@ -200,6 +207,14 @@ impl Config {
         self.referrals.as_slice()
     }
 
+    /// The shows, in the order in which they were added.
+    pub fn shows(&self) -> &[Show]
+        ensures lent { result.now ≡ self.now.shows }
+        ensures valid { IsValid self.now }
+    {
+        self.shows.as_slice()
+    }
+
     /// The subsystem of that name, if there is one.
     pub fn subsystem(&self, nqn: &[u8]) -> Option<&Subsystem>
         ensures found { option_copied result
@@ -217,7 +232,7 @@ impl Config {
     }
 
     // The lists, lent.
-    fn lists(&self) -> Lists<'_>
+    pub(crate) fn lists(&self) -> Lists<'_>
         ensures { result ≡ self.now }
     {
         Lists {
@@ -230,6 +245,7 @@ impl Config {
             allows: &self.allows,
             states: &self.states,
             referrals: &self.referrals,
+            shows: &self.shows,
         }
     }
 
@@ -273,6 +289,25 @@ impl Config {
             Edit::NamespaceDel { subsystem, nsid } => Ok(Plan::new(Change::RemoveNamespace(
                 subsystem, *nsid,
             ))),
+            Edit::NamespaceView {
+                subsystem,
+                nsid,
+                visibility,
+            } => Ok(Plan::new(Change::SetNamespace(
+                subsystem,
+                *nsid,
+                Setting::Visibility(*visibility),
+            ))),
+            Edit::NamespaceShow {
+                subsystem,
+                nsid,
+                host,
+            } => self.plan_show(subsystem, *nsid, host),
+            Edit::NamespaceHide {
+                subsystem,
+                nsid,
+                host,
+            } => Ok(Plan::new(Change::RemoveShow(subsystem, *nsid, host))),
             Edit::PortAdd(endpoint) => self.plan_port(endpoint),
             Edit::PortSet(endpoint) => self.plan_port_set(endpoint),
             Edit::PortDel { id } => Ok(Plan::new(Change::RemovePort(*id))),
@@ -327,6 +362,8 @@ impl Config {
             Change::AddReferral(addition) => self.add_referral(addition),
             Change::ReplaceReferral(referral) => self.replace_referral(referral),
             Change::RemoveReferral(id) => self.remove_referral(id),
+            Change::AddShow(addition) => self.add_show(addition),
+            Change::RemoveShow(nqn, nsid, host) => self.remove_show(nqn, nsid, host),
         }
     }
 
@@ -374,6 +411,7 @@ impl Config {
             allows: hosts.allows,
             states: ports.states,
             referrals: ports.referrals,
+            shows: hosts.shows,
         })
     }
 }

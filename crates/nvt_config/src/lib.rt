@@ -7,13 +7,15 @@ pub mod config;
 pub mod fault;
 pub mod permission;
 pub mod plan;
+pub mod seen;
 pub mod words;
 
 pub use config::Config;
 pub use config_edits::{Edit, EditFault, Endpoint, Item, NewNamespace, Value};
 pub use config_lists::{
-    Access, Allow, AnaState, BlockSize, Family, GroupState, Host, Link, Namespace, Port, Subsystem,
-    Text,
+    Access, Allow, AnaState, BlockSize, Family, GroupState, Host, Link, Namespace, Port, Show,
+    Subsystem, Text, Visibility,
 };
 pub use fault::NewFault;
 pub use plan::Plan;
+pub use seen::Seen;

@@ -7,6 +7,7 @@ use config_lists::host::Host;
 use config_lists::link::Link;
 use config_lists::namespace::{Namespace, Setting};
 use config_lists::port::Port;
+use config_lists::show::Show;
 use config_lists::subsystem::{Access, Subsystem};
 use nvt_fields::Nqn;
 use std::alloc::{AllocError, Global};
@@ -49,6 +50,8 @@ pub(crate) enum Change<'e> {
     AddReferral(Addition<Port>),
     ReplaceReferral(Port),
     RemoveReferral(u64),
+    AddShow(Addition<Show>),
+    RemoveShow(&'e Nqn, u64, &'e Nqn),
 }
 
 /// An item that is to be added to a list, and room for the list with it.

@@ -3,17 +3,24 @@ ghost use Rattle.std.specs.Prelude.{◌≡◌, find};
 ghost use Rattle.std.specs.Option.{option_copied};
 ghost use Rattle.config_lists.specs.GroupState.{state_for};
 ghost use Rattle.config_lists.specs.Namespace.{is_named};
+ghost use Rattle.config_rules.specs.Seen.{seen_by};
+ghost use Rattle.config_rules.specs.Valid.{IsValid};
 
 use crate::config::Config;
 use config_lists::group_state::{AnaState, ana_state};
-use config_lists::namespace::{Namespace, find_namespace};
+use config_lists::namespace::Namespace;
+use config_lists::show::find_seen;
 
 impl Config {
-    /// The namespace of that subsystem and that identifier, if it is there.
-    pub fn namespace(&self, subsystem: &[u8], nsid: u32) -> Option<&Namespace>
-        ensures { option_copied result ≡ find (is_named subsystem.now nsid) self.now.namespaces }
+    /// The namespace of that subsystem and that identifier, if it is there and the host of that name sees
+    /// it. The host may be one that was never added.
+    pub fn namespace(&self, host: &[u8], subsystem: &[u8], nsid: u32) -> Option<&Namespace>
+        ensures found { let seen = seen_by self.now host.now in
+            option_copied result ≡ find (is_named subsystem.now nsid) seen.namespaces }
+        ensures valid { IsValid self.now }
     {
-        find_namespace(self.namespaces(), subsystem, u64::from(nsid))
+        let nsid = u64::from(nsid);
+        find_seen(self.namespaces(), self.shows(), host, subsystem, nsid)
     }
 
     /// The state on that port of that group of that subsystem: optimized where none was set.

@@ -11,6 +11,9 @@ pub const HELP: &str = "EDITS has one edit a line, words with one space between:
   ns size NQN NSID BLOCKS
   ns group NQN NSID GROUP          GROUP: its ANA group, 1 to 32
   ns del NQN NSID
+  ns view NQN NSID WHO             WHO: all (each host sees it) or named (those it is shown to)
+  ns show NQN NSID HOSTNQN         the host is one of those that the namespace is shown to
+  ns hide NQN NSID HOSTNQN
   port add ID FAMILY ADDR SERVICE  FAMILY: ipv4 or ipv6; SERVICE: the TCP port
   port set ID FAMILY ADDR SERVICE
   port del ID

@@ -176,6 +176,7 @@ fn viewer_of(row: &Row) -> Viewer<'_>
             host: row.host.as_bytes(),
         },
         Some(subsystem) => Viewer::Io {
+            host: row.host.as_bytes(),
             subsystem: subsystem.as_bytes(),
             port: row.port,
         },

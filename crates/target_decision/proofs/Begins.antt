@@ -65,8 +65,8 @@ command_sound w v tags entry bytes = command_is w v entry bytes (IsSound w entry
   configures = λ cntlid role s. tt;
   administers = λ cntlid role c own s is. tt;
   waits = λ cntlid role c own is. tt;
-  performs = λ cntlid qid role port subsystem op is. tt;
-  asks = λ cntlid qid role port subsystem len is. tt;
+  performs = λ cntlid qid role host port subsystem op is. tt;
+  asks = λ cntlid qid role host port subsystem len is. tt;
 }) tags
 
 -- ---- a PDU
@@ -97,7 +97,7 @@ finished_founds : (w : World) (s t : Session) (cid : ℕ) (transfer : Option ℕ
     → Founds w front (owed t cid transfer (finished w s entry came))
 finished_founds w s t cid transfer front entry came = finished_is w entry came (λ o. Founds w front (owed t cid transfer o)) s (record {
   refuses = λ status. (tt, tt);
-  performs = λ cntlid qid role port subsystem op is. (tt, tt);
+  performs = λ cntlid qid role host port subsystem op is. (tt, tt);
 })
 
 pub decided_founds : (w : World) (v : ConnectionState) (tags : Tags) (front : Front)

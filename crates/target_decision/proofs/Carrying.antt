@@ -80,8 +80,8 @@ command_asks w v tags entry bytes room = command_is w v entry bytes (AsksWell ta
   configures = λ cntlid role s. tt;
   administers = λ cntlid role c own s is. tt;
   waits = λ cntlid role c own is. tt;
-  performs = λ cntlid qid role port subsystem op is. tt;
-  asks = λ cntlid qid role port subsystem len is. has_room v.session (count_of tags) (length v.notices.events.waiting) (Io cntlid qid) role room;
+  performs = λ cntlid qid role host port subsystem op is. tt;
+  asks = λ cntlid qid role host port subsystem len is. has_room v.session (count_of tags) (length v.notices.events.waiting) (Io cntlid qid) role room;
 }) tags
 
 owed_carries : (s : Session) (cid : ℕ) (o : Outcome) (tags : Tags) (front : Front) → IsCapsule front → AsksWell tags o
@@ -100,7 +100,7 @@ finished_carries : (w : World) (s t : Session) (cid ttag : ℕ) (tags : Tags) (f
 finished_carries w s t cid ttag tags front entry came brings =
     finished_is w entry came (λ o. CarriesWell tags (owed t cid (Some ttag) o) front) s (record {
       refuses = λ status. brings;
-      performs = λ cntlid qid role port subsystem op is. brings;
+      performs = λ cntlid qid role host port subsystem op is. brings;
     })
 
 pub decided_carries : (w : World) (v : ConnectionState) (tags : Tags) (front : Front) → CarriesWell tags (decide w v tags front) front

@@ -78,10 +78,10 @@ pub record Commands (w : World) (v : ConnectionState) (entry bytes : List ℕ) (
       → P (given s.result s.payload (consequence.Update cntlid (update.Command s.effect)))
   pub waits : (cntlid : ℕ) → role_in v.session ≡ Some (Admin cntlid) → (c : AdminController) → admin_controller w v.notices cntlid ≡ Some c
       → admin w.pages w.config c entry ≡ Ok accepted.Waits → P waits
-  pub performs : (cntlid qid : ℕ) → role_in v.session ≡ Some (Io cntlid qid) → (port : ℕ) (subsystem : List ℕ) (op : Operation)
-      → io_begin w.config port subsystem entry (length bytes) ≡ Ok (Perform op) → P (performed op)
-  pub asks : (cntlid qid : ℕ) → role_in v.session ≡ Some (Io cntlid qid) → (port : ℕ) (subsystem : List ℕ) (len : ℕ)
-      → io_begin w.config port subsystem entry (length bytes) ≡ Ok (Receive len) → P (asked len)
+  pub performs : (cntlid qid : ℕ) → role_in v.session ≡ Some (Io cntlid qid) → (host : List ℕ) (port : ℕ) (subsystem : List ℕ) (op : Operation)
+      → io_begin w.config host port subsystem entry (length bytes) ≡ Ok (Perform op) → P (performed op)
+  pub asks : (cntlid qid : ℕ) → role_in v.session ≡ Some (Io cntlid qid) → (host : List ℕ) (port : ℕ) (subsystem : List ℕ) (len : ℕ)
+      → io_begin w.config host port subsystem entry (length bytes) ≡ Ok (Receive len) → P (asked len)
 
 module _ (w : World) (v : ConnectionState) (entry bytes : List ℕ) (P : Outcome → Type 0) (cases : Commands w v entry bytes P) where
   refused_by : (status : Status) → P (refused status)
@@ -128,23 +128,23 @@ module _ (w : World) (v : ConnectionState) (entry bytes : List ℕ) (P : Outcome
       either P (not ready) (refused command_sequence_error) (admin_answered cntlid outcome) (refused_by command_sequence_error)
       (effect_is cntlid role c own outcome refl)
 
-  operation_is : (cntlid qid : ℕ) → role_in v.session ≡ Some (Io cntlid qid) → (port : ℕ) (subsystem : List ℕ) (o : Result Begun Status)
-      → io_begin w.config port subsystem entry (length bytes) ≡ o → P (io_begun o)
-  operation_is cntlid qid role port subsystem (Ok (Perform op)) is = cases.performs cntlid qid role port subsystem op is
-  operation_is cntlid qid role port subsystem (Ok (Receive len)) is = cases.asks cntlid qid role port subsystem len is
-  operation_is cntlid qid role port subsystem (Err status) is = refused_by status
+  operation_is : (cntlid qid : ℕ) → role_in v.session ≡ Some (Io cntlid qid) → (host : List ℕ) (port : ℕ) (subsystem : List ℕ) (o : Result Begun Status)
+      → io_begin w.config host port subsystem entry (length bytes) ≡ o → P (io_begun o)
+  operation_is cntlid qid role host port subsystem (Ok (Perform op)) is = cases.performs cntlid qid role host port subsystem op is
+  operation_is cntlid qid role host port subsystem (Ok (Receive len)) is = cases.asks cntlid qid role host port subsystem len is
+  operation_is cntlid qid role host port subsystem (Err status) is = refused_by status
 
-  io_of_is : (cntlid qid : ℕ) → role_in v.session ≡ Some (Io cntlid qid) → (subsystem : Option (List ℕ)) (port : ℕ)
-      → P (io_of subsystem port w entry (length bytes))
-  io_of_is cntlid qid role None port = refused_by command_sequence_error
-  io_of_is cntlid qid role (Some subsystem) port =
-      operation_is cntlid qid role port subsystem (io_begin w.config port subsystem entry (length bytes)) refl
+  io_of_is : (cntlid qid : ℕ) → role_in v.session ≡ Some (Io cntlid qid) → (subsystem : Option (List ℕ)) (host : List ℕ) (port : ℕ)
+      → P (io_of subsystem host port w entry (length bytes))
+  io_of_is cntlid qid role None host port = refused_by command_sequence_error
+  io_of_is cntlid qid role (Some subsystem) host port =
+      operation_is cntlid qid role host port subsystem (io_begin w.config host port subsystem entry (length bytes)) refl
 
   io_is : (cntlid qid : ℕ) → role_in v.session ≡ Some (Io cntlid qid) → (o : Option Row) → P (io_by o w entry (length bytes))
   io_is cntlid qid role None = refused_by command_sequence_error
   io_is cntlid qid role (Some row) =
-      either P (not row.ready) (refused command_sequence_error) (io_of row.subsystem row.port w entry (length bytes))
-      (refused_by command_sequence_error) (io_of_is cntlid qid role row.subsystem row.port)
+      either P (not row.ready) (refused command_sequence_error) (io_of row.subsystem row.host row.port w entry (length bytes))
+      (refused_by command_sequence_error) (io_of_is cntlid qid role row.subsystem row.host row.port)
 
   queue_is : (role : Role) → role_in v.session ≡ Some role → P (queue_command w v.notices role entry bytes)
   queue_is (Admin cntlid) is =
@@ -186,25 +186,25 @@ owed_is P s cid transfer replies asks waiting (Err refusal) = replies (refused_w
 -- What that comes to: a status, or an operation.
 pub record Endings (w : World) (s : Session) (entry : List ℕ) (came : ℕ) (P : Outcome → Type 0) : Type 0 where
   pub refuses : (status : Status) → P (refused status)
-  pub performs : (cntlid qid : ℕ) → role_in s ≡ Some (Io cntlid qid) → (port : ℕ) (subsystem : List ℕ) (op : Operation)
-      → io_finish w.config port subsystem entry came ≡ Ok op → P (performed op)
+  pub performs : (cntlid qid : ℕ) → role_in s ≡ Some (Io cntlid qid) → (host : List ℕ) (port : ℕ) (subsystem : List ℕ) (op : Operation)
+      → io_finish w.config host port subsystem entry came ≡ Ok op → P (performed op)
 
 module _ (w : World) (entry : List ℕ) (came : ℕ) (P : Outcome → Type 0) where
-  ends_is : (s : Session) → Endings w s entry came P → (cntlid qid : ℕ) → role_in s ≡ Some (Io cntlid qid) → (port : ℕ) (subsystem : List ℕ)
-      (o : Result Operation Status) → io_finish w.config port subsystem entry came ≡ o → P (io_finished o)
-  ends_is s cases cntlid qid role port subsystem (Ok op) is = cases.performs cntlid qid role port subsystem op is
-  ends_is s cases cntlid qid role port subsystem (Err status) is = cases.refuses status
+  ends_is : (s : Session) → Endings w s entry came P → (cntlid qid : ℕ) → role_in s ≡ Some (Io cntlid qid) → (host : List ℕ) (port : ℕ) (subsystem : List ℕ)
+      (o : Result Operation Status) → io_finish w.config host port subsystem entry came ≡ o → P (io_finished o)
+  ends_is s cases cntlid qid role host port subsystem (Ok op) is = cases.performs cntlid qid role host port subsystem op is
+  ends_is s cases cntlid qid role host port subsystem (Err status) is = cases.refuses status
 
-  ends_of : (s : Session) → Endings w s entry came P → (cntlid qid : ℕ) → role_in s ≡ Some (Io cntlid qid) → (port : ℕ) (subsystem : Option (List ℕ))
-      → P (finished_of subsystem port w entry came)
-  ends_of s cases cntlid qid role port None = cases.refuses command_sequence_error
-  ends_of s cases cntlid qid role port (Some subsystem) =
-      ends_is s cases cntlid qid role port subsystem (io_finish w.config port subsystem entry came) refl
+  ends_of : (s : Session) → Endings w s entry came P → (cntlid qid : ℕ) → role_in s ≡ Some (Io cntlid qid) → (host : List ℕ) (port : ℕ) (subsystem : Option (List ℕ))
+      → P (finished_of subsystem host port w entry came)
+  ends_of s cases cntlid qid role host port None = cases.refuses command_sequence_error
+  ends_of s cases cntlid qid role host port (Some subsystem) =
+      ends_is s cases cntlid qid role host port subsystem (io_finish w.config host port subsystem entry came) refl
 
   ends_by : (s : Session) → Endings w s entry came P → (cntlid qid : ℕ) → role_in s ≡ Some (Io cntlid qid) → (o : Option Row)
       → P (finished_by o w entry came)
   ends_by s cases cntlid qid role None = cases.refuses command_sequence_error
-  ends_by s cases cntlid qid role (Some row) = ends_of s cases cntlid qid role row.port row.subsystem
+  ends_by s cases cntlid qid role (Some row) = ends_of s cases cntlid qid role row.host row.port row.subsystem
 
   -- it is one of these
   pub finished_is : (s : Session) → Endings w s entry came P → P (finished w s entry came)

@@ -56,9 +56,9 @@ command_fits w v tags entry bytes valid = command_is w v entry bytes (IsFit w.co
   configures = λ cntlid role s. tt;
   administers = λ cntlid role c own s is. tt;
   waits = λ cntlid role c own is. tt;
-  performs = λ cntlid qid role port subsystem op is.
-      operation_fits w.config.units _ op (length bytes) is (operation_within w.config port subsystem entry (length bytes) valid);
-  asks = λ cntlid qid role port subsystem len is. tt;
+  performs = λ cntlid qid role host port subsystem op is.
+      operation_fits w.config.units _ op (length bytes) is (operation_within w.config host port subsystem entry (length bytes) valid);
+  asks = λ cntlid qid role host port subsystem len is. tt;
 }) tags
 
 owed_fits : (units : List ℕ) (s : Session) (cid : ℕ) (o : Outcome) (tags : Tags) (front : Front) → IsFit units (bytes_at front) o
@@ -95,8 +95,8 @@ finished_within : (w : World) (s : Session) (entry bytes : List ℕ) (came : ℕ
     → IsFit w.config.units bytes (finished w s entry came)
 finished_within w s entry bytes came valid same = finished_is w entry came (IsFit w.config.units bytes) s (record {
   refuses = λ status. tt;
-  performs = λ cntlid qid role port subsystem op is.
-      rw (← same) (finish_fits w.config.units _ op came is (finish_within w.config port subsystem entry came valid));
+  performs = λ cntlid qid role host port subsystem op is.
+      rw (← same) (finish_fits w.config.units _ op came is (finish_within w.config host port subsystem entry came valid));
 })
 
 pub decided_within : (w : World) (v : ConnectionState) (tags : Tags) (front : Front) → IsValid w.config

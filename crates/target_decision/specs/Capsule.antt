@@ -117,15 +117,16 @@ io_begun (Ok (Perform op)) = performed op
 io_begun (Ok (Receive len)) = asked len
 io_begun (Err status) = refused status
 
--- a command of a controller of this subsystem that was made through this port; a discovery controller has no I/O queue
-abbrev pub io_of : Option (List ℕ) → ℕ → World → List ℕ → ℕ → Outcome
-io_of None port w entry brings = refused command_sequence_error
-io_of (Some subsystem) port w entry brings = io_begun (io_begin w.config port subsystem entry brings)
+-- a command of a controller of this subsystem that this host made through this port; a discovery controller has no I/O
+-- queue
+abbrev pub io_of : Option (List ℕ) → List ℕ → ℕ → World → List ℕ → ℕ → Outcome
+io_of None host port w entry brings = refused command_sequence_error
+io_of (Some subsystem) host port w entry brings = io_begun (io_begin w.config host port subsystem entry brings)
 
 -- .. of one that is ready, or not
 abbrev pub io_by : Option Row → World → List ℕ → ℕ → Outcome
 io_by None w entry brings = refused command_sequence_error
-io_by (Some row) w entry brings = refuse (not row.ready) command_sequence_error (io_of row.subsystem row.port w entry brings)
+io_by (Some row) w entry brings = refuse (not row.ready) command_sequence_error (io_of row.subsystem row.host row.port w entry brings)
 
 -- .. of the controller of this identifier
 abbrev pub io_at : World → ℕ → List ℕ → ℕ → Outcome
@@ -145,13 +146,13 @@ abbrev pub io_finished : Result Operation Status → Outcome
 io_finished (Ok op) = performed op
 io_finished (Err status) = refused status
 
-abbrev pub finished_of : Option (List ℕ) → ℕ → World → List ℕ → ℕ → Outcome
-finished_of None port w entry came = refused command_sequence_error
-finished_of (Some subsystem) port w entry came = io_finished (io_finish w.config port subsystem entry came)
+abbrev pub finished_of : Option (List ℕ) → List ℕ → ℕ → World → List ℕ → ℕ → Outcome
+finished_of None host port w entry came = refused command_sequence_error
+finished_of (Some subsystem) host port w entry came = io_finished (io_finish w.config host port subsystem entry came)
 
 abbrev pub finished_by : Option Row → World → List ℕ → ℕ → Outcome
 finished_by None w entry came = refused command_sequence_error
-finished_by (Some row) w entry came = finished_of row.subsystem row.port w entry came
+finished_by (Some row) w entry came = finished_of row.subsystem row.host row.port w entry came
 
 -- the command of this entry, for which so many bytes came, on a queue: whether its controller is ready is not asked again
 abbrev pub finished : World → Session → List ℕ → ℕ → Outcome

@@ -28,12 +28,14 @@ fn command_by(world: &World<'_>, row: Option<&Row>, sqe: &Sqe<'_>, brings: u64) 
         Some(
             Row {
                 ready: true,
+                host,
                 port,
                 subsystem: Some(subsystem),
                 ..
             },
         ) => {
             let controller = IoController {
+                host,
                 port: *port,
                 subsystem,
             };
@@ -75,12 +77,14 @@ fn finished_by(world: &World<'_>, row: Option<&Row>, command: &WaitingCommand, c
     match row {
         Some(
             Row {
+                host,
                 port,
                 subsystem: Some(subsystem),
                 ..
             },
         ) => {
             let controller = IoController {
+                host,
                 port: *port,
                 subsystem,
             };

@@ -96,8 +96,8 @@ command_admits w v tags cid entry bytes =
       configures = λ cntlid role s. tt;
       administers = λ cntlid role c own s is. tt;
       waits = λ cntlid role c own is. tt;
-      performs = λ cntlid qid role port subsystem op is. tt;
-      asks = λ cntlid qid role port subsystem len is. tt;
+      performs = λ cntlid qid role host port subsystem op is. tt;
+      asks = λ cntlid qid role host port subsystem len is. tt;
     }) tags
 
 decide_admits : (w : World) (v : ConnectionState) (tags : Tags) (front : Front) → Admits w.row (role_in v.session) v.port (decide w v tags front)
@@ -110,7 +110,7 @@ decide_admits w v tags front = decision_is w v tags front (Admits w.row (role_in
   completes = λ pdu part brings.
       finished_is w part.command.entry ((head_in pdu).datao + (head_in pdu).datal)
       (λ o. Admits w.row (role_in v.session) v.port (owed v.session (head_in pdu).cccid (Some (head_in pdu).ttag) o)) v.session
-      (record { refuses = λ status. tt; performs = λ cntlid qid role port subsystem op is. tt });
+      (record { refuses = λ status. tt; performs = λ cntlid qid role host port subsystem op is. tt });
 })
 
 -- ---- an event

@@ -109,21 +109,21 @@ on_admin_alike v w n cntlid entry h = rw (h.registers, admin_alike v w n cntlid 
 -- an I/O command, by what it sees of its controller
 abbrev io_from : Option IoSeen → World → List ℕ → ℕ → Outcome
 io_from None w entry brings = refused command_sequence_error
-io_from (Some s) w entry brings = refuse (not s.ready) command_sequence_error (io_of s.subsystem s.port w entry brings)
+io_from (Some s) w entry brings = refuse (not s.ready) command_sequence_error (io_of s.subsystem s.host s.port w entry brings)
 
 io_is_from : (row : Option Row) (w : World) (entry : List ℕ) (brings : ℕ) → io_by row w entry brings ≡ io_from (io_seen row) w entry brings
 io_is_from None w entry brings = refl
 io_is_from (Some row) w entry brings = refl
 
-of_alike : (subsystem : Option (List ℕ)) (port : ℕ) (v w : World) (entry : List ℕ) (brings : ℕ) → SubsystemAlike subsystem port v w
-    → io_of subsystem port v entry brings ≡ io_of subsystem port w entry brings
-of_alike None port v w entry brings h = refl
-of_alike (Some nqn) port v w entry brings h = ap io_begun (begun_alike v.config w.config port nqn entry brings h)
+of_alike : (subsystem : Option (List ℕ)) (host : List ℕ) (port : ℕ) (v w : World) (entry : List ℕ) (brings : ℕ) → SubsystemAlike subsystem host port v w
+    → io_of subsystem host port v entry brings ≡ io_of subsystem host port w entry brings
+of_alike None host port v w entry brings h = refl
+of_alike (Some nqn) host port v w entry brings h = ap io_begun (begun_alike v.config w.config host port nqn entry brings h)
 
 seen_alike : (o : Option IoSeen) (v w : World) (entry : List ℕ) (brings : ℕ) → AreSeenAlike o v w → io_from o v entry brings ≡ io_from o w entry brings
 seen_alike None v w entry brings h = refl
 seen_alike (Some s) v w entry brings h =
-    ap (refuse (not s.ready) command_sequence_error) (of_alike s.subsystem s.port v w entry brings h)
+    ap (refuse (not s.ready) command_sequence_error) (of_alike s.subsystem s.host s.port v w entry brings h)
 
 io_alike : (v w : World) (cntlid : ℕ) (entry : List ℕ) (brings : ℕ) → IoAlike v w cntlid → io_at v cntlid entry brings ≡ io_at w cntlid entry brings
 io_alike v w cntlid entry brings h =
@@ -135,20 +135,20 @@ io_alike v w cntlid entry brings h =
 -- .. once its data have come
 abbrev end_from : Option IoSeen → World → List ℕ → ℕ → Outcome
 end_from None w entry came = refused command_sequence_error
-end_from (Some s) w entry came = finished_of s.subsystem s.port w entry came
+end_from (Some s) w entry came = finished_of s.subsystem s.host s.port w entry came
 
 end_is_from : (row : Option Row) (w : World) (entry : List ℕ) (came : ℕ) → finished_by row w entry came ≡ end_from (io_seen row) w entry came
 end_is_from None w entry came = refl
 end_is_from (Some row) w entry came = refl
 
-end_of_alike : (subsystem : Option (List ℕ)) (port : ℕ) (v w : World) (entry : List ℕ) (came : ℕ) → SubsystemAlike subsystem port v w
-    → finished_of subsystem port v entry came ≡ finished_of subsystem port w entry came
-end_of_alike None port v w entry came h = refl
-end_of_alike (Some nqn) port v w entry came h = ap io_finished (finished_alike v.config w.config port nqn entry came h)
+end_of_alike : (subsystem : Option (List ℕ)) (host : List ℕ) (port : ℕ) (v w : World) (entry : List ℕ) (came : ℕ) → SubsystemAlike subsystem host port v w
+    → finished_of subsystem host port v entry came ≡ finished_of subsystem host port w entry came
+end_of_alike None host port v w entry came h = refl
+end_of_alike (Some nqn) host port v w entry came h = ap io_finished (finished_alike v.config w.config host port nqn entry came h)
 
 end_seen_alike : (o : Option IoSeen) (v w : World) (entry : List ℕ) (came : ℕ) → AreSeenAlike o v w → end_from o v entry came ≡ end_from o w entry came
 end_seen_alike None v w entry came h = refl
-end_seen_alike (Some s) v w entry came h = end_of_alike s.subsystem s.port v w entry came h
+end_seen_alike (Some s) v w entry came h = end_of_alike s.subsystem s.host s.port v w entry came h
 
 ends_alike : (v w : World) (n : NoticeState) (role : Role) (queue : Queue) → RoleAlike v w n role → (entry : List ℕ) (came : ℕ)
     → finished v (Connected role queue) entry came ≡ finished w (Connected role queue) entry came

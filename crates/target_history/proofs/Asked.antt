@@ -84,17 +84,17 @@ command_asks n opcode.Compare entry capsule_len =
     compare_asks n (block_command_of entry) (sgl1_of entry) capsule_len (some_bytes n.block_size _)
 command_asks n opcode.WriteZeroes entry capsule_len = zeroes_asks (in_range n (block_command_of entry)) _
 
-begin_asks : (config : Configuration) (port : ℕ) (subsystem entry : List ℕ) (capsule_len : ℕ)
-    → IfOk (begin config port subsystem entry capsule_len) AsksForData
-begin_asks config port subsystem entry capsule_len = by (opcode_of_code (opcode_of entry)) where
+begin_asks : (config : Configuration) (host : List ℕ) (port : ℕ) (subsystem entry : List ℕ) (capsule_len : ℕ)
+    → IfOk (begin config host port subsystem entry capsule_len) AsksForData
+begin_asks config host port subsystem entry capsule_len = by (opcode_of_code (opcode_of entry)) where
   on : (code : IoOpcode) (r : Result Namespace Status) → IfOk (then_do r (λ n. on_namespace n code entry capsule_len)) AsksForData
   on code (Ok n) = command_asks n code entry capsule_len
   on code (Err status) = tt
 
-  by : (code : Option IoOpcode) → IfOk (on_opcode code config port subsystem entry capsule_len) AsksForData
+  by : (code : Option IoOpcode) → IfOk (on_opcode code config host port subsystem entry capsule_len) AsksForData
   by None = tt
-  by (Some code) = on code (reached config port subsystem entry)
+  by (Some code) = on code (reached config host port subsystem entry)
 
-pub some_asked : (config : Configuration) (port : ℕ) (subsystem entry : List ℕ) (capsule_len len : ℕ)
-    → begin config port subsystem entry capsule_len ≡ Ok (Receive len) → 0 < len
-some_asked config port subsystem entry capsule_len len is = rw is at (begin_asks config port subsystem entry capsule_len)
+pub some_asked : (config : Configuration) (host : List ℕ) (port : ℕ) (subsystem entry : List ℕ) (capsule_len len : ℕ)
+    → begin config host port subsystem entry capsule_len ≡ Ok (Receive len) → 0 < len
+some_asked config host port subsystem entry capsule_len len is = rw is at (begin_asks config host port subsystem entry capsule_len)

@@ -50,8 +50,8 @@ command_begun w v tags front pdu cid whole_is =
       configures = λ cntlid role s. tt;
       administers = λ cntlid role c own s is. tt;
       waits = λ cntlid role c own is. tt;
-      performs = λ cntlid qid role port subsystem op is. tt;
-      asks = λ cntlid qid role port subsystem len is. tt;
+      performs = λ cntlid qid role host port subsystem op is. tt;
+      asks = λ cntlid qid role host port subsystem len is. tt;
     }) tags
 
 decide_begun : (w : World) (v : ConnectionState) (tags : Tags) (front : Front) → Begun w v.port front (decide w v tags front)
@@ -64,7 +64,7 @@ decide_begun w v tags front = decision_is w v tags front (Begun w v.port front) 
   completes = λ pdu part brings.
       finished_is w part.command.entry ((head_in pdu).datao + (head_in pdu).datal)
       (λ o. Begun w v.port front (owed v.session (head_in pdu).cccid (Some (head_in pdu).ttag) o)) v.session
-      (record { refuses = λ status. tt; performs = λ cntlid qid role port subsystem op is. tt });
+      (record { refuses = λ status. tt; performs = λ cntlid qid role host port subsystem op is. tt });
 })
 
 -- ---- an event

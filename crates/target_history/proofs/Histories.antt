@@ -223,8 +223,8 @@ command_notes w v tags cid entry bytes =
           effect_notes v.notices s.effect cntlid
           (rw same at (answered_notes c.notices (cid_of entry) (admin w.pages w.config c entry) s is (answered_once w.pages w.config c entry)));
       waits = λ cntlid role c own is. tt;
-      performs = λ cntlid qid role port subsystem op is. omega arith;
-      asks = λ cntlid qid role port subsystem len is. tt;
+      performs = λ cntlid qid role host port subsystem op is. omega arith;
+      asks = λ cntlid qid role host port subsystem len is. tt;
     }) tags
 
 owed_balances : (front : Front) (tags : Tags) (n : NoticeState) (s : Session) (cid : ℕ) (o : Outcome) → FewTags tags → NotedWell n (owed s cid None o)
@@ -261,7 +261,7 @@ finished_balances : (w : World) (capsule : Bool) (front : Front) (tags : Tags) (
 finished_balances w capsule front tags n s cid ttag part entry came few found =
     finished_is w entry came (λ o. Balances capsule front tags n (Some (owed s cid (Some ttag) o))) s (record {
       refuses = λ status. ended_balances capsule front tags n ttag part _ refl refl few found;
-      performs = λ cntlid qid role port subsystem op is. ended_balances capsule front tags n ttag part _ refl refl few found;
+      performs = λ cntlid qid role host port subsystem op is. ended_balances capsule front tags n ttag part _ refl refl few found;
     })
 
 received_balances : (capsule : Bool) (front : Front) (tags : Tags) (n : NoticeState) (ttag : ℕ) (part : Part WaitingCommand) → FewTags tags → tags ttag ≡ Some part
@@ -396,6 +396,6 @@ config_stays _ c h = refl
 pub pages_change_by_edits : PagesChangeByEdits
 pages_change_by_edits = record {
   stays = λ disks x before host unedited. page_stays x.event (config_of disks before) (generation_of disks before host) host unedited;
-  lists = λ disks x before subsystem above unedited. rw (config_stays x.event (config_of disks before) unedited) refl;
-  groups = λ disks x before subsystem port counts groups_only unedited. rw (config_stays x.event (config_of disks before) unedited) refl;
+  lists = λ disks x before host subsystem above unedited. rw (config_stays x.event (config_of disks before) unedited) refl;
+  groups = λ disks x before host subsystem port counts groups_only unedited. rw (config_stays x.event (config_of disks before) unedited) refl;
 }

@@ -126,8 +126,8 @@ command_nothing w v tags cid entry bytes none =
       configures = λ cntlid role s. absurd (none cntlid role);
       administers = λ cntlid role c own s is. absurd (none cntlid role);
       waits = λ cntlid role c own is. absurd (none cntlid role);
-      performs = λ cntlid qid role port subsystem op is. refl;
-      asks = λ cntlid qid role port subsystem len is. refl;
+      performs = λ cntlid qid role host port subsystem op is. refl;
+      asks = λ cntlid qid role host port subsystem len is. refl;
     }) tags
 
 decide_nothing : (w : World) (v : ConnectionState) (tags : Tags) (front : Front) → NoAdmin (role_in v.session) → done_by (decide w v tags front) ≡ None
@@ -140,7 +140,7 @@ decide_nothing w v tags front none = decision_is w v tags front (λ d. done_by d
   completes = λ pdu part brings.
       finished_is w part.command.entry ((head_in pdu).datao + (head_in pdu).datal)
       (λ o. done_by (owed v.session (head_in pdu).cccid (Some (head_in pdu).ttag) o) ≡ None) v.session
-      (record { refuses = λ status. refl; performs = λ cntlid qid role port subsystem op is. refl });
+      (record { refuses = λ status. refl; performs = λ cntlid qid role host port subsystem op is. refl });
 })
 
 decided_nothing : (w : World) (tags : Tags) (o : Option ConnectionState) (front : Front) → NoAdmin (role_at o) → done_at (decided_on w tags o front) ≡ None

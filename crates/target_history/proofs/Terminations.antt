@@ -68,8 +68,8 @@ command_updates w v tags cid entry bytes =
       configures = λ cntlid role s. role;
       administers = λ cntlid role c own s is. role;
       waits = λ cntlid role c own is. tt;
-      performs = λ cntlid qid role port subsystem op is. tt;
-      asks = λ cntlid qid role port subsystem len is. tt;
+      performs = λ cntlid qid role host port subsystem op is. tt;
+      asks = λ cntlid qid role host port subsystem len is. tt;
     }) tags
 
 decide_updates : (w : World) (v : ConnectionState) (tags : Tags) (front : Front) → Updates (role_in v.session) (decide w v tags front)
@@ -82,7 +82,7 @@ decide_updates w v tags front = decision_is w v tags front (Updates (role_in v.s
   completes = λ pdu part brings.
       finished_is w part.command.entry ((head_in pdu).datao + (head_in pdu).datal)
       (λ o. Updates (role_in v.session) (owed v.session (head_in pdu).cccid (Some (head_in pdu).ttag) o)) v.session
-      (record { refuses = λ status. tt; performs = λ cntlid qid role port subsystem op is. tt });
+      (record { refuses = λ status. tt; performs = λ cntlid qid role host port subsystem op is. tt });
 })
 
 decided_updates : (w : World) (tags : Tags) (o : Option ConnectionState) (front : Front) → UpdatesAt (role_at o) (decided_on w tags o front)

@@ -158,9 +158,9 @@ command_goes w v tags front cid entry bytes none = command_is w v entry bytes (�
   configures = λ cntlid role s. replied_goes tags front _ none refl;
   administers = λ cntlid role c own s is. replied_goes tags front _ none refl;
   waits = λ cntlid role c own is. record { on = λ going t began since stood. stays tags t began since (data_at front t) (none t) stood };
-  performs = λ cntlid qid role port subsystem op is. replied_goes tags front _ none refl;
-  asks = λ cntlid qid role port subsystem len is.
-      asked_goes tags front cid len none (some_asked w.config port subsystem entry (length bytes) len is);
+  performs = λ cntlid qid role host port subsystem op is. replied_goes tags front _ none refl;
+  asks = λ cntlid qid role host port subsystem len is.
+      asked_goes tags front cid len none (some_asked w.config host port subsystem entry (length bytes) len is);
 }) tags
 
 -- the data of an H2CData go to the tag that it names
@@ -207,7 +207,7 @@ module _ (tags : Tags) (front : Front) (pdu : Pdu) (part : Part WaitingCommand) 
       → GoesOn tags front (owed s cid (Some (head_in pdu).ttag) (finished w s entry n))
   finished_goes brings w s cid entry n = finished_is w entry n (λ o. GoesOn tags front (owed s cid (Some (head_in pdu).ttag) o)) s (record {
     refuses = λ status. ended_goes brings _ refl;
-    performs = λ cntlid qid role port subsystem op is. ended_goes brings _ refl;
+    performs = λ cntlid qid role host port subsystem op is. ended_goes brings _ refl;
   })
 
 -- the first PDU of a connection brings no data, or ends it

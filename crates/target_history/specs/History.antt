@@ -13,6 +13,7 @@ use Rattle.discovery_view.specs.Page.{discovery_page}
 use Rattle.discovery_view.specs.Records.{records_of}
 use Rattle.discovery_view.specs.View.{changes_records}
 use Rattle.config_rules.specs.Configuration.{Configuration, disks_alone}
+use Rattle.config_rules.specs.Seen.{seen_by}
 use Rattle.fabrics_connect.specs.declared.row.Row.{Row}
 use Rattle.block_store.specs.Write.{Write, contents_after}
 use Rattle.data_transfer.specs.Part.{Part, with_data}
@@ -76,15 +77,19 @@ page_of disks happened host = discovery_page (generation_of disks happened host 
 
 -- ---- the list of active namespaces (Base 2.0, section 5.17.2.2)
 
--- the identifiers of a subsystem's namespaces above one, rising
-abbrev pub active_of : Opening → List Occurrence → List ℕ → ℕ → List ℕ
-active_of disks happened subsystem above = list_page (nsids_above above (active_nsids (config_of disks happened).namespaces subsystem))
+-- the configuration as a host sees it
+abbrev pub config_seen : Opening → List Occurrence → List ℕ → Configuration
+config_seen disks happened host = seen_by (config_of disks happened) host
+
+-- the identifiers of a subsystem's namespaces above one that a host sees, rising
+abbrev pub active_of : Opening → List Occurrence → List ℕ → List ℕ → ℕ → List ℕ
+active_of disks happened host subsystem above = list_page (nsids_above above (active_nsids (config_seen disks happened host).namespaces subsystem))
 
 -- ---- the Asymmetric Namespace Access log page (Base 2.0, section 5.16.1.13)
 
--- of a subsystem on a port, with these counts of changes, with or without identifiers
-abbrev pub groups_page_of : Opening → List Occurrence → List ℕ → ℕ → Counts → Bool → List ℕ
-groups_page_of disks happened subsystem port counts groups_only = ana_page groups_only counts (listed (config_of disks happened) subsystem port)
+-- of a subsystem on a port as a host sees it, with these counts of changes, with or without identifiers
+abbrev pub groups_page_of : Opening → List Occurrence → List ℕ → List ℕ → ℕ → Counts → Bool → List ℕ
+groups_page_of disks happened host subsystem port counts groups_only = ana_page groups_only counts (listed (config_seen disks happened host) subsystem port)
 
 -- what log pages and lists show; a further one is a field more
 abbrev pub pages_of : Opening → List Occurrence → Pages

@@ -96,11 +96,11 @@ is_edit _ = false
 pub record PagesChangeByEdits : Type 0 where
   pub stays : (disks : Opening) (x : Occurrence) (before : List Occurrence) (host : List ℕ) → is_edit x.event ≡ false
       → page_of disks (x ∷ before) host ≡ page_of disks before host
-  pub lists : (disks : Opening) (x : Occurrence) (before : List Occurrence) (subsystem : List ℕ) (above : ℕ) → is_edit x.event ≡ false
-      → active_of disks (x ∷ before) subsystem above ≡ active_of disks before subsystem above
-  pub groups : (disks : Opening) (x : Occurrence) (before : List Occurrence) (subsystem : List ℕ) (port : ℕ) (counts : Counts) (groups_only : Bool)
+  pub lists : (disks : Opening) (x : Occurrence) (before : List Occurrence) (host subsystem : List ℕ) (above : ℕ) → is_edit x.event ≡ false
+      → active_of disks (x ∷ before) host subsystem above ≡ active_of disks before host subsystem above
+  pub groups : (disks : Opening) (x : Occurrence) (before : List Occurrence) (host subsystem : List ℕ) (port : ℕ) (counts : Counts) (groups_only : Bool)
       → is_edit x.event ≡ false
-      → groups_page_of disks (x ∷ before) subsystem port counts groups_only ≡ groups_page_of disks before subsystem port counts groups_only
+      → groups_page_of disks (x ∷ before) host subsystem port counts groups_only ≡ groups_page_of disks before host subsystem port counts groups_only
 
 -- the size of the queue that a Connect made, and 0 where there is none
 abbrev pub sqsize_of : Option Admission → ℕ
@@ -167,21 +167,22 @@ pub record AdminAlike (v w : World) (notices : NoticeState) (cntlid : ℕ) : Typ
 -- what an I/O command sees of its controller
 pub record IoSeen : Type 0 where
   pub ready : Bool
+  pub host : List ℕ
   pub subsystem : Option (List ℕ)
   pub port : ℕ
 
 abbrev pub io_seen : Option Row → Option IoSeen
 io_seen None = None
-io_seen (Some row) = Some (record { ready = row.ready; subsystem = row.subsystem; port = row.port })
+io_seen (Some row) = Some (record { ready = row.ready; host = row.host; subsystem = row.subsystem; port = row.port })
 
--- .. of the namespaces of its subsystem, and of the ANA states of its port
-abbrev pub SubsystemAlike : Option (List ℕ) → ℕ → World → World → Type 0
-SubsystemAlike None port v w = Unit {0}
-SubsystemAlike (Some nqn) port v w = SeenAlike port nqn v.config w.config
+-- .. of the namespaces of its subsystem that its host sees, and of the ANA states of its port
+abbrev pub SubsystemAlike : Option (List ℕ) → List ℕ → ℕ → World → World → Type 0
+SubsystemAlike None host port v w = Unit {0}
+SubsystemAlike (Some nqn) host port v w = SeenAlike host port nqn v.config w.config
 
 abbrev pub AreSeenAlike : Option IoSeen → World → World → Type 0
 AreSeenAlike None v w = Unit {0}
-AreSeenAlike (Some s) v w = SubsystemAlike s.subsystem s.port v w
+AreSeenAlike (Some s) v w = SubsystemAlike s.subsystem s.host s.port v w
 
 -- .. and an I/O queue whether its controller is ready, and its namespaces and their states
 pub record IoAlike (v w : World) (cntlid : ℕ) : Type 0 where

@@ -169,10 +169,11 @@ abbrev pub edit_made : Event → Configuration → Option Configuration
 edit_made (edited edit) c = made_by (accept c edit)
 edit_made _ c = None
 
--- what the controller of a row shows: a discovery controller, which has no subsystem, the discovery log page of its host
+-- what the controller of a row shows: a discovery controller, which has no subsystem, the discovery log page of its host;
+-- any other what its host sees of its subsystem
 abbrev pub views_named : List ℕ → Option (List ℕ) → ℕ → Views
 views_named host None port = discovery host
-views_named host (Some subsystem) port = io subsystem port
+views_named host (Some subsystem) port = io host subsystem port
 
 abbrev pub views_of : Row → Views
 views_of row = views_named row.host row.subsystem row.port

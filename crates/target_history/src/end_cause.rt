@@ -45,6 +45,9 @@ impl EndCause {
             | Edit::NamespaceSize { .. }
             | Edit::NamespaceGroup { .. }
             | Edit::NamespaceDel { .. }
+            | Edit::NamespaceView { .. }
+            | Edit::NamespaceShow { .. }
+            | Edit::NamespaceHide { .. }
             | Edit::PortAdd(_)
             | Edit::PortSet(_)
             | Edit::LinkAdd { .. }

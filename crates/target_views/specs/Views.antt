@@ -2,8 +2,8 @@
 use Rattle.std.specs.Prelude.{◌≡◌, ◌≤◌, ℕ, ◌+◌, ◌%◌, ◌^◌, List}
 use Rattle.admin_queue.specs.Pages.{Pages}
 use Rattle.ana_view.specs.Group.{listed}
-use Rattle.ana_view.specs.View.{IsPlannedFor as AnaIsPlannedFor, IsShownAfter as AnaIsShownAfter, Planned as AnaPlanned, PlansEdit as PlansAna, Shown as AnaShown, ShowsAna, groups_in, page_in as ana_page_in}
-use Rattle.change_lists.specs.ActiveView.{IsPlannedFor as ActiveIsPlannedFor, LeadsTo as ActiveLeadsTo, Planned as ActivePlanned, PlansEdit as PlansActive, Shown as ActiveShown, ShowsActive, active_page, nsids_in}
+use Rattle.ana_view.specs.View.{IsPlannedFor as AnaIsPlannedFor, IsShownAfter as AnaIsShownAfter, Planned as AnaPlanned, PlansEdit as PlansAna, Shown as AnaShown, ShowsAna, ViewState as AnaState, groups_in, page_in as ana_page_in}
+use Rattle.change_lists.specs.ActiveView.{IsPlannedFor as ActiveIsPlannedFor, LeadsTo as ActiveLeadsTo, Planned as ActivePlanned, PlansEdit as PlansActive, Shown as ActiveShown, ShowsActive, ViewState as ActiveState, active_page, nsids_in}
 use Rattle.notices.specs.Planned.{PlanState}
 use Rattle.config_words.specs.Numbered.{active_nsids}
 use Rattle.discovery_view.specs.Forming.{reach}
@@ -15,7 +15,7 @@ use Rattle.discovery_view.specs.View.{Rows, Shown, ShowsFirst, ShowsNext, count_
 use Rattle.config_rules.specs.Configuration.{Configuration}
 use Rattle.target_history.specs.Event.{Event, edited, opened, stepped, given_up, ticked}
 use Rattle.target_history.specs.Occurrence.{Occurrence}
-use Rattle.target_history.specs.History.{Opening, config_of, generation_of}
+use Rattle.target_history.specs.History.{Opening, config_of, config_seen, generation_of}
 
 -- what each view shows; a further log page is a field more, here and below
 pub record ViewsShown : Type 0 where
@@ -34,6 +34,13 @@ pub record ViewsState : Type 0 where
   pub active_room : ℕ
   pub ana_room : ℕ
 
+-- the view of the lists by itself, and that of the groups
+abbrev pub active_state : ViewsState → ActiveState
+active_state v = record { shown = v.shown.active; room = v.active_room }
+
+abbrev pub ana_state : ViewsState → AnaState
+ana_state v = record { shown = v.shown.ana; room = v.ana_room }
+
 -- what an edit will make of them, each view as it planned
 pub record PlansState : Type 0 where
   pub discovery : Planned
@@ -49,7 +56,7 @@ planned_by v plans = record {
   ana = plans.ana;
 }
 
--- the log pages of each host, the lists of each subsystem, and its ANA groups on each port
+-- for each host its discovery log page, the lists of each subsystem, and its ANA groups on each port
 abbrev pub pages_shown : ViewsShown → Pages
 pages_shown v = record { discovery = page_in v.discovery; active = active_page v.active; ana = ana_page_in v.ana }
 
@@ -74,8 +81,8 @@ pub record AreViewsOf (c : Configuration) (v : ViewsState) : Type 0 where
 -- the plans are for these views, which have room for what is planned
 pub record ArePlannedFor (v : ViewsState) (plans : PlansState) : Type 0 where
   pub discovery : IsPlannedFor v.slots v.rows v.room plans.discovery
-  pub active : ActiveIsPlannedFor v.active_room plans.active
-  pub ana : AnaIsPlannedFor v.ana_room plans.ana
+  pub active : ActiveIsPlannedFor (active_state v) plans.active
+  pub ana : AnaIsPlannedFor (ana_state v) plans.ana
 
 -- the plans of the lists and of the groups are those of an edit from one configuration to another, and these views come to
 -- show the second
@@ -108,9 +115,10 @@ FormedAfter (given_up n) c old new = new ≡ old
 FormedAfter (ticked now) c old new = new ≡ old
 
 -- they show what a history says: the discovery view each host the records of the configuration, and the
--- number of the edits that changed them; the list of active namespaces those of the configuration, and the ANA groups too
+-- number of the edits that changed them; the list of active namespaces those of the configuration that the host sees, and
+-- the ANA groups too
 pub record ShowHistory (v : ViewsShown) (disks : Opening) (happened : List Occurrence) : Type 0 where
   pub records : (host : List ℕ) → records_in v.discovery host ≡ records_of (config_of disks happened) host
   pub counts : (host : List ℕ) → count_in v.discovery host ≡ generation_of disks happened host % 2 ^ 64
-  pub nsids : (subsystem : List ℕ) → nsids_in v.active subsystem ≡ active_nsids (config_of disks happened).namespaces subsystem
-  pub groups : (subsystem : List ℕ) (port : ℕ) → groups_in v.ana subsystem port ≡ listed (config_of disks happened) subsystem port
+  pub nsids : (host subsystem : List ℕ) → nsids_in v.active host subsystem ≡ active_nsids (config_seen disks happened host).namespaces subsystem
+  pub groups : (host subsystem : List ℕ) (port : ℕ) → groups_in v.ana host subsystem port ≡ listed (config_seen disks happened host) subsystem port

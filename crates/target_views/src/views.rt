@@ -9,7 +9,7 @@ ghost use Rattle.discovery_view.specs.Catalog.{catalog_of};
 ghost use Rattle.discovery_view.specs.Forming.{reach};
 ghost use Rattle.target_views.specs.Views.{ArePlannedFor, AreViewsOf, LeadTo, ListsLeadTo, ShowFirst};
 ghost use Rattle.target_views.specs.Views.{ShowNext};
-ghost use Rattle.target_views.specs.Views.{pages_shown, planned_by};
+ghost use Rattle.target_views.specs.Views.{active_state, ana_state, pages_shown, planned_by};
 
 use admin_queue::Pages;
 use ana_view::{AnaView, Plan as AnaPlan};
@@ -118,8 +118,8 @@ impl Views {
         edit: &Edit,
     ) -> Result<(ActivePlan, AnaPlan), AllocError>
         requires { IsOk (accept config.now edit.now) }
-        ensures active { IfOk result (λ plans. ActiveIsPlannedFor self.new.active_room plans.0) }
-        ensures ana { IfOk result (λ plans. AnaIsPlannedFor self.new.ana_room plans.1) }
+        ensures active { IfOk result (λ plans. ActiveIsPlannedFor (active_state self.new) plans.0) }
+        ensures ana { IfOk result (λ plans. AnaIsPlannedFor (ana_state self.new) plans.1) }
         ensures lead { ShowsActive config.now self.old.shown.active → ShowsAna config.now self.old.shown.ana
             → IfOk result (λ plans. IfOk (accept config.now edit.now)
             (λ next. ListsLeadTo config.now next self.old.shown plans.0 plans.1)) }

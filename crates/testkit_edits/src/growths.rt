@@ -2,7 +2,7 @@
 //! test says at its end.
 use crate::line::{Blocks, Line, edit};
 use crate::names::{A, B};
-use nvt_config::{Access, AnaState, Edit, Family};
+use nvt_config::{Access, AnaState, Edit, Family, Visibility};
 use nvt_fields::NqnFault;
 use std::alloc::{AllocError, Global};
 use std::test::Fail;
@@ -61,6 +61,10 @@ pub const EDITS: &[Line<'static>] = &[
     Line::NamespaceGroup(A, 1, 32),
     Line::NamespaceDel(A, 1),
     Line::NamespaceAdd(A, NAMESPACE),
+    Line::NamespaceView(A, 1, Visibility::Named),
+    Line::NamespaceShow(A, 1, HOST),
+    Line::NamespaceShow(A, 1, b"nqn.i"),
+    Line::NamespaceHide(A, 1, b"nqn.i"),
     Line::AllowAdd(A, HOST),
     Line::AllowAdd(A, b"nqn.i"),
     Line::AllowDel(A, b"nqn.i"),

@@ -1,4 +1,6 @@
-use nvt_config::{Access, AnaState, Config, Edit, Endpoint, Family, NewNamespace, Text};
+use nvt_config::{
+    Access, AnaState, Config, Edit, Endpoint, Family, NewNamespace, Text, Visibility,
+};
 use nvt_fields::{Nqn, NqnFault};
 use std::alloc::{AllocError, Global};
 use uuid::Uuid;
@@ -17,6 +19,11 @@ pub enum Line<'a> {
     /// Its subsystem, its identifier and its group.
     NamespaceGroup(&'a [u8], u64, u64),
     NamespaceDel(&'a [u8], u64),
+    /// Its subsystem, its identifier and which hosts see it.
+    NamespaceView(&'a [u8], u64, Visibility),
+    /// Its subsystem, its identifier and the host.
+    NamespaceShow(&'a [u8], u64, &'a [u8]),
+    NamespaceHide(&'a [u8], u64, &'a [u8]),
     /// Its number, its IPv4 address and its service.
     PortAdd(u64, &'a [u8], u64),
     /// Its number, its family, its address and its service.
@@ -60,6 +67,9 @@ pub fn edit(alloc: Global, line: Line<'_>) -> Result<Edit, NqnFault> {
         Line::NamespaceSize(nqn, nsid, blocks) => namespace_size(alloc, nqn, nsid, blocks),
         Line::NamespaceGroup(nqn, nsid, group) => namespace_group(alloc, nqn, nsid, group),
         Line::NamespaceDel(nqn, nsid) => namespace_del(alloc, nqn, nsid),
+        Line::NamespaceView(nqn, nsid, visibility) => namespace_view(alloc, nqn, nsid, visibility),
+        Line::NamespaceShow(nqn, nsid, host) => namespace_show(alloc, nqn, nsid, host),
+        Line::NamespaceHide(nqn, nsid, host) => namespace_hide(alloc, nqn, nsid, host),
         Line::PortAdd(id, address, service) => port_add(alloc, id, address, service),
         Line::PortSet(id, family, address, service) => {
             port_set(alloc, id, family, address, service)
@@ -202,6 +212,40 @@ fn namespace_group(alloc: Global, nqn: &[u8], nsid: u64, group: u64) -> Result<E
 fn namespace_del(alloc: Global, nqn: &[u8], nsid: u64) -> Result<Edit, NqnFault> {
     let subsystem = Nqn::read(alloc, nqn)?;
     Ok(Edit::NamespaceDel { subsystem, nsid })
+}
+
+fn namespace_view(
+    alloc: Global,
+    nqn: &[u8],
+    nsid: u64,
+    visibility: Visibility,
+) -> Result<Edit, NqnFault> {
+    let subsystem = Nqn::read(alloc, nqn)?;
+    Ok(Edit::NamespaceView {
+        subsystem,
+        nsid,
+        visibility,
+    })
+}
+
+fn namespace_show(alloc: Global, nqn: &[u8], nsid: u64, host: &[u8]) -> Result<Edit, NqnFault> {
+    let subsystem = Nqn::read(alloc, nqn)?;
+    let host = Nqn::read(alloc, host)?;
+    Ok(Edit::NamespaceShow {
+        subsystem,
+        nsid,
+        host,
+    })
+}
+
+fn namespace_hide(alloc: Global, nqn: &[u8], nsid: u64, host: &[u8]) -> Result<Edit, NqnFault> {
+    let subsystem = Nqn::read(alloc, nqn)?;
+    let host = Nqn::read(alloc, host)?;
+    Ok(Edit::NamespaceHide {
+        subsystem,
+        nsid,
+        host,
+    })
 }
 
 fn link_add(alloc: Global, port: u64, nqn: &[u8]) -> Result<Edit, NqnFault> {

@@ -1,4 +1,4 @@
-use nvt_config::{Allow, Config, GroupState, Host, Link, Namespace, Port, Subsystem};
+use nvt_config::{Allow, Config, GroupState, Host, Link, Namespace, Port, Show, Subsystem};
 
 /// Whether two configurations have the same disks and the same lists, each in the same order.
 pub fn is_same(config: &Config, other: &Config) -> bool {
@@ -11,6 +11,7 @@ pub fn is_same(config: &Config, other: &Config) -> bool {
         && are_allows_same(config.allows(), other.allows())
         && are_states_same(config.states(), other.states())
         && are_ports_same(config.referrals(), other.referrals())
+        && are_shows_same(config.shows(), other.shows())
 }
 
 /// Whether the namespaces and the ANA states of both are the same.
@@ -67,7 +68,8 @@ fn are_namespaces_same(namespaces: &[Namespace], others: &[Namespace]) -> bool {
             && (namespace.nsid, namespace.disk) == (other.nsid, other.disk)
             && (namespace.blocks, namespace.group) == (other.blocks, other.group)
             && namespace.block_size == other.block_size
-            && namespace.uuid == other.uuid;
+            && namespace.uuid == other.uuid
+            && namespace.visibility == other.visibility;
         if !is_same {
             return false;
         }
@@ -94,4 +96,16 @@ fn are_states_same(states: &[GroupState], others: &[GroupState]) -> bool {
         }
     }
     states.len() == others.len()
+}
+
+fn are_shows_same(shows: &[Show], others: &[Show]) -> bool {
+    for (show, other) in shows.iter().zip(others) {
+        let is_same = show.subsystem == other.subsystem
+            && show.nsid == other.nsid
+            && show.host == other.host;
+        if !is_same {
+            return false;
+        }
+    }
+    shows.len() == others.len()
 }

@@ -10,6 +10,8 @@ pub fn is_same_edit(edit: &Edit, other: &Edit) -> bool {
         | Edit::NamespaceSize { .. }
         | Edit::NamespaceGroup { .. }
         | Edit::NamespaceDel { .. } => is_same_of_namespace(edit, other),
+        Edit::NamespaceView { .. } => is_same_of_view(edit, other),
+        Edit::NamespaceShow { .. } | Edit::NamespaceHide { .. } => is_same_of_show(edit, other),
         Edit::PortAdd(_)
         | Edit::PortSet(_)
         | Edit::PortDel { .. }
@@ -86,6 +88,54 @@ fn is_same_of_namespace(edit: &Edit, other: &Edit) -> bool {
                 nsid: id,
             },
         ) => subsystem == name && nsid == id,
+        _ => false,
+    }
+}
+
+fn is_same_of_view(edit: &Edit, other: &Edit) -> bool {
+    match (edit, other) {
+        (
+            Edit::NamespaceView {
+                subsystem,
+                nsid,
+                visibility,
+            },
+            Edit::NamespaceView {
+                subsystem: name,
+                nsid: id,
+                visibility: who,
+            },
+        ) => subsystem == name && nsid == id && visibility == who,
+        _ => false,
+    }
+}
+
+fn is_same_of_show(edit: &Edit, other: &Edit) -> bool {
+    match (edit, other) {
+        (
+            Edit::NamespaceShow {
+                subsystem,
+                nsid,
+                host,
+            },
+            Edit::NamespaceShow {
+                subsystem: name,
+                nsid: id,
+                host: other_host,
+            },
+        )
+        | (
+            Edit::NamespaceHide {
+                subsystem,
+                nsid,
+                host,
+            },
+            Edit::NamespaceHide {
+                subsystem: name,
+                nsid: id,
+                host: other_host,
+            },
+        ) => subsystem == name && nsid == id && host == other_host,
         _ => false,
     }
 }

@@ -9,6 +9,8 @@ pub const INVALID_FIELD: u16 = 0x8004;
 
 pub const CID_CONFLICT: u16 = 0x8006;
 
+pub const INVALID_NAMESPACE: u16 = 0x8016;
+
 pub const SEQUENCE_ERROR: u16 = 0x8018;
 
 pub const SGL_LENGTH_INVALID: u16 = 0x801E;

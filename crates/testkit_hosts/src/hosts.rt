@@ -1,10 +1,11 @@
 //! The plain program: what each queue is owed, by all that happened.
 use super::answers::{
-    CID_CONFLICT, INVALID_FIELD, INVALID_HOST, INVALID_LOG_PAGE, INVALID_PARAMETERS, NOT_SAVEABLE,
-    REQUEST_LIMIT, SEQUENCE_ERROR, SGL_LENGTH_INVALID, SGL_TYPE_INVALID, SUCCESS, data, ic_resp,
-    response, too_many,
+    CID_CONFLICT, INVALID_FIELD, INVALID_HOST, INVALID_LOG_PAGE, INVALID_NAMESPACE,
+    INVALID_PARAMETERS, NOT_SAVEABLE, REQUEST_LIMIT, SEQUENCE_ERROR, SGL_LENGTH_INVALID,
+    SGL_TYPE_INVALID, SUCCESS, data, ic_resp, response, too_many,
 };
-use super::layout::{KINDS, Kind, place_of};
+use super::identify::structure_of;
+use super::layout::{Change, KINDS, Kind, QUEUES, Sight, place_of};
 use super::pages::{ANA, CHANGED, DISCOVERY, page_of};
 use super::past::{Happened, Past, result_of};
 use super::pdus::{Command, Read, sqsize_of};
@@ -17,7 +18,7 @@ pub struct Hosts {
     alloc: Global,
     /// All that happened to them.
     pub past: Past,
-    queues: [Queue; 6],
+    queues: [Queue; QUEUES],
     /// What was seen.
     pub seen: Seen,
     /// What the latest event owes one queue.
@@ -30,7 +31,7 @@ impl Hosts {
         Hosts {
             alloc,
             past: Past::new(alloc),
-            queues: [CLOSED; 6],
+            queues: [CLOSED; QUEUES],
             seen,
             owed: Vec::new(alloc),
         }
@@ -38,7 +39,7 @@ impl Hosts {
 
     /// A queue, as far as it is.
     pub fn queue(&self, queue: usize) -> Queue {
-        self.queues[queue % 6]
+        self.queues[queue % QUEUES]
     }
 
     /// Whether a controller takes commands.
@@ -50,6 +51,33 @@ impl Hosts {
     /// Whether as many requests wait as the queue may have commands.
     pub fn is_full(&self, queue: usize) -> bool {
         self.past.how_many_wait(queue) >= usize::from(sqsize_of(queue))
+    }
+
+    /// An edit is made; its place in all that happened.
+    pub fn make(&mut self, change: Change) -> Result<usize, AllocError> {
+        self.see(change);
+        let place = self.past.len();
+        self.past.hear_edit(change)?;
+        let is_apart = self.past.changes_sight(0, place) != self.past.changes_sight(1, place);
+        count(&mut self.seen.apart, is_apart);
+        Ok(place)
+    }
+
+    // Sees an edit that is to be made.
+    fn see(&mut self, change: Change) {
+        let layout = self.past.layout();
+        match change {
+            Change::Delete(at) => {
+                let is_shown = layout.is_shown(at, 0) || layout.is_shown(at, 1);
+                count(&mut self.seen.deleted, is_shown);
+            }
+            Change::See(Sight::Show(at, host)) => {
+                let was_hidden = self.past.was_hidden(at, host);
+                count(&mut self.seen.again, was_hidden);
+            }
+            Change::Forbid(host) => count(&mut self.seen.forbidden, layout.has_show(host)),
+            _ => {}
+        }
     }
 
     /// What the edit at this place owes a queue.
@@ -66,13 +94,23 @@ impl Hosts {
         }
     }
 
-    // Whether the host of a controller may no longer use its subsystem on its port.
-    fn is_barred(&self, queue: usize) -> bool {
+    /// Whether the host of a controller may not use its subsystem on its port.
+    pub fn is_barred(&self, queue: usize) -> bool {
         let at = place_of(queue);
         !at.is_discovery && !self.past.layout().may(at.host, at.port)
     }
 
+    // Whether a controller waits for an event of its namespaces, while the edit at this place changes those of
+    // another host alone.
+    fn is_left(&self, queue: usize, place: usize) -> bool {
+        let changes = [0, 1, 2].map(|host| self.past.changes_sight(host, place));
+        let is_apart = !changes[place_of(queue).host % 3] && changes.contains(&true);
+        is_apart && self.past.awaits_namespaces(queue)
+    }
+
     fn complete_by_edit(&mut self, queue: usize, place: usize) -> Result<(), AllocError> {
+        let is_left = self.is_left(queue, place);
+        count(&mut self.seen.left, is_left);
         for kind in KINDS {
             if self.past.becomes_owed(queue, kind, place)
                 && let Some(cid) = self.past.oldest(queue)
@@ -98,7 +136,7 @@ impl Hosts {
         value: u32,
         status: u16,
     ) -> Result<(), AllocError> {
-        let it = &mut self.queues[queue % 6];
+        let it = &mut self.queues[queue % QUEUES];
         if it.stage == Stage::Connected {
             it.head = next_head(it.head, sqsize_of(queue));
         }
@@ -108,7 +146,7 @@ impl Hosts {
     /// A queue is ended, or given up.
     pub fn leave(&mut self, queue: usize, stage: Stage) {
         let Queue { number, .. } = self.queue(queue);
-        self.queues[queue % 6] = Queue {
+        self.queues[queue % QUEUES] = Queue {
             stage,
             number,
             ..CLOSED
@@ -118,7 +156,7 @@ impl Hosts {
     /// A queue's connection is opened; its number.
     pub fn open(&mut self, queue: usize) -> usize {
         let number = self.least_number();
-        self.queues[queue % 6] = Queue {
+        self.queues[queue % QUEUES] = Queue {
             stage: Stage::Opened,
             number,
             ..CLOSED
@@ -180,7 +218,7 @@ impl Hosts {
     fn begin(&mut self, queue: usize) -> Result<(), AllocError> {
         let cntlid = self.least_cntlid();
         let Queue { number, .. } = self.queue(queue);
-        self.queues[queue % 6] = Queue {
+        self.queues[queue % QUEUES] = Queue {
             stage: Stage::Connected,
             number,
             cntlid,
@@ -217,6 +255,7 @@ impl Hosts {
             _ if !self.is_ready(queue) => self.respond(queue, cid, 0, SEQUENCE_ERROR),
             Command::Request => self.answer_request(queue, cid),
             Command::Read(read) => self.answer_read(queue, cid, read),
+            Command::Identify(cns, nsid) => self.answer_identify(queue, cid, *cns, *nsid),
             Command::SetEvents(_, true) => self.respond(queue, cid, 0, NOT_SAVEABLE),
             Command::SetEvents(mask, false) => self.set_events(queue, cid, *mask),
             Command::GetEvents => {
@@ -231,7 +270,7 @@ impl Hosts {
     fn configure(&mut self, queue: usize, cid: u16, cc: u32) -> Result<(), AllocError> {
         let was = self.queue(queue);
         let is = with_cc(was, cc);
-        self.queues[queue % 6] = is;
+        self.queues[queue % QUEUES] = is;
         if is.is_enabled && !was.is_enabled {
             self.past.hear(Happened::Enabled(queue))?;
         } else if was.is_enabled && !is.is_enabled {
@@ -259,6 +298,32 @@ impl Hosts {
             }
             None => Ok(()),
         }
+    }
+
+    fn answer_identify(
+        &mut self,
+        queue: usize,
+        cid: u16,
+        cns: u8,
+        nsid: u32,
+    ) -> Result<(), AllocError> {
+        if place_of(queue).is_discovery {
+            return self.respond(queue, cid, 0, INVALID_FIELD);
+        }
+        self.see_answer(queue);
+        match structure_of(self.alloc, &self.past.seen(queue), cns, nsid)? {
+            Some(structure) => {
+                data(&mut self.owed, cid, &structure, 0, 4_096)?;
+                self.respond(queue, cid, 0, SUCCESS)
+            }
+            None => self.respond(queue, cid, 0, INVALID_NAMESPACE),
+        }
+    }
+
+    // Sees an answer of what a host sees.
+    fn see_answer(&mut self, queue: usize) {
+        let is_partial = self.past.seen(queue).count() < self.past.layout().count();
+        count(&mut self.seen.partial, is_partial);
     }
 
     fn answer_read(&mut self, queue: usize, cid: u16, read: &Read) -> Result<(), AllocError> {
@@ -304,9 +369,16 @@ impl Hosts {
             if kind == Kind::Namespace {
                 self.seen.list(page);
             }
+            if kind != Kind::Discovery {
+                self.see_answer(queue);
+            }
         }
         self.respond(queue, cid, 0, status)
     }
+}
+
+fn count(number: &mut usize, counts: bool) {
+    *number = number.saturating_add(usize::from(counts));
 }
 
 // What comes after a head, with SQSIZE.

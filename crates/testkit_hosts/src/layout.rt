@@ -1,5 +1,5 @@
 //! Edits, what a plain program knows of the configuration that they leave, and what each controller shows of it.
-use nvt_config::{Access, AnaState, Family};
+use nvt_config::{Access, AnaState, Family, Visibility};
 use testkit_edits::{A, Blocks, H0, H1, Line, host_name, uuid_byte};
 
 /// The discovery subsystem.
@@ -14,9 +14,10 @@ pub struct Place {
 }
 
 /// How many controllers there are at most.
-pub const QUEUES: usize = 6;
+pub const QUEUES: usize = 8;
 
-const PLACES: [Place; 6] = [
+// The third host is never added: a stranger.
+const PLACES: [Place; QUEUES] = [
     Place {
         host: 0,
         port: 1,
@@ -29,6 +30,16 @@ const PLACES: [Place; 6] = [
     },
     Place {
         host: 1,
+        port: 1,
+        is_discovery: false,
+    },
+    Place {
+        host: 1,
+        port: 2,
+        is_discovery: false,
+    },
+    Place {
+        host: 2,
         port: 1,
         is_discovery: false,
     },
@@ -51,7 +62,7 @@ const PLACES: [Place; 6] = [
 
 /// The place of a queue's controller.
 pub fn place_of(queue: usize) -> Place {
-    PLACES[queue % 6]
+    PLACES[queue % QUEUES]
 }
 
 /// The kinds of events, in their order.
@@ -105,16 +116,28 @@ pub fn swept_lines(nsid: u32) -> [Line<'static>; 2] {
     ]
 }
 
-/// What an edit changes. Namespaces are 1 to 3, ports and referrals 1 and 2, hosts 0 and 1.
+/// What an edit changes of who sees a namespace.
+#[derive(Clone, Copy)]
+pub enum Sight {
+    View(usize, Visibility),
+    /// The namespace, and the host.
+    Show(usize, usize),
+    Hide(usize, usize),
+}
+
+/// What an edit changes. Namespaces are 1 to 3, ports and referrals 1 and 2, hosts 0 to 2.
 #[derive(Clone, Copy)]
 pub enum Change {
     Add(usize, Namespace),
     Delete(usize),
     Resize(usize, u8),
     Regroup(usize, usize),
+    See(Sight),
     SetState(usize, usize, AnaState),
     Link(usize),
     Unlink(usize),
+    AddHost(usize),
+    DeleteHost(usize),
     Allow(usize),
     Forbid(usize),
     SetAccess(Access),
@@ -129,8 +152,12 @@ pub enum Change {
 #[derive(Clone, Copy)]
 pub struct Layout {
     pub namespaces: [Option<Namespace>; 4],
+    /// Of each namespace whether named hosts alone see it, and to which hosts it is shown.
+    pub named: [bool; 4],
+    pub shown: [[bool; 3]; 4],
     pub states: [[AnaState; 3]; 4],
     pub linked: [bool; 4],
+    pub live: [bool; 3],
     pub allowed: [bool; 3],
     pub is_open: bool,
     pub services: [u16; 4],
@@ -141,8 +168,11 @@ pub struct Layout {
 /// What is there after the lines that come first.
 pub const AT_FIRST: Layout = Layout {
     namespaces: [None; 4],
+    named: [false; 4],
+    shown: [[false; 3]; 4],
     states: [[AnaState::Optimized; 3]; 4],
     linked: [false; 4],
+    live: [true, true, false],
     allowed: [false; 3],
     is_open: false,
     services: [4420; 4],
@@ -170,11 +200,14 @@ pub fn line_of(change: Change) -> Line<'static> {
         Change::Regroup(at, group) => {
             Line::NamespaceGroup(A, u64::from(nsid_of(at)), group as u64)
         }
+        Change::See(sight) => line_of_sight(sight),
         Change::SetState(port, group, state) => {
             Line::AnaSet(port as u64, A, group as u64, state)
         }
         Change::Link(port) => Line::LinkAdd(port as u64, A),
         Change::Unlink(port) => Line::LinkDel(port as u64, A),
+        Change::AddHost(host) => Line::HostAdd(host_name(host)),
+        Change::DeleteHost(host) => Line::HostDel(host_name(host)),
         Change::Allow(host) => Line::AllowAdd(A, host_name(host)),
         Change::Forbid(host) => Line::AllowDel(A, host_name(host)),
         Change::SetAccess(access) => Line::SubsystemSet(A, access),
@@ -188,6 +221,16 @@ pub fn line_of(change: Change) -> Line<'static> {
             Line::ReferralSet(id as u64, Family::Ipv4, b"127.0.0.9", u64::from(service))
         }
         Change::DeleteReferral(id) => Line::ReferralDel(id as u64),
+    }
+}
+
+fn line_of_sight(sight: Sight) -> Line<'static> {
+    match sight {
+        Sight::View(at, visibility) => {
+            Line::NamespaceView(A, u64::from(nsid_of(at)), visibility)
+        }
+        Sight::Show(at, host) => { Line::NamespaceShow(A, u64::from(nsid_of(at)), host_name(host)) }
+        Sight::Hide(at, host) => { Line::NamespaceHide(A, u64::from(nsid_of(at)), host_name(host)) }
     }
 }
 
@@ -217,6 +260,47 @@ impl Layout {
         self.linked[port % 4] && (self.is_open || self.allowed[host % 3])
     }
 
+    /// Whether a namespace is there and a host sees it: each host does, or it is shown to this one.
+    pub fn sees(&self, host: usize, at: usize) -> bool {
+        self.namespace(at).is_some() && (!self.named[at % 4] || self.is_shown(at, host))
+    }
+
+    /// The same with those namespaces alone that a host sees.
+    pub fn seen_by(&self, host: usize) -> Layout {
+        let mut seen = *self;
+        for at in 1..4usize {
+            if !self.sees(host, at) {
+                seen.namespaces[at] = None;
+            }
+        }
+        seen
+    }
+
+    /// Whether a host is shown a namespace, whoever sees that.
+    pub fn is_shown(&self, at: usize, host: usize) -> bool {
+        self.shown[at % 4][host % 3]
+    }
+
+    /// Whether a host is shown any.
+    pub fn has_show(&self, host: usize) -> bool {
+        self.is_shown(1, host) || self.is_shown(2, host) || self.is_shown(3, host)
+    }
+
+    /// How many namespaces are there.
+    pub fn count(&self) -> u8 {
+        self.count_in(1).saturating_add(self.count_in(2))
+    }
+
+    fn accepts_sight(&self, sight: Sight) -> bool {
+        match sight {
+            Sight::View(at, _) => self.namespace(at).is_some(),
+            Sight::Show(at, host) => {
+                self.namespace(at).is_some() && self.live[host % 3] && !self.is_shown(at, host)
+            }
+            Sight::Hide(at, host) => self.is_shown(at, host),
+        }
+    }
+
     /// Whether the target accepts an edit.
     pub fn accepts(&self, change: Change) -> bool {
         match change {
@@ -224,9 +308,14 @@ impl Layout {
             Change::Delete(at) | Change::Resize(at, _) | Change::Regroup(at, _) => {
                 self.namespace(at).is_some()
             }
+            Change::See(sight) => self.accepts_sight(sight),
             Change::Link(port) => !self.linked[port % 4],
             Change::Unlink(port) | Change::SetState(port, _, _) => self.linked[port % 4],
-            Change::Allow(host) => !self.allowed[host % 3],
+            Change::AddHost(host) => !self.live[host % 3],
+            Change::DeleteHost(host) => {
+                self.live[host % 3] && !self.allowed[host % 3] && !self.has_show(host)
+            }
+            Change::Allow(host) => self.live[host % 3] && !self.allowed[host % 3],
             Change::Forbid(host) => self.allowed[host % 3],
             Change::SetAccess(_) | Change::SetPort(_, _) => true,
             Change::AddReferral(id, _) => self.referrals[id % 4] == 0,
@@ -236,28 +325,42 @@ impl Layout {
         }
     }
 
+    // A namespace comes, and each host sees it, or goes, and its shows with it.
+    fn put(&mut self, at: usize, namespace: Option<Namespace>) {
+        self.namespaces[at % 4] = namespace;
+        self.named[at % 4] = false;
+        self.shown[at % 4] = [false; 3];
+    }
+
+    fn see(&mut self, sight: Sight) {
+        match sight {
+            Sight::View(at, visibility) => self.named[at % 4] = visibility == Visibility::Named,
+            Sight::Show(at, host) => self.shown[at % 4][host % 3] = true,
+            Sight::Hide(at, host) => self.shown[at % 4][host % 3] = false,
+        }
+    }
+
     /// What an edit that is accepted leaves. The ANA states of a link go with it.
     pub fn after(&self, change: Change) -> Layout {
         let mut after = *self;
         match change {
-            Change::Add(at, namespace) => after.namespaces[at % 4] = Some(namespace),
-            Change::Delete(at) => after.namespaces[at % 4] = None,
+            Change::Add(at, namespace) => after.put(at, Some(namespace)),
+            Change::Delete(at) => after.put(at, None),
             Change::Resize(at, blocks) => {
-                if let Some(n) = self.namespace(at) {
-                    after.namespaces[at % 4] = Some(Namespace { blocks, ..n });
-                }
+                after.namespaces[at % 4] = self.namespace(at).map(|n| Namespace { blocks, ..n });
             }
             Change::Regroup(at, group) => {
-                if let Some(n) = self.namespace(at) {
-                    after.namespaces[at % 4] = Some(Namespace { group, ..n });
-                }
+                after.namespaces[at % 4] = self.namespace(at).map(|n| Namespace { group, ..n });
             }
+            Change::See(sight) => after.see(sight),
             Change::SetState(port, group, state) => after.states[port % 4][group % 3] = state,
             Change::Link(port) => after.linked[port % 4] = true,
             Change::Unlink(port) => {
                 after.linked[port % 4] = false;
                 after.states[port % 4] = [AnaState::Optimized; 3];
             }
+            Change::AddHost(host) => after.live[host % 3] = true,
+            Change::DeleteHost(host) => after.live[host % 3] = false,
             Change::Allow(host) => after.allowed[host % 3] = true,
             Change::Forbid(host) => after.allowed[host % 3] = false,
             Change::SetAccess(access) => after.is_open = access == Access::Open,
@@ -303,7 +406,8 @@ impl Layout {
     }
 }
 
-/// Whether an edit changes the size, the block size or the presence of a namespace.
+/// Whether from one to the next, as a host sees both, a namespace changes its size, its block size or its
+/// presence.
 pub fn changes_namespace(old: &Layout, new: &Layout, at: usize) -> bool {
     match (old.namespace(at), new.namespace(at)) {
         (Some(old), Some(new)) => old.blocks != new.blocks || old.is_large != new.is_large,
@@ -331,26 +435,37 @@ fn are_moved(old: &Layout, new: &Layout, group: usize) -> bool {
     false
 }
 
-/// Whether an edit changes what a controller of a port shows of a group.
+/// Whether from one to the next, as a host sees both, its controllers of a port show something else of a group.
 pub fn changes_group(old: &Layout, new: &Layout, port: usize, group: usize) -> bool {
     let is_there = old.has_group(group) || new.has_group(group);
     let state = old.states[port % 4][group % 3];
     are_moved(old, new, group) || is_there && state != new.states[port % 4][group % 3]
 }
 
-/// Whether an edit changes what a controller of a port shows of any group.
+/// Whether they show something else of any group.
 pub fn changes_groups(old: &Layout, new: &Layout, port: usize) -> bool {
     changes_group(old, new, port, 1) || changes_group(old, new, port, 2)
 }
 
 /// Whether an edit changes what a controller shows of a kind. A controller without a kind shows nothing of it.
 pub fn changes_view(old: &Layout, new: &Layout, queue: usize, kind: Kind) -> bool {
-    let place = place_of(queue);
+    let Place {
+        host,
+        port,
+        is_discovery,
+    } = place_of(queue);
     match kind {
-        Kind::Namespace => !place.is_discovery && changes_namespaces(old, new),
-        Kind::Ana => !place.is_discovery && changes_groups(old, new, place.port),
-        Kind::Discovery => {
-            place.is_discovery && old.records(place.host) != new.records(place.host)
+        Kind::Namespace => {
+            !is_discovery && changes_namespaces(&old.seen_by(host), &new.seen_by(host))
         }
+        Kind::Ana => {
+            !is_discovery && changes_groups(&old.seen_by(host), &new.seen_by(host), port)
+        }
+        Kind::Discovery => is_discovery && old.records(host) != new.records(host),
     }
+}
+
+/// Whether an edit changes the namespaces that a host sees.
+pub fn changes_sight(old: &Layout, new: &Layout, host: usize) -> bool {
+    changes_namespaces(&old.seen_by(host), &new.seen_by(host))
 }

@@ -55,18 +55,14 @@ fn state_code(state: AnaState) -> u8 {
     }
 }
 
-// The descriptor of an ANA group that is there, before its namespaces.
+// The descriptor of an ANA group of which the host sees a namespace, before its namespaces.
 fn group_head(past: &Past, queue: usize, group: u8, count: u8) -> [u8; 32] {
     let at = usize::from(group);
     let port = place_of(queue).port;
     let mut head = [0u8; 32];
     head[0] = group;
     head[4] = count;
-    put(
-        &mut head,
-        8,
-        &past.changes(queue, port, Some(at)).to_le_bytes(),
-    );
+    put(&mut head, 8, &past.changes(queue, Some(at)).to_le_bytes());
     head[16] = state_code(past.layout().states[port % 4][at % 3]);
     head
 }
@@ -90,7 +86,7 @@ fn add_group(
     if groups_only {
         return page.extend_from_slice(&group_head(past, queue, group, 0));
     }
-    let layout = past.layout();
+    let layout = past.seen(queue);
     let count = layout.count_in(usize::from(group));
     page.extend_from_slice(&group_head(past, queue, group, count))?;
     add_namespaces(&layout, group, page)
@@ -98,25 +94,19 @@ fn add_group(
 
 fn ana_header(past: &Past, queue: usize, groups: u8) -> [u8; 16] {
     let mut header = [0u8; 16];
-    put(
-        &mut header,
-        0,
-        &past
-            .changes(queue, place_of(queue).port, None)
-            .to_le_bytes(),
-    );
+    put(&mut header, 0, &past.changes(queue, None).to_le_bytes());
     header[8] = groups;
     header
 }
 
-// The Asymmetric Namespace Access log page of a controller.
+// The Asymmetric Namespace Access log page of a controller: a group is there where its host sees one of its namespaces.
 fn ana_page(
     past: &Past,
     queue: usize,
     groups_only: bool,
     page: &mut Vec<u8>,
 ) -> Result<(), AllocError> {
-    let layout = past.layout();
+    let layout = past.seen(queue);
     let groups = u8::from(layout.has_group(1)).saturating_add(u8::from(layout.has_group(2)));
     page.extend_from_slice(&ana_header(past, queue, groups))?;
     for group in [1u8, 2] {

@@ -1,7 +1,7 @@
 //! All that happened, the oldest first, and what a look back over it says.
 use super::layout::{
     AT_FIRST, Change, KINDS, Kind, Layout, changes_group, changes_groups, changes_namespace,
-    changes_view, place_of,
+    changes_sight, changes_view, place_of,
 };
 use std::alloc::{AllocError, Global};
 
@@ -10,7 +10,7 @@ use std::alloc::{AllocError, Global};
 pub enum Happened {
     /// What was there before it, and what is there after it.
     Edited(Layout, Layout),
-    /// Each of 1,024 further namespaces of group 1 came and went.
+    /// Each of 1,024 further namespaces of group 1 came, and each host saw it, and went.
     Swept,
     Connected(usize),
     Reset(usize),
@@ -101,6 +101,16 @@ fn empties(happened: &Happened, queue: usize) -> bool {
     }
 }
 
+// Whether an edit changed a group, or any group, of a controller, as its host sees it.
+fn changes_groups_of(old: &Layout, new: &Layout, queue: usize, group: Option<usize>) -> bool {
+    let place = place_of(queue);
+    let (old, new) = (old.seen_by(place.host), new.seen_by(place.host));
+    match group {
+        Some(group) => changes_group(&old, &new, place.port, group),
+        None => changes_groups(&old, &new, place.port),
+    }
+}
+
 impl Past {
     /// Nothing happened yet.
     pub fn new(alloc: Global) -> Past {
@@ -139,6 +149,41 @@ impl Past {
             }
         }
         AT_FIRST
+    }
+
+    /// What is there as the host of a controller sees it.
+    pub fn seen(&self, queue: usize) -> Layout {
+        self.layout().seen_by(place_of(queue).host)
+    }
+
+    /// Whether a controller waits for an event of its namespaces: the next change of these is one.
+    pub fn awaits_namespaces(&self, queue: usize) -> bool {
+        let now = self.list.len();
+        !place_of(queue).is_discovery
+            && self.oldest(queue).is_some()
+            && self.is_enabled(queue, Kind::Namespace, now)
+            && !self.is_owed_before(queue, Kind::Namespace, now)
+    }
+
+    /// Whether a namespace that is there was hidden from a host.
+    pub fn was_hidden(&self, at: usize, host: usize) -> bool {
+        let mut was_hidden = false;
+        for happened in &self.list {
+            if let Happened::Edited(old, new) = happened {
+                let stays = old.namespace(at).is_some() && new.namespace(at).is_some();
+                let hides = old.is_shown(at, host) && !new.is_shown(at, host);
+                was_hidden = stays && (was_hidden || hides);
+            }
+        }
+        was_hidden
+    }
+
+    /// Whether what happened at this place changed the namespaces that a host sees.
+    pub fn changes_sight(&self, host: usize, place: usize) -> bool {
+        match self.list.get(place) {
+            Some(Happened::Edited(old, new)) => changes_sight(old, new, host),
+            _ => false,
+        }
     }
 
     // What its Asynchronous Event Configuration was before what happened at this place.
@@ -288,12 +333,13 @@ impl Past {
         None
     }
 
-    /// Whether a namespace changed since the list of a controller was emptied.
+    /// Whether a namespace changed, as its host sees it, since the list of a controller was emptied.
     pub fn has_changed(&self, queue: usize, at: usize) -> bool {
+        let host = place_of(queue).host;
         let mut changed = false;
         for happened in &self.list {
             if let Happened::Edited(old, new) = happened {
-                changed = changed || changes_namespace(old, new, at);
+                changed = changed || changes_namespace(&old.seen_by(host), &new.seen_by(host), at);
             }
             changed = changed && !empties(happened, queue);
         }
@@ -310,17 +356,14 @@ impl Past {
         swept
     }
 
-    /// How many edits changed a group, or any group, of a port, since its controller was enabled.
-    pub fn changes(&self, queue: usize, port: usize, group: Option<usize>) -> u64 {
+    /// How many edits changed a group, or any group, of a controller, as its host sees it, since it was enabled.
+    pub fn changes(&self, queue: usize, group: Option<usize>) -> u64 {
         let mut count = 0u64;
         for happened in &self.list {
             match happened {
                 Happened::Enabled(it) | Happened::Connected(it) if *it == queue => count = 0,
                 Happened::Edited(old, new) => {
-                    let is_counted = match group {
-                        Some(group) => changes_group(old, new, port, group),
-                        None => { changes_groups(old, new, port) }
-                    };
+                    let is_counted = changes_groups_of(old, new, queue, group);
                     count = count.saturating_add(u64::from(is_counted));
                 }
                 Happened::Swept if group != Some(2) => count = count.saturating_add(SWEEP_EDITS),

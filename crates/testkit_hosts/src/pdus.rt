@@ -1,15 +1,15 @@
 //! PDUs that a host sends on an admin queue.
 use super::bytes::put;
-use super::layout::{DISCOVERY_NQN, place_of};
+use super::layout::{DISCOVERY_NQN, QUEUES, place_of};
 use std::alloc::{AllocError, Global};
 use testkit_edits::{A, capsule, host_name};
 
 /// SQSIZE of each queue.
-const SQSIZES: [u8; 6] = [31, 4, 7, 31, 3, 5];
+const SQSIZES: [u8; QUEUES] = [31, 4, 7, 31, 6, 31, 3, 5];
 
 /// SQSIZE of a queue.
 pub fn sqsize_of(queue: usize) -> u8 {
-    SQSIZES[queue % 6]
+    SQSIZES[queue % QUEUES]
 }
 
 /// A Get Log Page.
@@ -32,6 +32,8 @@ pub enum Command {
     /// Asynchronous Event Request.
     Request,
     Read(Read),
+    /// Identify of this CNS and this NSID.
+    Identify(u8, u32),
     /// Set Features of Asynchronous Event Configuration, and whether it is to be saved.
     SetEvents(u32, bool),
     GetEvents,
@@ -51,11 +53,20 @@ fn read_entry(entry: &mut [u8; 64], read: &Read) {
     put(entry, 48, &read.offset.to_le_bytes());
 }
 
+fn identify_entry(entry: &mut [u8; 64], cns: u8, nsid: u32) {
+    entry[0] = 0x06;
+    put(entry, 4, &nsid.to_le_bytes());
+    put(entry, 32, &4_096u32.to_le_bytes());
+    entry[39] = 0x5A;
+    entry[40] = cns;
+}
+
 fn entry_of(cid: u16, command: &Command) -> [u8; 64] {
     let mut entry = [0u8; 64];
     match command {
         Command::Request => entry[0] = 0x0C,
         Command::Read(read) => read_entry(&mut entry, read),
+        Command::Identify(cns, nsid) => identify_entry(&mut entry, *cns, *nsid),
         Command::SetEvents(mask, saves) => {
             entry[0] = 0x09;
             entry[40] = 0x0B;

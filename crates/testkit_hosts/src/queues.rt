@@ -52,6 +52,17 @@ pub struct Seen {
     pub overflowed: usize,
     /// Controllers that edits ended.
     pub ended: usize,
+    /// Edits that changed the namespaces that one of the first two hosts sees, and not those of the other.
+    pub apart: usize,
+    /// Controllers that waited for an event of their namespaces, and that such an edit of another's left waiting.
+    pub left: usize,
+    /// Log pages, and structures of Identify, told to a host that did not see all namespaces.
+    pub partial: usize,
+    /// Namespaces that were deleted while a host was shown them, and shown again to a host that saw them before.
+    pub deleted: usize,
+    pub again: usize,
+    /// Hosts that were forbidden the subsystem while they were shown a namespace.
+    pub forbidden: usize,
 }
 
 /// Nothing yet.
@@ -66,6 +77,12 @@ pub const NOTHING_SEEN: Seen = Seen {
     full: 0,
     overflowed: 0,
     ended: 0,
+    apart: 0,
+    left: 0,
+    partial: 0,
+    deleted: 0,
+    again: 0,
+    forbidden: 0,
 };
 
 impl Seen {

@@ -25,7 +25,7 @@ pub fn start(alloc: Global) -> Result<Followed, AllocError> {
 
 /// The plan of an edit that the configuration accepts, where it does.
 pub fn plan(followed: &mut Followed, edit: &Edit) -> Result<Option<Plan>, AllocError>
-    ensures { IfOk result (λ plan. IfSome plan (IsPlannedFor followed.new.view.room)) }
+    ensures { IfOk result (λ plan. IfSome plan (IsPlannedFor followed.new.view)) }
 {
     if followed.config.check(edit).is_err() {
         return Ok(None);
@@ -35,7 +35,7 @@ pub fn plan(followed: &mut Followed, edit: &Edit) -> Result<Option<Plan>, AllocE
 
 /// The same, by the configuration after the edit.
 pub fn plan_to(followed: &mut Followed, edit: &Edit) -> Result<Option<Plan>, AllocError>
-    ensures { IfOk result (λ plan. IfSome plan (IsPlannedFor followed.new.view.room)) }
+    ensures { IfOk result (λ plan. IfSome plan (IsPlannedFor followed.new.view)) }
 {
     if followed.config.check(edit).is_err() {
         return Ok(None);
@@ -47,7 +47,7 @@ pub fn plan_to(followed: &mut Followed, edit: &Edit) -> Result<Option<Plan>, All
 
 /// Makes an edit that was planned; whether the configuration makes it too.
 pub fn make(followed: &mut Followed, edit: &Edit, plan: Plan) -> bool
-    requires { IsPlannedFor followed.old.view.room plan }
+    requires { IsPlannedFor followed.old.view plan }
 {
     let applied = followed.config.apply(edit).is_ok();
     followed.view.commit(plan);

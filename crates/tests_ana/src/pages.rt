@@ -1,11 +1,11 @@
 //! The bytes of log pages (Base 2.0, section 5.16.1.13), typed from the standard's table.
 use super::followed::{Followed, edit_of, make, plan, start};
 use ana_view::AnaCounts;
-use nvt_config::{Access, AnaState, Edit};
+use nvt_config::{Access, AnaState, Edit, Visibility};
 use std::alloc::{AllocError, Global};
-use testkit_edits::{A, B, Blocks, Line};
+use testkit_edits::{A, B, Blocks, H0, H1, Line};
 
-// What a test does, or expects of the controller of A on port 1.
+// What a test does, or expects of the controller of the first host, of A on port 1.
 #[derive(Clone, Copy)]
 enum Step {
     // An edit that is accepted; whether it changes what the controller shows.
@@ -26,17 +26,17 @@ fn shows(followed: &Followed, counts: &AnaCounts, groups_only: bool, page: &[u8]
     let mut bytes = [0xA5; LEN];
     followed
         .view
-        .window(A, 1, counts, groups_only, 0, &mut bytes);
+        .window(H0, A, 1, counts, groups_only, 0, &mut bytes);
     let (front, rest) = bytes.split_at(page.len().min(LEN));
     front == page
         && !rest.iter().any(|byte| *byte != 0)
-        && followed.view.len(A, 1, groups_only) == page.len() as u64
+        && followed.view.len(H0, A, 1, groups_only) == page.len() as u64
 }
 
 fn shows_part(followed: &Followed, counts: &AnaCounts, offset: u64, part: &[u8]) -> bool {
     let mut bytes = [0xA5; LEN];
     let (front, rest) = bytes.split_at_mut(part.len().min(LEN));
-    followed.view.window(A, 1, counts, false, offset, front);
+    followed.view.window(H0, A, 1, counts, false, offset, front);
     *front == *part && !rest.iter().any(|byte| *byte != 0xA5)
 }
 
@@ -49,7 +49,7 @@ fn is_made(
     let Some(plan) = plan(followed, edit)? else {
         return Ok(false);
     };
-    let changed = counts.note(&plan, A, 1);
+    let changed = counts.note(&plan, H0, A, 1);
     Ok(make(followed, edit, plan) && changed == changes)
 }
 
@@ -205,13 +205,80 @@ const STEPS: &[Step] = &[
     Step::Make(Line::LinkDel(1, A), true),
 ];
 
-fn starts_and_fails(alloc: Global) -> Result<usize, AllocError> {
+fn starts_and_fails(alloc: Global, steps: &[Step]) -> Result<usize, AllocError> {
     let mut followed = start(alloc)?;
-    Ok(first_wrong(alloc, &mut followed, STEPS))
+    Ok(first_wrong(alloc, &mut followed, steps))
 }
 
 #[test]
 fn pages_have_the_bytes_of_the_table(rt: HostRuntime) {
-    let wrong = starts_and_fails(rt.alloc());
+    let wrong = starts_and_fails(rt.alloc(), STEPS);
+    assert!(rt; wrong == Ok(0), "the first wrong step: {wrong:?}");
+}
+
+// Namespace 3 is hidden, and group 2 with it: one change, of the page.
+const HIDDEN: &[u8] = b"\
+    \x01\0\0\0\0\0\0\0\x01\0\0\0\0\0\0\0\
+    \x01\0\0\0\x02\0\0\0\0\0\0\0\0\0\0\0\
+    \x01\0\0\0\0\0\0\0\0\0\0\0\0\0\0\0\
+    \x01\0\0\0\x02\0\0\0\
+    ";
+
+// It is shown, hidden and shown again: with the first, four changes of group 2, whose state is another meanwhile.
+const SHOWN: &[u8] = b"\
+    \x04\0\0\0\0\0\0\0\x02\0\0\0\0\0\0\0\
+    \x01\0\0\0\x02\0\0\0\0\0\0\0\0\0\0\0\
+    \x01\0\0\0\0\0\0\0\0\0\0\0\0\0\0\0\
+    \x01\0\0\0\x02\0\0\0\x02\0\0\0\x01\0\0\0\
+    \x04\0\0\0\0\0\0\0\x0F\0\0\0\0\0\0\0\
+    \0\0\0\0\0\0\0\0\x03\0\0\0\
+    ";
+
+// Namespace 1 is shown to the other host alone: a change of group 1, which keeps one.
+const FEWER: &[u8] = b"\
+    \x05\0\0\0\0\0\0\0\x02\0\0\0\0\0\0\0\
+    \x01\0\0\0\x01\0\0\0\x01\0\0\0\0\0\0\0\
+    \x01\0\0\0\0\0\0\0\0\0\0\0\0\0\0\0\
+    \x02\0\0\0\x02\0\0\0\x01\0\0\0\x04\0\0\0\
+    \0\0\0\0\x0F\0\0\0\0\0\0\0\0\0\0\0\
+    \0\0\0\0\x03\0\0\0\
+    ";
+
+const SIGHTS: &[Step] = &[
+    Step::Make(Line::PortAdd(1, b"127.0.0.1", 4420), false),
+    Step::Make(Line::SubsystemAdd(A, b"SN", Access::Open), false),
+    Step::Make(Line::LinkAdd(1, A), false),
+    Step::Make(Line::HostAdd(H0), false),
+    Step::Make(Line::HostAdd(H1), false),
+    Step::Make(Line::AnaSet(1, A, 2, AnaState::Inaccessible), false),
+    Step::Make(Line::NamespaceAdd(A, THIRD), true),
+    Step::Make(Line::NamespaceAdd(A, OTHER), true),
+    Step::Make(Line::NamespaceAdd(A, ONE), true),
+    Step::Enable,
+    Step::Shows(FIRST),
+    Step::Make(Line::NamespaceShow(A, 1, H1), false),
+    Step::Make(Line::NamespaceView(A, 3, Visibility::Named), true),
+    Step::Shows(HIDDEN),
+    Step::Make(Line::NamespaceShow(A, 3, H1), false),
+    Step::Make(Line::AnaSet(1, A, 2, AnaState::Change), false),
+    Step::Shows(HIDDEN),
+    Step::Make(Line::NamespaceShow(A, 3, H0), true),
+    Step::Make(Line::NamespaceHide(A, 3, H0), true),
+    Step::Make(Line::NamespaceHide(A, 3, H1), false),
+    Step::Make(Line::NamespaceShow(A, 3, H0), true),
+    Step::Shows(SHOWN),
+    Step::Make(Line::NamespaceView(A, 3, Visibility::All), false),
+    Step::Make(Line::NamespaceHide(A, 3, H0), false),
+    Step::Shows(SHOWN),
+    Step::Make(Line::NamespaceView(A, 1, Visibility::Named), true),
+    Step::Make(Line::NamespaceHide(A, 1, H1), false),
+    Step::Make(Line::NamespaceGroup(A, 1, 2), false),
+    Step::Make(Line::NamespaceDel(A, 1), false),
+    Step::Shows(FEWER),
+];
+
+#[test]
+fn pages_show_what_a_host_sees(rt: HostRuntime) {
+    let wrong = starts_and_fails(rt.alloc(), SIGHTS);
     assert!(rt; wrong == Ok(0), "the first wrong step: {wrong:?}");
 }

@@ -2,36 +2,44 @@
 use super::followed::{Followed, edit_of, make, plan_to, start};
 use super::seen::{GROUPS, Group, NSIDS, PLACES, Past, Place, code};
 use ana_view::{AnaCounts, AnaGroup, AnaView, Plan};
-use nvt_config::{Access, AnaState, Edit};
+use nvt_config::{Access, AnaState, Config, Edit, Visibility};
 use rand_core::utils::NextWord;
 use rand_pcg::Pcg32;
 use std::alloc::{AllocError, Global};
-use testkit_edits::{A, B, Line, on_disk};
+use testkit_edits::{A, B, H0, H1, H2, Line, on_disk};
 
-const SCRIPTS: u64 = 3;
+const SCRIPTS: u64 = 6;
 
-const EDITS: usize = 45;
+const EDITS: usize = 80;
 
-// The counts of a controller, and after how many looks of the plain program it was enabled.
+// The counts of a controller, after how many looks of the plain program it was enabled, and whether the latest plan
+// changes what it shows.
 #[derive(Drop)]
 struct Counted {
     counts: AnaCounts,
     enabled: usize,
+    noted: bool,
 }
 
-// Those of each of PLACES.
-#[derive(Drop)]
-struct Controllers {
-    first: Counted,
-    second: Counted,
-    third: Counted,
+// How many edits were made, and how many of them changed what a controller shows, and not what one of another host
+// of the same subsystem and port does.
+#[derive(Clone, Copy)]
+struct Made {
+    edits: usize,
+    apart: usize,
 }
 
-fn at_first() -> Counted {
-    Counted {
-        counts: AnaCounts::new(),
-        enabled: 1,
+// One for each of PLACES.
+fn controllers(alloc: Global) -> Result<Vec<Counted>, AllocError> {
+    let mut all = Vec::new(alloc);
+    for _ in PLACES {
+        all.push(Counted {
+            counts: AnaCounts::new(),
+            enabled: 1,
+            noted: false,
+        })?;
     }
+    Ok(all)
 }
 
 fn state(random: &mut Pcg32) -> AnaState {
@@ -58,10 +66,39 @@ fn group_id(random: &mut Pcg32) -> u64 {
     }
 }
 
-fn line(random: &mut Pcg32) -> Line<'static> {
+// The stranger is named now and then.
+fn host(random: &mut Pcg32) -> &'static [u8] {
+    match random.next_word() % 9 {
+        0 => H2,
+        1..=4 => H1,
+        _ => H0,
+    }
+}
+
+// An edit of who sees a namespace that is there, if one is.
+fn sight(random: &mut Pcg32, config: &Config) -> Line<'static> {
+    let at = random.next_word() as usize % config.namespaces().len().max(1);
+    let Some(namespace) = config.namespaces().get(at) else {
+        return Line::NamespaceView(A, 1, Visibility::Named);
+    };
+    let nqn = if namespace.subsystem.as_bytes() == B {
+        B
+    } else {
+        A
+    };
+    let nsid = u64::from(namespace.nsid);
+    match random.next_word() % 8 {
+        0 => Line::NamespaceView(nqn, nsid, Visibility::All),
+        1..=3 => Line::NamespaceView(nqn, nsid, Visibility::Named),
+        4 | 5 => Line::NamespaceShow(nqn, nsid, host(random)),
+        _ => Line::NamespaceHide(nqn, nsid, host(random)),
+    }
+}
+
+fn line(random: &mut Pcg32, config: &Config) -> Line<'static> {
     let nqn = if random.next_word() % 3 == 0 { B } else { A };
     let port = u64::from(random.next_word() % 2 + 1);
-    match random.next_word() % 12 {
+    match random.next_word() % 20 {
         0..=3 => {
             let disk = (random.next_word() % 8) as u8;
             Line::NamespaceAdd(nqn, on_disk(nsid(random), disk, group_id(random)))
@@ -71,6 +108,7 @@ fn line(random: &mut Pcg32) -> Line<'static> {
         6 => Line::NamespaceGroup(nqn, nsid(random), group_id(random)),
         7 => Line::LinkDel(port, nqn),
         8 => Line::LinkAdd(port, nqn),
+        9..=16 => sight(random, config),
         _ => Line::AnaSet(port, nqn, group_id(random), state(random)),
     }
 }
@@ -83,6 +121,8 @@ const FIRST: &[Line<'static>] = &[
     Line::LinkAdd(1, A),
     Line::LinkAdd(2, A),
     Line::LinkAdd(1, B),
+    Line::HostAdd(H0),
+    Line::HostAdd(H1),
 ];
 
 // The page by the plain program: its header, and each group with its members.
@@ -140,7 +180,8 @@ fn are_lent(view: &AnaView, past: &Past, at: usize, place: Place) -> bool {
     for (number, id) in GROUPS.iter().enumerate() {
         let seen = past.group(at, number);
         if seen.members != 0 {
-            let Some(group) = view.group(place.subsystem, place.port, count) else {
+            let group = view.group(place.host, place.subsystem, place.port, count);
+            let Some(group) = group else {
                 return false;
             };
             if !is_seen(group, *id, seen) {
@@ -149,7 +190,8 @@ fn are_lent(view: &AnaView, past: &Past, at: usize, place: Place) -> bool {
             count = count.saturating_add(1);
         }
     }
-    view.group(place.subsystem, place.port, count).is_none()
+    let beyond = view.group(place.host, place.subsystem, place.port, count);
+    beyond.is_none()
 }
 
 fn is_shown(
@@ -166,6 +208,7 @@ fn is_shown(
     let mut bytes = [0xA5; 160];
     let view = &followed.view;
     view.window(
+        place.host,
         place.subsystem,
         place.port,
         &counted.counts,
@@ -174,7 +217,7 @@ fn is_shown(
         &mut bytes,
     );
     let (front, rest) = bytes.split_at(page.len().min(160));
-    let len = view.len(place.subsystem, place.port, false);
+    let len = view.len(place.host, place.subsystem, place.port, false);
     let is_same = *front == *page && !rest.iter().any(|byte| *byte != 0);
     Ok(is_same && len == page.len() as u64 && are_lent(view, past, at, *place))
 }
@@ -183,115 +226,136 @@ fn are_shown(
     alloc: Global,
     followed: &Followed,
     past: &Past,
-    all: &Controllers,
+    all: &[Counted],
 ) -> Result<bool, AllocError> {
-    Ok(
-        is_shown(alloc, followed, past, &all.first, 0)?
-            && is_shown(alloc, followed, past, &all.second, 1)?
-            && is_shown(alloc, followed, past, &all.third, 2)?,
-    )
+    for (at, counted) in all.iter().enumerate() {
+        if !is_shown(alloc, followed, past, counted, at)? {
+            return Ok(false);
+        }
+    }
+    Ok(true)
 }
 
-// Whether each controller is said to show something else exactly where it will.
-fn count_changes(all: &mut Controllers, plan: &Plan) -> (bool, bool, bool) {
-    (
-        all.first.counts.note(plan, A, 1),
-        all.second.counts.note(plan, A, 2),
-        all.third.counts.note(plan, B, 1),
-    )
+// Each controller is said to show something else, or not.
+fn note_changes(all: &mut [Counted], plan: &Plan) {
+    for (counted, place) in all.iter_mut().zip(PLACES) {
+        let Place {
+            host,
+            subsystem,
+            port,
+        } = place;
+        counted.noted = counted.counts.note(plan, host, subsystem, port);
+    }
 }
 
-fn is_noted(past: &Past, place: usize, noted: bool) -> bool {
-    (past.changes(past.looks().saturating_sub(1), place, 3) == 1) == noted
+// Whether this was said exactly where it does.
+fn are_noted(past: &Past, all: &[Counted]) -> bool {
+    let before = past.looks().saturating_sub(1);
+    for (at, counted) in all.iter().enumerate() {
+        if (past.changes(before, at, 3) == 1) != counted.noted {
+            return false;
+        }
+    }
+    true
+}
+
+// The first controller and the fourth are of different hosts, and show the same groups but for that.
+fn is_apart(all: &[Counted]) -> bool {
+    match all {
+        [first, _, _, fourth, _] => first.noted != fourth.noted,
+        _ => false,
+    }
 }
 
 // Makes an edit, where it is accepted; whether it changed what was said.
 fn is_counted(
     followed: &mut Followed,
     past: &mut Past,
-    all: &mut Controllers,
+    all: &mut [Counted],
     edit: &Edit,
+    made: &mut Made,
 ) -> Result<bool, AllocError> {
     let Some(plan) = plan_to(followed, edit)? else {
         return Ok(true);
     };
-    let (first, second, third) = count_changes(all, &plan);
-    let made = make(followed, edit, plan);
+    note_changes(all, &plan);
+    let is_made = make(followed, edit, plan);
     past.look(&followed.config)?;
-    Ok(made && is_noted(past, 0, first) && is_noted(past, 1, second) && is_noted(past, 2, third))
+    made.edits = made.edits.saturating_add(1);
+    made.apart = made.apart.saturating_add(usize::from(is_apart(all)));
+    Ok(is_made && are_noted(past, all))
 }
 
 fn is_edit_right(
     alloc: Global,
     followed: &mut Followed,
     past: &mut Past,
-    all: &mut Controllers,
+    all: &mut [Counted],
     edit: &Edit,
+    made: &mut Made,
 ) -> Result<bool, AllocError> {
-    Ok(is_counted(followed, past, all, edit)? && are_shown(alloc, followed, past, all)?)
+    Ok(is_counted(followed, past, all, edit, made)? && are_shown(alloc, followed, past, all)?)
 }
 
 fn is_right(
     alloc: Global,
     followed: &mut Followed,
     past: &mut Past,
-    all: &mut Controllers,
+    all: &mut [Counted],
     line: Line<'_>,
+    made: &mut Made,
 ) -> Result<bool, AllocError> {
     match edit_of(alloc, line) {
-        Some(edit) => is_edit_right(alloc, followed, past, all, &edit),
+        Some(edit) => is_edit_right(alloc, followed, past, all, &edit, made),
         None => Ok(false),
     }
 }
 
 // The first controller is enabled again, now and then.
-fn enable(random: &mut Pcg32, past: &Past, counted: &mut Counted) {
-    if random.next_word() % 12 == 0 {
+fn enable(random: &mut Pcg32, past: &Past, all: &mut [Counted]) {
+    if random.next_word() % 12 == 0
+        && let Some(counted) = all.first_mut()
+    {
         counted.counts.reset();
         counted.enabled = past.looks();
     }
 }
 
-// The number of the first line that goes wrong, counted from 1; how many edits were made is added.
+// The number of the first line that goes wrong, counted from 1; what was made is added.
 fn first_wrong(
     alloc: Global,
     followed: &mut Followed,
     seed: u64,
-    made: &mut usize,
+    made: &mut Made,
 ) -> Result<usize, AllocError> {
     let mut random = Pcg32::new(seed, 0);
     let mut past = Past::new(alloc);
     past.look(&followed.config)?;
-    let mut all = Controllers {
-        first: at_first(),
-        second: at_first(),
-        third: at_first(),
-    };
+    let mut all = controllers(alloc)?;
     for at in 0..EDITS {
         let next = match FIRST.get(at) {
             Some(first) => *first,
-            None => line(&mut random),
+            None => line(&mut random, &followed.config),
         };
-        if !is_right(alloc, followed, &mut past, &mut all, next)? {
+        if !is_right(alloc, followed, &mut past, &mut all, next, made)? {
             return Ok(at.saturating_add(1));
         }
-        enable(&mut random, &past, &mut all.first);
+        enable(&mut random, &past, &mut all);
     }
-    *made = made.saturating_add(past.looks());
     Ok(0)
 }
 
-fn starts_and_fails(alloc: Global, seed: u64, made: &mut usize) -> Result<usize, AllocError> {
+fn starts_and_fails(alloc: Global, seed: u64, made: &mut Made) -> Result<usize, AllocError> {
     let mut followed = start(alloc)?;
     first_wrong(alloc, &mut followed, seed, made)
 }
 
 #[test]
 fn pages_and_counts_are_what_a_look_back_says(rt: HostRuntime) {
-    let mut made = 0;
+    let mut made = Made { edits: 0, apart: 0 };
     for seed in 0..SCRIPTS {
         let wrong = starts_and_fails(rt.alloc(), seed, &mut made);
         assert!(rt; wrong == Ok(0), "seed {seed}, line {wrong:?}");
     }
-    assert!(rt; made > 70);
+    assert!(rt; made.edits > 150 && made.apart > 12);
 }

@@ -1,7 +1,7 @@
-//! A plain program: it keeps what was to be seen of the groups after each edit, and looks back over it.
-use nvt_config::{AnaState, Config};
+//! A plain program: it keeps what each host was to see of the groups after each edit, and looks back over it.
+use nvt_config::{AnaState, Config, Namespace, Visibility};
 use std::alloc::{AllocError, Global};
-use testkit_edits::{A, B};
+use testkit_edits::{A, B, H0, H1, H2};
 
 /// The identifiers that tests use.
 pub const NSIDS: [u32; 5] = [1, 255, 1_024, 1_025, 4_096];
@@ -9,31 +9,45 @@ pub const NSIDS: [u32; 5] = [1, 255, 1_024, 1_025, 4_096];
 /// The groups that tests use.
 pub const GROUPS: [u32; 3] = [1, 2, 32];
 
-/// A controller's subsystem and its port.
+/// A controller's host, its subsystem and its port.
 #[derive(Clone, Copy)]
 pub struct Place {
+    pub host: &'static [u8],
     pub subsystem: &'static [u8],
     pub port: u16,
 }
 
-/// The controllers.
-pub const PLACES: [Place; 3] = [
+/// The controllers: of two hosts, and of a stranger, which is never added.
+pub const PLACES: [Place; 5] = [
     Place {
+        host: H0,
         subsystem: A,
         port: 1,
     },
     Place {
+        host: H0,
         subsystem: A,
         port: 2,
     },
     Place {
+        host: H1,
         subsystem: B,
+        port: 1,
+    },
+    Place {
+        host: H1,
+        subsystem: A,
+        port: 1,
+    },
+    Place {
+        host: H2,
+        subsystem: A,
         port: 1,
     },
 ];
 
-// What is to be seen of a group: which of NSIDS are in it, as bits by their place, and its state. A
-// group that holds none has neither.
+// What is to be seen of a group: which of NSIDS are in it and seen by the host, as bits by their place, and its
+// state. A group that holds none has neither.
 #[derive(Clone, Copy, PartialEq, Eq)]
 pub struct Group {
     pub members: u32,
@@ -43,7 +57,7 @@ pub struct Group {
 // .. of each group of each controller, in a row.
 #[derive(Clone, Copy)]
 struct Seen {
-    groups: [Group; 9],
+    groups: [Group; 15],
 }
 
 /// What was to be seen at first and after each edit, the oldest first.
@@ -68,11 +82,23 @@ pub fn code(state: AnaState) -> u8 {
     }
 }
 
-fn members(config: &Config, subsystem: &[u8], group: u32) -> u32 {
+// Whether a host sees a namespace: each does, or one of the shows says so.
+fn sees(config: &Config, host: &[u8], namespace: &Namespace) -> bool {
+    let is_shown = config.shows().iter().any(|show| {
+        show.subsystem == namespace.subsystem
+            && show.nsid == namespace.nsid
+            && show.host.as_bytes() == host
+    });
+    namespace.visibility == Visibility::All || is_shown
+}
+
+fn members(config: &Config, place: Place, group: u32) -> u32 {
     let mut members = 0u32;
     for namespace in config.namespaces() {
         for (at, nsid) in NSIDS.iter().enumerate() {
-            let is_in = namespace.subsystem.as_bytes() == subsystem && namespace.group == group;
+            let is_in = namespace.subsystem.as_bytes() == place.subsystem
+                && namespace.group == group
+                && sees(config, place.host, namespace);
             if is_in && namespace.nsid == *nsid && at < 5 {
                 members |= 1 << at;
             }
@@ -93,7 +119,7 @@ fn state(config: &Config, place: Place, group: u32) -> u8 {
 }
 
 fn group_of(config: &Config, place: Place, group: u32) -> Group {
-    match members(config, place.subsystem, group) {
+    match members(config, place, group) {
         0 => NONE,
         members => Group {
             members,
@@ -103,7 +129,7 @@ fn group_of(config: &Config, place: Place, group: u32) -> Group {
 }
 
 fn look_at(config: &Config) -> Seen {
-    let mut groups = [NONE; 9];
+    let mut groups = [NONE; 15];
     let mut at = 0usize;
     for place in PLACES {
         for id in GROUPS {

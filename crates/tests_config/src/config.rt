@@ -4,7 +4,9 @@ mod outline;
 mod refusals;
 
 use config_rules::laws::accepted_stays_valid;
-use nvt_config::{Access, AnaState, Config, EditFault, Family, NewFault, Port, Subsystem, Text};
+use nvt_config::{
+    Access, AnaState, Config, EditFault, Family, NewFault, Port, Subsystem, Text, Visibility,
+};
 use outline::check_lists;
 use std::alloc::{AllocError, Global};
 use testkit_edits::{Blocks, Line, is_applied, is_same};
@@ -115,10 +117,12 @@ const ALL_FILLED: &[Line<'static>] = &[
     Line::AllowAdd(b"nqn.a", b"nqn.j"),
     Line::AnaSet(2, b"nqn.b", 32, AnaState::PersistentLoss),
     Line::ReferralAdd(3, b"127.0.0.9", 8009),
+    Line::NamespaceView(b"nqn.c", 7, Visibility::Named),
+    Line::NamespaceShow(b"nqn.c", 7, b"nqn.j"),
 ];
 
 const ALL_LISTS: &[u8] =
-    b" a b c 1:4420 2:4420 3:4420 1a 1b 2b h (i) j c7.1=9/2 b+h a+j 2b32p >3:8009";
+    b" a b c 1:4420 2:4420 3:4420 1a 1b 2b h (i) j c7.1=9/2* b+h a+j 2b32p >3:8009 c7~j";
 
 fn check_same(copy: &Config, config: &Config) -> Outcome {
     pass!(check(is_same(copy, config), "an equal copy"));

@@ -1,6 +1,6 @@
 //! Random edits of each command, with values of any width that keeps their lines within 1,024 bytes.
 use line_words::Command;
-use nvt_config::{Access, AnaState, Edit, Family};
+use nvt_config::{Access, AnaState, Edit, Family, Visibility};
 use nvt_fields::NqnFault;
 use rand_core::utils::NextWord;
 use rand_pcg::Pcg32;
@@ -76,6 +76,10 @@ fn access(random: &mut Pcg32) -> Access {
     pick(random, Access::Open, &[Access::Closed])
 }
 
+fn visibility(random: &mut Pcg32) -> Visibility {
+    pick(random, Visibility::All, &[Visibility::Named])
+}
+
 fn family(random: &mut Pcg32) -> Family {
     pick(random, Family::Ipv4, &[Family::Ipv6])
 }
@@ -142,6 +146,11 @@ impl Texts {
             Command::NamespaceSize => Line::NamespaceSize(name, number(random), number(random)),
             Command::NamespaceGroup => Line::NamespaceGroup(name, number(random), number(random)),
             Command::NamespaceDel => Line::NamespaceDel(name, number(random)),
+            Command::NamespaceView => {
+                Line::NamespaceView(name, number(random), visibility(random))
+            }
+            Command::NamespaceShow => Line::NamespaceShow(name, number(random), host),
+            Command::NamespaceHide => Line::NamespaceHide(name, number(random), host),
             Command::PortAdd => Line::PortAdd(number(random), address, number(random)),
             Command::PortSet => {
                 Line::PortSet(number(random), family(random), address, number(random))

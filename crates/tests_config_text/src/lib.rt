@@ -1,5 +1,6 @@
 //! Tests of the text of edits, through the public calls: random edits are written and read back,
-//! lines with a byte more or less are no longer theirs, and the texts of the faults.
+//! lines with a byte more or less are no longer theirs, the texts of the faults, and the lines of some
+//! edits and of none, word by word.
 #![tactic(auto)]
 
 #[cfg(test)]
@@ -8,3 +9,5 @@ mod drawn;
 mod faults;
 #[cfg(test)]
 mod lines;
+#[cfg(test)]
+mod shows;

@@ -19,8 +19,8 @@ const LINE_MAX: usize = 1_024;
 // What stands in a buffer before a line is written behind it.
 const BEFORE: &[u8] = b"before\n";
 
-// A line says an edit that is this one, and is written the same.
-fn check_read_back(alloc: Global, edit: &Edit, line: &[u8]) -> Outcome {
+/// A line says an edit that is this one, and is written the same.
+pub fn check_read_back(alloc: Global, edit: &Edit, line: &[u8]) -> Outcome {
     match read_edit(alloc, line) {
         Ok(read) => check(is_same_edit(&read, edit), "the edit that is read back").and(
             check_written(alloc, &read, line),
@@ -36,8 +36,8 @@ fn buffer(alloc: Global, room: usize) -> Result<BytesMut, AllocError> {
     Ok(out)
 }
 
-// The edit's line is this one, where there is room for it alone.
-fn check_written(alloc: Global, edit: &Edit, line: &[u8]) -> Outcome {
+/// The edit's line is this one, where there is room for it alone.
+pub fn check_written(alloc: Global, edit: &Edit, line: &[u8]) -> Outcome {
     let mut out = buffer(alloc, line.len())?;
     let written = write_edit(edit, &mut out);
     check_line(&out, written, line)

@@ -2,7 +2,7 @@
 use super::followed::{Followed, UNITS, follow, page, start};
 use super::plain;
 use line_words::{COMMANDS, Command};
-use nvt_config::{Access, AnaState, Edit, Family};
+use nvt_config::{Access, AnaState, Edit, Family, Visibility};
 use rand_core::utils::NextWord;
 use rand_pcg::Pcg32;
 use std::alloc::{AllocError, Global};
@@ -74,6 +74,10 @@ fn blocks(random: &mut Pcg32) -> Blocks {
     }
 }
 
+fn visibility(random: &mut Pcg32) -> Visibility {
+    pick(random, Visibility::Named, &[Visibility::All])
+}
+
 // The commands of which others need the items, and the rarest that is accepted: they come more often.
 const FREQUENT: &[Command] = &[
     Command::SubsystemAdd,
@@ -102,6 +106,11 @@ pub fn line(command: Command, random: &mut Pcg32) -> Line<'static> {
         Command::NamespaceSize => Line::NamespaceSize(name(random), nsid(random), 2),
         Command::NamespaceGroup => Line::NamespaceGroup(name(random), nsid(random), 2),
         Command::NamespaceDel => Line::NamespaceDel(name(random), nsid(random)),
+        Command::NamespaceView => {
+            Line::NamespaceView(name(random), nsid(random), visibility(random))
+        }
+        Command::NamespaceShow => Line::NamespaceShow(name(random), nsid(random), host(random)),
+        Command::NamespaceHide => Line::NamespaceHide(name(random), nsid(random), host(random)),
         Command::PortAdd => Line::PortAdd(port(random), address(random), service(random)),
         Command::PortSet => {
             Line::PortSet(

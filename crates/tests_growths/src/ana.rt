@@ -1,7 +1,7 @@
-//! The view of ANA groups: it is made, and follows edits, which a controller counts.
+//! The view of ANA groups: it is made, and follows edits, which a controller of each of two hosts counts.
 ghost use Rattle.ana_view.specs.View.{IsPlannedFor};
 
-use super::lists::{EDITS, UNITS};
+use super::lists::{EDITS, ONE, OTHER, UNITS};
 use ana_view::{AnaCounts, AnaView, Plan};
 use nvt_config::{Config, Edit, EditFault};
 use std::alloc::{AllocError, Global};
@@ -15,7 +15,8 @@ use testkit_tables::{Outcome, Placed, check, check_bytes, check_number};
 struct Followed {
     config: Config,
     view: AnaView,
-    counts: AnaCounts,
+    one: AnaCounts,
+    other: AnaCounts,
 }
 
 fn start(alloc: Global) -> Result<Followed, AllocError> {
@@ -24,17 +25,19 @@ fn start(alloc: Global) -> Result<Followed, AllocError> {
     Ok(Followed {
         config,
         view,
-        counts: AnaCounts::new(),
+        one: AnaCounts::new(),
+        other: AnaCounts::new(),
     })
 }
 
 // Makes an edit that is planned; where memory is wanted for it, nothing is counted.
 fn make(followed: &mut Followed, edit: &Edit, plan: Plan) -> Result<bool, AllocError>
-    requires { IsPlannedFor followed.old.view.room plan }
+    requires { IsPlannedFor followed.old.view plan }
 {
     match followed.config.apply(edit) {
         Ok(()) => {
-            followed.counts.note(&plan, A, 1);
+            followed.one.note(&plan, ONE, A, 1);
+            followed.other.note(&plan, OTHER, A, 1);
             followed.view.commit(plan);
             Ok(true)
         }
@@ -59,19 +62,33 @@ fn follow(alloc: Global, followed: &mut Followed, line: Line<'_>) -> Result<bool
     }
 }
 
-// The page of A's controllers on port 1 up to its first descriptor's end.
-fn shown(followed: &Followed) -> [u8; 52] {
+// The page of a host's controller of A on port 1 up to its first descriptor's end.
+fn shown_to(followed: &Followed, host: &[u8], counts: &AnaCounts) -> [u8; 52] {
     let mut page = [0x5A; 52];
     followed
         .view
-        .window(A, 1, &followed.counts, false, 0, &mut page);
+        .window(host, A, 1, counts, false, 0, &mut page);
     page
 }
 
-// Group 1 has changed three times, and is inaccessible with namespace 3 alone.
-const LAST: &[u8; 52] = b"\
-    \x03\0\0\0\0\0\0\0\x01\0\0\0\0\0\0\0\
-    \x01\0\0\0\x01\0\0\0\x03\0\0\0\0\0\0\0\
+fn shown(followed: &Followed) -> [[u8; 52]; 2] {
+    [
+        shown_to(followed, ONE, &followed.one),
+        shown_to(followed, OTHER, &followed.other),
+    ]
+}
+
+// The one host sees no group: namespace 7 came, was hidden, shown and deleted, and 3 came and was hidden.
+const LAST_OF_ONE: &[u8; 52] = b"\
+    \x06\0\0\0\0\0\0\0\0\0\0\0\0\0\0\0\
+    \0\0\0\0\0\0\0\0\0\0\0\0\0\0\0\0\
+    \0\0\0\0\0\0\0\0\0\0\0\0\0\0\0\0\
+    \0\0\0\0";
+
+// Of the other, 7 was hidden once more in place of deleted, and 3 was shown: group 1 is inaccessible, with 3 alone.
+const LAST_OF_OTHER: &[u8; 52] = b"\
+    \x07\0\0\0\0\0\0\0\x01\0\0\0\0\0\0\0\
+    \x01\0\0\0\x01\0\0\0\x07\0\0\0\0\0\0\0\
     \x03\0\0\0\0\0\0\0\0\0\0\0\0\0\0\0\
     \x03\0\0\0";
 
@@ -86,8 +103,10 @@ fn is_followed(alloc: Global, followed: &mut Followed, line: Line<'_>) -> Result
 }
 
 fn check_last(followed: &Followed) -> Outcome {
-    check_bytes(&shown(followed), LAST)?;
-    check_number(followed.view.len(A, 1, false) as u64, 52)
+    check_bytes(&shown_to(followed, ONE, &followed.one), LAST_OF_ONE)?;
+    check_bytes(&shown_to(followed, OTHER, &followed.other), LAST_OF_OTHER)?;
+    check_number(followed.view.len(ONE, A, 1, false), 16)?;
+    check_number(followed.view.len(OTHER, A, 1, false), 52)
 }
 
 fn follow_all(alloc: Global, followed: &mut Followed) -> Result<Outcome, AllocError> {

@@ -1,7 +1,7 @@
 //! The configuration: each kind of edit, and its copies.
 use nvt_config::{
-    Allow, Config, Edit, EditFault, GroupState, Host, Link, Namespace, NewFault, Port, Subsystem,
-    Text,
+    Allow, Config, Edit, EditFault, GroupState, Host, Link, Namespace, NewFault, Port, Show,
+    Subsystem, Text,
 };
 use std::alloc::{AllocError, Global};
 use std::test::Fail;
@@ -59,8 +59,12 @@ fn is_edited(config: &Config) -> bool {
         config.allows().len(),
         config.states().len(),
         config.referrals().len(),
+        config.shows().len(),
     ];
-    lens == [2, 1, 1, 1, 2, 1, 1, 1, 1] && config.may_use(HOST, A, 1)
+    lens == [2, 1, 1, 1, 2, 1, 1, 1, 1, 1]
+        && config.may_use(HOST, A, 1)
+        && config.namespace(HOST, A, 1).is_some()
+        && config.namespace(b"nqn.i", A, 1).is_none()
 }
 
 fn is_subsystem_copied(subsystem: &Subsystem) -> Result<bool, AllocError> {
@@ -103,6 +107,11 @@ fn is_state_copied(state: &GroupState) -> Result<bool, AllocError> {
     Ok(copy.subsystem == state.subsystem)
 }
 
+fn is_show_copied(show: &Show) -> Result<bool, AllocError> {
+    let copy = show.clone()?;
+    Ok(copy.subsystem == show.subsystem && copy.host == show.host)
+}
+
 fn subsystems_are_copied(subsystems: &[Subsystem]) -> Result<bool, AllocError> {
     let mut are_copied = true;
     for subsystem in subsystems {
@@ -137,6 +146,9 @@ fn of_subsystems_are_copied(config: &Config) -> Result<bool, AllocError> {
     }
     for state in config.states() {
         are_copied &= is_state_copied(state)?;
+    }
+    for show in config.shows() {
+        are_copied &= is_show_copied(show)?;
     }
     Ok(are_copied)
 }

@@ -2,7 +2,7 @@
 use bytes::BytesMut;
 use config_text::{LineFaultKind, Lines, read_edit};
 use number_table::NumberTable;
-use nvt_config::{Access, AnaState, Edit, Family};
+use nvt_config::{Access, AnaState, Edit, Family, Visibility};
 use nvt_fields::{FatalErrorStatus, Nqn, NqnFault, Status, nqn_field};
 use pdu_codec::{C2hData, CapsuleResp, Full, IcResp, TermReq};
 use pdu_cut::{Cut, RxBuf, Side};
@@ -145,6 +145,9 @@ ns add nqn.a 1 0 8 4096 11111111-1111-1111-1111-111111111111 1
 ns size nqn.a 1 8
 ns group nqn.a 1 2
 ns del nqn.a 1
+ns view nqn.a 1 named
+ns show nqn.a 1 nqn.h
+ns hide nqn.a 1 nqn.h
 port add 1 ipv4 127.0.0.1 4420
 port set 1 ipv6 ::1 4420
 port del 1
@@ -168,6 +171,9 @@ const SAID: &[Line<'static>] = &[
     Line::NamespaceSize(b"nqn.a", 1, 8),
     Line::NamespaceGroup(b"nqn.a", 1, 2),
     Line::NamespaceDel(b"nqn.a", 1),
+    Line::NamespaceView(b"nqn.a", 1, Visibility::Named),
+    Line::NamespaceShow(b"nqn.a", 1, b"nqn.h"),
+    Line::NamespaceHide(b"nqn.a", 1, b"nqn.h"),
     Line::PortAdd(1, b"127.0.0.1", 4420),
     Line::PortSet(1, Family::Ipv6, b"::1", 4420),
     Line::PortDel(1),

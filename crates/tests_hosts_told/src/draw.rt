@@ -1,8 +1,11 @@
 //! What a host sends and an edit changes, drawn at random.
-use nvt_config::{Access, AnaState};
+use nvt_config::{Access, AnaState, Visibility};
 use rand_core::utils::NextWord;
 use rand_pcg::Pcg32;
-use testkit_hosts::{ANA, CHANGED, Change, Command, DISCOVERY, Namespace, Read, place_of};
+use testkit_hosts::{
+    ACTIVE, ANA, CHANGED, Change, Command, DESCRIPTORS, DISCOVERY, Layout, NAMESPACE, Namespace,
+    Read, Sight, place_of,
+};
 
 /// The values of CC: a controller is enabled, shut down, or reset.
 pub const ENABLED: u32 = 0x0046_0001;
@@ -28,6 +31,11 @@ fn one(random: &mut Pcg32) -> usize {
 
 fn host(random: &mut Pcg32) -> usize {
     below(random, 2) as usize
+}
+
+// One of the two hosts, and now and then the one that is never added.
+fn viewer(random: &mut Pcg32) -> usize {
+    if rarely(random, 12) { 2 } else { host(random) }
 }
 
 // A namespace, by its place among the three.
@@ -61,8 +69,8 @@ fn service(random: &mut Pcg32) -> u16 {
     if rarely(random, 2) { 4420 } else { 8009 }
 }
 
-// An edit of a namespace or of the state of a group.
-fn blocks_change(random: &mut Pcg32) -> Change {
+/// An edit of a namespace or of the state of a group.
+pub fn blocks_change(random: &mut Pcg32) -> Change {
     let at = namespace_at(random);
     match below(random, 8) {
         0 => Change::Delete(at),
@@ -73,6 +81,27 @@ fn blocks_change(random: &mut Pcg32) -> Change {
     }
 }
 
+/// A namespace is hidden from a host, or shown to it where it is not.
+pub fn turn(random: &mut Pcg32, layout: &Layout) -> Change {
+    let (at, host) = (namespace_at(random), host(random));
+    if layout.is_shown(at, host) {
+        Change::See(Sight::Hide(at, host))
+    } else {
+        Change::See(Sight::Show(at, host))
+    }
+}
+
+/// An edit of who sees a namespace.
+pub fn sight(random: &mut Pcg32) -> Sight {
+    let at = namespace_at(random);
+    match below(random, 8) {
+        0 => Sight::View(at, Visibility::All),
+        1 | 2 => Sight::View(at, Visibility::Named),
+        3..=5 => Sight::Show(at, viewer(random)),
+        _ => Sight::Hide(at, viewer(random)),
+    }
+}
+
 // An edit of who may use what, or of a record.
 fn record_change(random: &mut Pcg32) -> Change {
     let id = one(random);
@@ -80,7 +109,9 @@ fn record_change(random: &mut Pcg32) -> Change {
         0 => Change::Unlink(id),
         1..=3 => Change::Link(id),
         4 => Change::Forbid(host(random)),
-        5..=7 => Change::Allow(host(random)),
+        5 | 6 => Change::Allow(host(random)),
+        7 if rarely(random, 2) => Change::DeleteHost(host(random)),
+        7 => Change::AddHost(host(random)),
         8 if rarely(random, 2) => Change::SetAccess(Access::Open),
         8 => Change::SetAccess(Access::Closed),
         9 => Change::SetPort(id, service(random)),
@@ -92,10 +123,10 @@ fn record_change(random: &mut Pcg32) -> Change {
 
 /// An edit.
 pub fn change(random: &mut Pcg32) -> Change {
-    if rarely(random, 3) {
-        record_change(random)
-    } else {
-        blocks_change(random)
+    match below(random, 3) {
+        0 => record_change(random),
+        1 => Change::See(sight(random)),
+        _ => blocks_change(random),
     }
 }
 
@@ -146,6 +177,28 @@ fn read(random: &mut Pcg32, queue: usize) -> Read {
     }
 }
 
+// The identifier of a namespace, one that none has, or one that none may have.
+fn nsid(random: &mut Pcg32) -> u32 {
+    match below(random, 12) {
+        0 => 0,
+        1 => 2,
+        2 => 4_097,
+        3 => 0xFFFF_FFFE,
+        4 | 5 => 1,
+        6..=8 => 1_025,
+        _ => 4_096,
+    }
+}
+
+fn identify(random: &mut Pcg32) -> Command {
+    match below(random, 6) {
+        0 | 1 => Command::Identify(NAMESPACE, nsid(random)),
+        2 => Command::Identify(ACTIVE, nsid(random)),
+        3 => Command::Identify(ACTIVE, 0),
+        _ => Command::Identify(DESCRIPTORS, nsid(random)),
+    }
+}
+
 /// All kinds of events, or some; other bits too.
 pub fn mask(random: &mut Pcg32) -> u32 {
     let some = random.next_word();
@@ -158,14 +211,15 @@ pub fn mask(random: &mut Pcg32) -> u32 {
 
 /// A command of a queue.
 pub fn command(random: &mut Pcg32, queue: usize) -> Command {
-    match below(random, 40) {
-        0..=15 => Command::Request,
-        16..=29 => Command::Read(read(random, queue)),
-        30 => Command::SetEvents(0x8000_0900, true),
-        31..=33 => Command::SetEvents(mask(random), false),
-        34 | 35 => Command::GetEvents,
-        36 | 37 => Command::KeepAlive,
-        38 => Command::Configure(SHUT),
-        _ => Command::Configure(RESET),
+    match below(random, 48) {
+        0..=18 => Command::Request,
+        19..=33 => Command::Read(read(random, queue)),
+        34 => Command::SetEvents(0x8000_0900, true),
+        35..=37 => Command::SetEvents(mask(random), false),
+        38 | 39 => Command::GetEvents,
+        40 | 41 => Command::KeepAlive,
+        42 => Command::Configure(SHUT),
+        43 => Command::Configure(RESET),
+        _ => identify(random),
     }
 }

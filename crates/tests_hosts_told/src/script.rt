@@ -71,8 +71,7 @@ impl Script {
 
     // An edit that was made is told.
     fn tells(&mut self, change: Change) -> Outcome {
-        let place = self.hosts.past.len();
-        self.hosts.past.hear_edit(change)?;
+        let place = self.hosts.make(change)?;
         self.are_told(place)
     }
 

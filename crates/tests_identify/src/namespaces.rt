@@ -1,6 +1,6 @@
 //! A namespace of more blocks than a replay gives one.
 use crate::fields::{Field, OLD, shows};
-use config_lists::{BlockSize, Namespace};
+use config_lists::{BlockSize, Namespace, Visibility};
 use identify_data::namespace;
 use nvt_fields::Nqn;
 use std::alloc::Global;
@@ -33,6 +33,7 @@ fn a_namespace(
         block_size,
         uuid: Uuid::parse_str("11223344-5566-4788-99aa-bbccddeeff01")?,
         group,
+        visibility: Visibility::All,
     })
 }
 

@@ -8,6 +8,7 @@ use crate::lists::Lists;
 use config_edits::{Edit, EditFault, Item};
 use config_lists::allow::{has_allow, is_host_allowed};
 use config_lists::host::{has_host, has_live_host};
+use config_lists::show::is_host_shown;
 use nvt_fields::Nqn;
 
 const HOSTS_MAX: usize = 256;
@@ -36,7 +37,8 @@ impl Lists<'_> {
         refuse(
             is_host_allowed(self.allows, nqn),
             EditFault::InUse(Item::Allow),
-        )
+        )?;
+        refuse(is_host_shown(self.shows, nqn), EditFault::InUse(Item::Show))
     }
 
     pub(super) fn check_allow_add(&self, subsystem: &Nqn, host: &Nqn) -> Result<(), EditFault>
@@ -75,7 +77,7 @@ impl Lists<'_> {
         self.wants_host(host)
     }
 
-    fn wants_host(&self, nqn: &Nqn) -> Result<(), EditFault>
+    pub(super) fn wants_host(&self, nqn: &Nqn) -> Result<(), EditFault>
         ensures { result ≡ refuse (not (has_live_host self.now.hosts nqn.now))
             (EditFault.NoSuch Item.Host) (Ok tt) }
     {

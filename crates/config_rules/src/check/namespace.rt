@@ -106,7 +106,7 @@ impl Lists<'_> {
     }
 
     // The subsystem and its namespace.
-    fn wants_namespace(&self, subsystem: &Nqn, nsid: u64) -> Result<(), EditFault>
+    pub(super) fn wants_namespace(&self, subsystem: &Nqn, nsid: u64) -> Result<(), EditFault>
         ensures { result ≡
             refuse (not (has_subsystem self.now.subsystems subsystem.now))
             (EditFault.NoSuch Item.Subsystem) (

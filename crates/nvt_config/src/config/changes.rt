@@ -5,7 +5,8 @@ ghost use Rattle.config_rules.specs.Configuration.{with_namespace, with_namespac
 ghost use Rattle.config_rules.specs.Configuration.{with_new_host, with_new_state, with_port};
 ghost use Rattle.config_rules.specs.Configuration.{with_port_set, with_referral};
 ghost use Rattle.config_rules.specs.Configuration.{with_referral_set, with_state_set};
-ghost use Rattle.config_rules.specs.Configuration.{with_subsystem, without_allow, without_link};
+ghost use Rattle.config_rules.specs.Configuration.{with_show, with_subsystem, without_allow};
+ghost use Rattle.config_rules.specs.Configuration.{without_link, without_show};
 ghost use Rattle.config_rules.specs.Configuration.{without_namespace, without_port};
 ghost use Rattle.config_rules.specs.Configuration.{without_referral, without_state};
 ghost use Rattle.config_rules.specs.Configuration.{without_subsystem};
@@ -19,6 +20,7 @@ use config_lists::host::{Host, set_live};
 use config_lists::link::{Link, remove_link};
 use config_lists::namespace::{Namespace, Setting, remove_namespace, set_namespace};
 use config_lists::port::{Port, remove_port, replace_port};
+use config_lists::show::{Show, remove_show, remove_shows};
 use config_lists::subsystem::{Access, Subsystem, remove_subsystem, set_access};
 use nvt_fields::Nqn;
 
@@ -60,11 +62,13 @@ impl Config {
         set_namespace(&mut self.namespaces, nqn, nsid, value);
     }
 
+    // Its shows go with it.
     pub(super) fn remove_namespace(&mut self, nqn: &Nqn, nsid: u64)
         requires { IsValid (without_namespace self.old nqn.now nsid) }
         ensures { self.new ≡ without_namespace self.old nqn.now nsid }
     {
         remove_namespace(&mut self.namespaces, nqn, nsid);
+        remove_shows(&mut self.shows, nqn, nsid);
     }
 
     pub(super) fn add_port(&mut self, addition: Addition<Port>)
@@ -178,5 +182,20 @@ impl Config {
         ensures { self.new ≡ without_referral self.old id }
     {
         remove_port(&mut self.referrals, id);
+    }
+
+    pub(super) fn add_show(&mut self, addition: Addition<Show>)
+        requires room { length self.old.shows < vec_capacity addition.list }
+        requires valid { IsValid (with_show self.old addition.item) }
+        ensures { self.new ≡ with_show self.old addition.item }
+    {
+        addition.add_to(&mut self.shows);
+    }
+
+    pub(super) fn remove_show(&mut self, nqn: &Nqn, nsid: u64, host: &Nqn)
+        requires { IsValid (without_show self.old nqn.now nsid host.now) }
+        ensures { self.new ≡ without_show self.old nqn.now nsid host.now }
+    {
+        remove_show(&mut self.shows, nqn, nsid, host);
     }
 }

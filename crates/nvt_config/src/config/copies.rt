@@ -8,6 +8,7 @@ use config_lists::host::Host;
 use config_lists::link::Link;
 use config_lists::namespace::Namespace;
 use config_lists::port::Port;
+use config_lists::show::Show;
 use config_lists::subsystem::Subsystem;
 use std::alloc::AllocError;
 
@@ -28,11 +29,12 @@ pub(super) struct PortLists {
     pub(super) referrals: Vec<Port>,
 }
 
-/// Who may use it.
+/// Who may use it, and sees what of it.
 #[derive(Drop)]
 pub(super) struct HostLists {
     pub(super) hosts: Vec<Host>,
     pub(super) allows: Vec<Allow>,
+    pub(super) shows: Vec<Show>,
 }
 
 impl Config {
@@ -65,10 +67,12 @@ impl Config {
     pub(super) fn clone_hosts(&self) -> Result<HostLists, AllocError>
         ensures hosts { IfOk result (λ copy. copy.hosts.items ≡ self.now.hosts) }
         ensures allows { IfOk result (λ copy. copy.allows.items ≡ self.now.allows) }
+        ensures shows { IfOk result (λ copy. copy.shows.items ≡ self.now.shows) }
     {
         Ok(HostLists {
             hosts: self.hosts.clone()?,
             allows: self.allows.clone()?,
+            shows: self.shows.clone()?,
         })
     }
 }

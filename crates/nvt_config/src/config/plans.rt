@@ -2,6 +2,7 @@
 ghost use Rattle.std.specs.Prelude.{◌≡◌, ◌≤◌, IfOk, IsOk, IsTrue};
 ghost use Rattle.config_edits.specs.declared.edit.Edit.TheVariants.{AllowAdd, AnaSet, HostAdd};
 ghost use Rattle.config_edits.specs.declared.edit.Edit.TheVariants.{LinkAdd, NamespaceAdd};
+ghost use Rattle.config_edits.specs.declared.edit.Edit.TheVariants.{NamespaceShow};
 ghost use Rattle.config_edits.specs.declared.edit.Edit.TheVariants.{PortAdd, PortSet};
 ghost use Rattle.config_edits.specs.declared.edit.Edit.TheVariants.{ReferralAdd, ReferralSet};
 ghost use Rattle.config_edits.specs.declared.edit.Edit.TheVariants.{SubsystemAdd};
@@ -17,8 +18,9 @@ use config_lists::allow::Allow;
 use config_lists::group_state::{AnaState, GroupState, has_state};
 use config_lists::host::{Host, has_host};
 use config_lists::link::Link;
-use config_lists::namespace::{BlockSize, Namespace};
+use config_lists::namespace::{BlockSize, Namespace, Visibility};
 use config_lists::port::Port;
+use config_lists::show::Show;
 use config_lists::subsystem::{Access, Subsystem};
 use config_lists::text::Text;
 use nvt_fields::Nqn;
@@ -115,6 +117,25 @@ impl Config {
         Ok(Plan::new(Change::AddAllow(addition)))
     }
 
+    pub(super) fn plan_show<'e>(
+        &self,
+        subsystem: &Nqn,
+        nsid: u64,
+        host: &Nqn,
+    ) -> Result<Plan<'e>, AllocError>
+        requires { IsOk (accept self.now (NamespaceShow subsystem.now nsid host.now)) }
+        ensures { IfOk result (IsPlanOf self.now (NamespaceShow subsystem.now nsid host.now)) }
+    {
+        let there = self.shows.len();
+        let show = Show {
+            subsystem: subsystem.try_clone()?,
+            nsid: nsid as u32,
+            host: host.try_clone()?,
+        };
+        let addition = Addition::new(self.alloc(), show, there)?;
+        Ok(Plan::new(Change::AddShow(addition)))
+    }
+
     // Where no state is set, it is optimized; so that one is never kept.
     pub(super) fn plan_state<'e>(
         &self,
@@ -194,5 +215,6 @@ fn namespace_of(namespace: &NewNamespace) -> Result<Namespace, AllocError>
         block_size: BlockSize::of(namespace.block_size).unwrap_or(BlockSize::Bytes4096),
         uuid: namespace.uuid,
         group: namespace.group as u32,
+        visibility: Visibility::All,
     })
 }

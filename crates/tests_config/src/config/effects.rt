@@ -1,6 +1,6 @@
 use super::outline::{check_answer, check_lists};
 use super::{Script, holds};
-use nvt_config::{Access, AnaState, Config, Family};
+use nvt_config::{Access, AnaState, Config, Family, Visibility};
 use nvt_fields::DISCOVERY_NQN;
 use std::alloc::Global;
 use testkit_edits::{Blocks, Line};
@@ -173,6 +173,66 @@ const NAMESPACES: &[(Line<'static>, &[u8])] = &[
 #[test]
 fn of_namespaces(rt: HostRuntime) -> Outcome {
     holds(rt.alloc(), Script::Effects(NAMESPACES))
+}
+
+// Shows stay where every host sees their namespace, and go with it.
+const SHOWS: &[(Line<'static>, &[u8])] = &[
+    (Line::SubsystemAdd(b"nqn.a", b"SN", Access::Open), b" a"),
+    (Line::SubsystemAdd(b"nqn.b", b"SN", Access::Open), b" a b"),
+    (Line::HostAdd(b"nqn.h"), b" a b h"),
+    (Line::HostAdd(b"nqn.i"), b" a b h i"),
+    (Line::NamespaceAdd(b"nqn.a", FIRST), b" a b h i a2.1=8/3"),
+    (
+        Line::NamespaceAdd(b"nqn.b", SECOND),
+        b" a b h i a2.1=8/3 b2.0=1/32",
+    ),
+    (
+        Line::NamespaceShow(b"nqn.a", 2, b"nqn.i"),
+        b" a b h i a2.1=8/3 b2.0=1/32 a2~i",
+    ),
+    (
+        Line::NamespaceView(b"nqn.a", 2, Visibility::Named),
+        b" a b h i a2.1=8/3* b2.0=1/32 a2~i",
+    ),
+    (
+        Line::NamespaceView(b"nqn.a", 2, Visibility::Named),
+        b" a b h i a2.1=8/3* b2.0=1/32 a2~i",
+    ),
+    (
+        Line::NamespaceShow(b"nqn.b", 2, b"nqn.i"),
+        b" a b h i a2.1=8/3* b2.0=1/32 a2~i b2~i",
+    ),
+    (
+        Line::NamespaceShow(b"nqn.a", 2, b"nqn.h"),
+        b" a b h i a2.1=8/3* b2.0=1/32 a2~i b2~i a2~h",
+    ),
+    (
+        Line::NamespaceView(b"nqn.b", 2, Visibility::Named),
+        b" a b h i a2.1=8/3* b2.0=1/32* a2~i b2~i a2~h",
+    ),
+    (
+        Line::NamespaceView(b"nqn.a", 2, Visibility::All),
+        b" a b h i a2.1=8/3 b2.0=1/32* a2~i b2~i a2~h",
+    ),
+    (
+        Line::NamespaceHide(b"nqn.a", 2, b"nqn.i"),
+        b" a b h i a2.1=8/3 b2.0=1/32* b2~i a2~h",
+    ),
+    (
+        Line::NamespaceShow(b"nqn.a", 2, b"nqn.i"),
+        b" a b h i a2.1=8/3 b2.0=1/32* b2~i a2~h a2~i",
+    ),
+    (Line::NamespaceDel(b"nqn.a", 2), b" a b h i b2.0=1/32* b2~i"),
+    (Line::HostDel(b"nqn.h"), b" a b (h) i b2.0=1/32* b2~i"),
+    (
+        Line::NamespaceAdd(b"nqn.a", FIRST),
+        b" a b (h) i b2.0=1/32* a2.1=8/3 b2~i",
+    ),
+];
+
+#[test]
+fn of_shows(rt: HostRuntime) -> Outcome {
+    holds(rt.alloc(), Script::Effects(SHOWS))
 }
 
 const ALLOWS: &[(Line<'static>, &[u8])] = &[

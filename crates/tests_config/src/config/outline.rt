@@ -1,5 +1,7 @@
 //! The lists of a configuration as a line, and what edits are answered.
-use nvt_config::{Access, AnaState, Config, EditFault, GroupState, Namespace, Port};
+use nvt_config::{
+    Access, AnaState, Config, EditFault, GroupState, Namespace, Port, Show, Visibility,
+};
 use nvt_fields::Nqn;
 use std::alloc::Global;
 use testkit_edits::{Line, edit};
@@ -54,6 +56,16 @@ impl Outline {
         self.push_number(b'.', u64::from(namespace.disk));
         self.push_number(b'=', namespace.blocks);
         self.push_number(b'/', u64::from(namespace.group));
+        if namespace.visibility == Visibility::Named {
+            self.push(b'*');
+        }
+    }
+
+    fn push_show(&mut self, show: &Show) {
+        self.push(b' ');
+        self.push_number(last_letter(&show.subsystem), u64::from(show.nsid));
+        self.push(b'~');
+        self.push(last_letter(&show.host));
     }
 
     fn push_state(&mut self, state: &GroupState) {
@@ -94,14 +106,18 @@ impl Outline {
             self.push(b' ');
             self.push_port(b'>', referral);
         }
+        for show in config.shows() {
+            self.push_show(show);
+        }
     }
 }
 
 /// The configuration has these lists, each in its order: subsystems that are open as a
 /// letter, others in brackets; ports as a number and a service; links as a number and a letter;
 /// hosts that are live as a letter, others in brackets; namespaces as a letter and an identifier, a
-/// disk, a size and a group; allows as two letters; ANA states as a port, a letter, a group and a
-/// letter; referrals as ports behind a `>`.
+/// disk, a size and a group, with a `*` behind those that named hosts see; allows as two letters; ANA
+/// states as a port, a letter, a group and a letter; referrals as ports behind a `>`; shows as a letter
+/// and an identifier, and a letter.
 pub fn check_lists(config: &Config, lists: &[u8]) -> Outcome {
     let mut outline = Outline {
         bytes: [0; 96],

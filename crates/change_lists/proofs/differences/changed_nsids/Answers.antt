@@ -23,5 +23,5 @@ returns c =
     let new = c.args.new.now in
     let subsystem = c.args.subsystem.now in
     c.differing.ensures
-    ∙ nsids_alike (differs c.of-before.result c.of-after.result) (changes_namespace old new subsystem)
-    (changes old new subsystem c.of-before.result c.of-after.result (rw c.namespaces.ensures.lent at c.of-before.ensures.found) (rw c.namespaces-2.ensures.lent at c.of-after.ensures.found))
+    ∙ nsids_alike (differs c.table-before.result c.table-after.result) (changes_namespace old new subsystem)
+    (changes old new subsystem c.table-before.result c.table-after.result c.table-before.ensures.found c.table-after.ensures.found)

@@ -1,13 +1,15 @@
-use Rattle.std.proofs.Common.{◌≡◌, ◌+◌, ◌<◌, ◌==◌, ◌++◌, ◌∷◌, ◌&&◌, [], suc, length, take, ap, sym, ◌∙◌, arith}
-use Rattle.std.proofs.Math.Seq.{take-suc}
+use Rattle.std.proofs.Common.{◌≡◌, ◌+◌, ◌<◌, ◌==◌, ◌++◌, ◌∷◌, ◌&&◌, [], true, false, filter, length, take, ap, sym, subst, ◌∙◌, arith, inl, inr}
+use Rattle.std.proofs.lemmas.Bool.{and_parts, cases_Bool}
+use Rattle.std.proofs.lemmas.List.Elements.{filter_more}
 use Rattle.std.specs.Str.{bytes_eq}
 use Rattle.config_lists.specs.declared.namespace.Namespace.{Namespace}
 use Rattle.config_lists.specs.Namespace.{is_named}
+use Rattle.config_lists.specs.Show.{is_seen}
 use Rattle.config_words.specs.NsidSet.{with_nsid}
-use Rattle.config_tables.proofs.Tables.{length_of_put, table_first, table_passed, table_put}
+use Rattle.config_tables.proofs.Tables.{length_of_put, seen_more, seen_past, table_first, table_passed, table_put, unowned}
 use Rattle.config_tables.proofs.Taken.{none_taken, one_taken}
 use Rattle.config_tables.proofs.namespaces.set_places.Goals as goal
-use Rattle.config_tables.proofs.namespaces.set_places.Goals.{else-eq, then-eq}
+use Rattle.config_tables.proofs.namespaces.set_places.Goals.{else-is_seen_of, then-is_seen_of}
 
 pub loop-namespace-init : goal.loop-namespace-init
 loop-namespace-init c = record {
@@ -22,24 +24,29 @@ loop-namespace-preserved c =
     let n = c.namespace-item.result in
     let i = c.loop-namespace.namespace-index in
     let below : i < length all = c.loop-namespace-test.true in
-    let next : i + 1 ≡ suc i = omega arith in
-    let done : take (i + 1) all ≡ take i all ++ n ∷ [] = ap (λ k. take k all) next ∙ take-suc all i n below ∙ ap (λ (m : Namespace). take i all ++ m ∷ []) (sym c.namespace-item.is) in
-    let named = ap (λ bytes. bytes_eq bytes c.args.subsystem.now) (sym c.as_bytes.ensures) ∙ sym c.eq.ensures in
-    elim c.if-eq.branch [
-      | then-eq w ↦
-          let there = named ∙ w.if-eq.true in
-          let put = table_put (is_named c.args.subsystem.now) (take i all) _ c.loop-namespace.places n.nsid (λ k. ap (λ b. b && (n.nsid == k)) there) c.loop-namespace.invariant.table in
+    let subsystem = c.args.subsystem.now in
+    let seen : Namespace → _ = is_seen c.args.shows.now c.args.host.now in
+    let own = bytes_eq n.subsystem subsystem in
+    elim c.if-is_seen_of.branch [
+      | then-is_seen_of w ↦
+          let both = and_parts own (seen n) (sym c.is_seen_of.ensures ∙ w.if-is_seen_of.true) in
+          let done = seen_more seen all i n below c.namespace-item.is both.1 in
+          let put = table_put (is_named subsystem) (filter seen (take i all)) _ c.loop-namespace.places n.nsid (λ k. ap (λ b. b && (n.nsid == k)) both.0) c.loop-namespace.invariant.table in
           let taken = one_taken c.loop-namespace.places n.nsid _ c.loop-namespace.invariant.len in
           record {
             table = rw (done, w.places-is, w.put_first.ensures) put;
             taken = rw (w.taken-is, w.places-is, w.put_first.ensures) (w.insert.ensures ∙ ap (with_nsid n.nsid) c.loop-namespace.invariant.taken ∙ taken);
             len = rw (w.places-is, w.put_first.ensures) (length_of_put c.loop-namespace.places n.nsid _ ∙ c.loop-namespace.invariant.len);
           }
-      | else-eq w ↦
-          let elsewhere = named ∙ w.if-eq.false in
-          let passed = table_passed (is_named c.args.subsystem.now) (take i all) n c.loop-namespace.places (λ k. ap (λ b. b && (n.nsid == k)) elsewhere) c.loop-namespace.invariant.table in
+      | else-is_seen_of w ↦
+          let fails : (own && seen n) ≡ false = sym c.is_seen_of.ensures ∙ w.if-is_seen_of.false in
           record {
-            table = rw (done, w.places-is) passed;
+            table = rw (w.places-is) (elim (cases_Bool (seen n)) [
+              | inl there ↦
+                  let elsewhere = unowned own (seen n) fails there in
+                  rw (seen_more seen all i n below c.namespace-item.is there) (table_passed (is_named subsystem) (filter seen (take i all)) n c.loop-namespace.places (λ k. ap (λ b. b && (n.nsid == k)) elsewhere) c.loop-namespace.invariant.table)
+              | inr unseen ↦ rw (seen_past seen all i n below c.namespace-item.is unseen) c.loop-namespace.invariant.table
+            ]);
             taken = rw (w.taken-is, w.places-is) c.loop-namespace.invariant.taken;
             len = rw (w.places-is) c.loop-namespace.invariant.len;
           }

@@ -7,6 +7,6 @@ use Rattle.admin_queue.proofs.payload.Structure.write.Goals as goal
 
 pub returns-in-None : goal.returns-in-None
 returns-in-None c =
-    let none : namespace_in (controller_in c.args.controller.now).subsystem c.args.config.now c.in-Descriptors.nsid ≡ None =
+    let none : namespace_in (controller_in c.args.controller.now) c.args.config.now c.in-Descriptors.nsid ≡ None =
     sym c.namespace_of-in-Descriptors.ensures ∙ ap option_copied c.in-None.is in
     rw (c.in-Descriptors.is, none) (zeros_of c.write_zeros.new.out (length c.args.out.now) 4096 c.write_zeros.ensures c.requires)

@@ -2,11 +2,11 @@ use Rattle.std.proofs.Common.{◌≡◌, List, take, ◌∙◌}
 use Rattle.std.proofs.lemmas.List.{map-append, take_all}
 use Rattle.config_lists.specs.declared.subsystem.Subsystem.{Subsystem}
 use Rattle.ana_view.proofs.Pages.{take_next}
-use Rattle.ana_view.proofs.Ready.{names_of, none_shown, shown_next, shows_ana}
+use Rattle.ana_view.proofs.Shows.{names_of, none_ready, one_more_ready, shows_ana}
 use Rattle.ana_view.proofs.bodies.Bodies.of.Goals as goal
 
 pub loop-subsystem-init : goal.loop-subsystem-init
-loop-subsystem-init c = none_shown c.args.config.now c.new.result.values (c.new.ensures)
+loop-subsystem-init c = none_ready c.args.config.now (record { subsystems = c.new.result.values }) c.new.ensures
 
 pub loop-subsystem-preserved : goal.loop-subsystem-preserved
 loop-subsystem-preserved c =
@@ -16,7 +16,7 @@ loop-subsystem-preserved c =
     let s : Subsystem = c.subsystem-item.result in
     let more = take_next subsystems i s c.loop-subsystem-test.true c.subsystem-item.is in
     let adds = rw c.as_bytes.ensures at c.in_ok-add.ensures in
-    rw (more, map-append) (shown_next config (names_of (take i subsystems)) s.nqn c.loop-subsystem.bodies.shown c.add.new.self.shown c.loop-subsystem.invariant adds)
+    rw (more, map-append) (one_more_ready config (names_of (take i subsystems)) c.loop-subsystem.bodies.shown c.add.new.self.shown s.nqn adds c.loop-subsystem.invariant)
 
 pub returns : goal.returns
 returns c =

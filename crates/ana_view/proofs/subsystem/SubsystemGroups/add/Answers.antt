@@ -6,9 +6,9 @@ use Rattle.ana_view.proofs.subsystem.SubsystemGroups.add.Goals as goal
 
 pub returns-clause-listed : goal.returns-clause-listed
 returns-clause-listed c =
-    let config = c.args.config.now in
+    let seen = c.args.seen.now in
     let subsystem = c.args.subsystem.now in
     let are = rw (← c.self.view_is) at c.requires.listed in
-    let is : c.in_ok-list.list ≡ listed config subsystem c.args.port =
+    let is : c.in_ok-list.list ≡ listed seen subsystem c.args.port =
     c.in_ok-list.ensures ∙ listed_alike _ _ (λ group above below. c.of.ensures group (omega arith)) in
-    rw (c.in_ok-insert.ensures.entries) (put_listed config subsystem c.self.inside.ports.entries c.args.port c.in_ok-list.list are is)
+    rw (c.in_ok-insert.ensures.entries) (put_listed seen subsystem c.self.inside.ports.entries c.args.port c.in_ok-list.list are is)

@@ -6,6 +6,6 @@ use Rattle.ana_view.proofs.subsystem.SubsystemGroups.add_ports.Given as goal
 abbrev pub invariant-loop-state : goal.invariant-loop-state
 invariant-loop-state l = record {
   plain : l.self.plain ≡ l.fn.self.plain;
-  listed : AreListed l.config l.subsystem l.self.ports;
+  listed : AreListed l.seen l.subsystem l.self.ports;
   has : HasPorts l.subsystem (take l.state-index l.state-items) l.self.ports;
 }

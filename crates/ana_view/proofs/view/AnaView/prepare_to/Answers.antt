@@ -1,6 +1,6 @@
-use Rattle.std.proofs.Common.{Some, None, sym, ap, ◌∙◌}
+use Rattle.std.proofs.Common.{sym, ap, ◌∙◌}
 use Rattle.std.specs.Option.{option_copied}
-use Rattle.ana_view.proofs.Plans.{plans_nothing, plans_reached, shows_next}
+use Rattle.ana_view.proofs.Plans.{leads_everyone, leads_nothing, leads_one_host, plans_everyone, plans_nothing, plans_one_host}
 use Rattle.ana_view.proofs.view.AnaView.prepare_to.Goals as goal
 
 pub returns-in_default-clause-planned : goal.returns-in_default-clause-planned
@@ -8,20 +8,27 @@ returns-in_default-clause-planned c =
     plans_nothing c.args.config.now c.args.next.now c.args.edit.now c.requires (sym c.in_default.ensures)
 
 pub returns-in_default-clause-next : goal.returns-in_default-clause-next
-returns-in_default-clause-next c = λ shows v after.
-    let config = c.args.config.now in
-    let next = c.args.next.now in
-    shows_next config next None c.args.self.now.shown v (plans_nothing config next c.args.edit.now c.requires (sym c.in_default.ensures)) shows after
+returns-in_default-clause-next c =
+    leads_nothing c.args.config.now c.args.next.now c.args.edit.now c.requires (sym c.in_default.ensures) c.args.self.now.shown
+
+pub returns-in_default-host_reached-clause-planned : goal.returns-in_default-host_reached-clause-planned
+returns-in_default-host_reached-clause-planned c =
+    let reached = sym c.subsystem_reached.ensures ∙ ap option_copied c.in-Some.is in
+    plans_everyone c.args.config.now c.args.next.now c.args.edit.now c.requires c.in-Some.subsystem.now c.in_ok-everyone.everyone reached (sym c.in_default-host_reached.ensures) c.in_ok-everyone.ensures
+
+pub returns-in_default-host_reached-clause-next : goal.returns-in_default-host_reached-clause-next
+returns-in_default-host_reached-clause-next c =
+    let reached = sym c.subsystem_reached.ensures ∙ ap option_copied c.in-Some.is in
+    leads_everyone c.args.config.now c.args.next.now c.args.edit.now c.requires c.in-Some.subsystem.now c.in_ok-everyone.everyone reached (sym c.in_default-host_reached.ensures) c.in_ok-everyone.ensures c.args.self.now.shown
 
 pub returns-clause-planned : goal.returns-clause-planned
 returns-clause-planned c =
     let reached = sym c.subsystem_reached.ensures ∙ ap option_copied c.in-Some.is in
-    plans_reached c.args.config.now c.args.next.now c.args.edit.now c.in-Some.subsystem.now c.in_ok-reached.reached c.requires reached c.in_ok-reached.ensures
+    let alone = sym c.host_reached.ensures ∙ ap option_copied c.in-Some-host_reached.is in
+    plans_one_host c.args.config.now c.args.next.now c.args.edit.now c.requires c.in-Some.subsystem.now c.in-Some-host_reached.host.now c.in_ok-one.one reached alone c.in_ok-one.ensures.of
 
 pub returns-clause-next : goal.returns-clause-next
-returns-clause-next c = λ shows v after.
-    let config = c.args.config.now in
-    let next = c.args.next.now in
+returns-clause-next c =
     let reached = sym c.subsystem_reached.ensures ∙ ap option_copied c.in-Some.is in
-    shows_next config next (Some c.in_ok-reached.reached) c.args.self.now.shown v
-    (plans_reached config next c.args.edit.now c.in-Some.subsystem.now c.in_ok-reached.reached c.requires reached c.in_ok-reached.ensures) shows after
+    let alone = sym c.host_reached.ensures ∙ ap option_copied c.in-Some-host_reached.is in
+    leads_one_host c.args.config.now c.args.next.now c.args.edit.now c.requires c.in-Some.subsystem.now c.in-Some-host_reached.host.now c.in_ok-one.one reached alone c.in_ok-one.ensures.of c.args.self.now.shown

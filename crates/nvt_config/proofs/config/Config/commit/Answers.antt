@@ -143,3 +143,18 @@ remove_referral-requires c = rw c.in-RemoveReferral.is at c.requires.valid
 
 pub returns-in-RemoveReferral : goal.returns-in-RemoveReferral
 returns-in-RemoveReferral c = rw c.in-RemoveReferral.is c.remove_referral.ensures
+
+pub add_show-requires-clause-room : goal.add_show-requires-clause-room
+add_show-requires-clause-room c = rw c.in-AddShow.is (rw c.in-AddShow.is at c.requires.room)
+
+pub add_show-requires-clause-valid : goal.add_show-requires-clause-valid
+add_show-requires-clause-valid c = rw c.in-AddShow.is (rw c.in-AddShow.is at c.requires.valid)
+
+pub returns-in-AddShow : goal.returns-in-AddShow
+returns-in-AddShow c = rw c.in-AddShow.is (rw c.in-AddShow.is at c.add_show.ensures)
+
+pub remove_show-requires : goal.remove_show-requires
+remove_show-requires c = rw c.in-RemoveShow.is at c.requires.valid
+
+pub returns-in-RemoveShow : goal.returns-in-RemoveShow
+returns-in-RemoveShow c = rw c.in-RemoveShow.is c.remove_show.ensures

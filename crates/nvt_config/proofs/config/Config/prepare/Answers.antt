@@ -41,3 +41,11 @@ returns-in-AllowDel c =
 pub returns-in-ReferralDel : goal.returns-in-ReferralDel
 returns-in-ReferralDel c =
     rw c.in-ReferralDel.is (is_plan _ _ _ c.new-in-ReferralDel.result _ c.self.view_is (rw c.in-ReferralDel.is at c.requires) c.new-in-ReferralDel.ensures refl tt c.self.invariant)
+
+pub returns-in-NamespaceView : goal.returns-in-NamespaceView
+returns-in-NamespaceView c =
+    rw c.in-NamespaceView.is (is_plan _ _ _ c.new-in-NamespaceView.result _ c.self.view_is (rw c.in-NamespaceView.is at c.requires) c.new-in-NamespaceView.ensures refl tt c.self.invariant)
+
+pub returns-in-NamespaceHide : goal.returns-in-NamespaceHide
+returns-in-NamespaceHide c =
+    rw c.in-NamespaceHide.is (is_plan _ _ _ c.new-in-NamespaceHide.result _ c.self.view_is (rw c.in-NamespaceHide.is at c.requires) c.new-in-NamespaceHide.ensures refl tt c.self.invariant)

@@ -1,7 +1,25 @@
-use Rattle.ana_view.specs.View.{IsShownAfter as AnaIsShownAfter, PlansEdit as PlansAna, Shown as AnaShown, ShowsAna}
+use Rattle.std.proofs.Common.{IfOk}
+use Rattle.ana_view.specs.View.{IsShownAfter as AnaIsShownAfter, LeadsTo as AnaLeadsTo, PlansEdit as PlansAna, Shown as AnaShown, ShowsAna}
+use Rattle.config_rules.specs.Accept.{accept}
 use Rattle.target_views.specs.Views.{ListsLeadTo}
+use Rattle.target_views.proofs.Shows.{lists_lead}
 use Rattle.target_views.proofs.Together.{both_ok, ok_both}
 use Rattle.target_views.proofs.views.Views.prepare_lists.Goals as goal
+
+pub returns-then-is_none-clause-lead : goal.returns-then-is_none-clause-lead
+returns-then-is_none-clause-lead c =
+    let config = c.args.config.now in
+    let shown = c.args.self.now.shown in
+    let accepted = accept config c.args.edit.now in
+    let lists = c.in_ok-active.active in
+    let groups = c.prepare-then-is_none in
+    λ active ana.
+    both_ok lists groups.result c.both.result (λ a b. IfOk accepted (λ next. ListsLeadTo config next shown a b)) c.both.ensures
+    (ok_both groups.result (λ a. IfOk accepted (λ next. PlansAna config next a)) (λ a. IfOk accepted (λ next. AnaLeadsTo next shown.ana a))
+    (λ a. IfOk accepted (λ next. ListsLeadTo config next shown lists a))
+    (λ a plans leads. lists_lead config shown accepted lists a c.in_ok-active.ensures.plan
+    (rw (← c.self.view_is) (c.in_ok-active.ensures.next (rw (← c.self.view_is) at active))) plans leads)
+    groups.ensures.planned (rw (← c.self.view_is) (groups.ensures.next (rw (← c.self.view_is) at ana))))
 
 pub returns-clause-lead : goal.returns-clause-lead
 returns-clause-lead c =
