@@ -32,6 +32,28 @@ const ANA_LEN: u16 = 5_136;
 
 const ANA_ANSWER: usize = 2 * HEADER_LEN + ANA_LEN as usize;
 
+/// What a host reads of the namespaces that it sees.
+#[derive(Clone, Copy)]
+pub enum Page {
+    /// Identify 02h: the list of active namespaces.
+    ActiveNamespaces,
+    /// Log page 04h: the list of changed namespaces.
+    ChangedNamespaces,
+    /// Log page 0Ch: the ANA groups.
+    Ana,
+}
+
+impl Page {
+    // The page that an event names by its log page.
+    fn told_of(log_page: u8) -> Option<Page> {
+        match log_page {
+            CHANGED_NAMESPACES => Some(Page::ChangedNamespaces),
+            ANA => Some(Page::Ana),
+            _ => None,
+        }
+    }
+}
+
 // What a host sends after an event.
 #[derive(Drop)]
 struct Capsules {
@@ -55,12 +77,12 @@ impl Capsules {
         })
     }
 
-    // The read of a log page, and how many bytes it is answered.
-    fn read(&self, page: u8) -> Option<(&[u8], usize)> {
+    // The read of a page, and how many bytes it is answered.
+    fn read(&self, page: Page) -> (&[u8], usize) {
         match page {
-            CHANGED_NAMESPACES => Some((&self.changed_namespaces, LIST_ANSWER)),
-            ANA => Some((&self.ana, ANA_ANSWER)),
-            _ => None,
+            Page::ActiveNamespaces => (&self.active_namespaces, LIST_ANSWER),
+            Page::ChangedNamespaces => (&self.changed_namespaces, LIST_ANSWER),
+            Page::Ana => (&self.ana, ANA_ANSWER),
         }
     }
 
@@ -167,13 +189,22 @@ impl Hosts {
         self.target.makes(edit)
     }
 
+    /// Whether each of these edits is accepted.
+    pub fn makes_all(&mut self, edits: &[Edit]) -> bool {
+        let mut makes = true;
+        for edit in edits {
+            makes &= self.target.makes(edit);
+        }
+        makes
+    }
+
     /// Each host that was told reads the log page that it was told of, and sends an event request for
     /// the one that was completed. How many did, where all was answered as it has to be.
     pub fn read(&mut self) -> Option<usize> {
         let mut told: usize = 0;
         for k in 0..self.count {
             if !self.target.sent(k).is_empty() {
-                if !self.reads(k) {
+                if !self.reads_told(k) {
                     return None;
                 }
                 told = told.saturating_add(1);
@@ -182,17 +213,16 @@ impl Hosts {
         Some(told)
     }
 
-    fn reads(&mut self, k: usize) -> bool {
+    fn reads_told(&mut self, k: usize) -> bool {
         let sent = self.target.sent(k);
-        let (Some(page), Some(cid)) = (log_page(sent), sent.get(20)) else {
+        let (Some(log_page), Some(cid)) = (log_page(sent), sent.get(20)) else {
             return false;
         };
-        let (Some((read, answer_len)), Some(request)) = (
-            self.capsules.read(page),
-            self.capsules.request(*cid),
-        ) else {
+        let (Some(page), Some(request)) = (Page::told_of(log_page), self.capsules.request(*cid))
+        else {
             return false;
         };
+        let (read, answer_len) = self.capsules.read(page);
         sent.len() == HEADER_LEN
             && self.target.empties(k)
             && self.target.takes(k, read)
@@ -202,12 +232,13 @@ impl Hosts {
             && self.target.sent(k).is_empty()
     }
 
-    /// Whether the first host is sent its list of active namespaces, each of so many times.
-    pub fn reads_active(&mut self, times: u32) -> bool {
-        let mut reads = true;
+    /// Whether the first host, which leaves what it was sent before, is sent this page, each of so many times.
+    pub fn reads(&mut self, page: Page, times: u32) -> bool {
+        let (read, answer_len) = self.capsules.read(page);
+        let mut reads = self.target.empties(0);
         for _ in 0..times {
-            reads &= self.target.takes(0, &self.capsules.active_namespaces)
-                && self.target.sent(0).len() == LIST_ANSWER
+            reads &= self.target.takes(0, read)
+                && self.target.sent(0).len() == answer_len
                 && self.target.empties(0);
         }
         reads

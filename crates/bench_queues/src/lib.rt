@@ -10,6 +10,6 @@ mod limits;
 mod work;
 
 pub use copying::copies;
-pub use hosts::Hosts;
+pub use hosts::{Hosts, Page};
 pub use limits::Limits;
 pub use work::{Work, runs};

@@ -32,8 +32,7 @@ pub fn has_allow(allows: &[Allow], subsystem: &[u8], host: &[u8]) -> bool
     ensures { result ≡ list_any
         (λ a. bytes_eq a.subsystem subsystem.now && bytes_eq a.host host.now) allows.now }
 {
-    allows.iter().any(|allow| allow.subsystem.as_bytes() == subsystem
-        && allow.host.as_bytes() == host)
+    allows.iter().any(|allow| allow.host.is(host) && allow.subsystem.is(subsystem))
 }
 
 /// Whether the subsystem of that name allows a host.

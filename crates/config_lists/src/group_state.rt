@@ -51,7 +51,7 @@ impl GroupState {
     fn is_on(&self, port: u64, subsystem: &[u8]) -> bool
         ensures { result ≡ is_state_on port subsystem.now self.now }
     {
-        u64::from(self.port) == port && self.subsystem.as_bytes() == subsystem
+        u64::from(self.port) == port && self.subsystem.is(subsystem)
     }
 
     fn is_for(&self, port: u64, subsystem: &[u8], group: u64) -> bool

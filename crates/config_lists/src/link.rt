@@ -32,7 +32,7 @@ pub fn has_link(links: &[Link], port: u64, subsystem: &[u8]) -> bool
     ensures { result ≡ list_any
         (λ link. link.port == port && bytes_eq link.subsystem subsystem.now) links.now }
 {
-    links.iter().any(|link| u64::from(link.port) == port && link.subsystem.as_bytes() == subsystem)
+    links.iter().any(|link| u64::from(link.port) == port && link.subsystem.is(subsystem))
 }
 
 /// Whether a subsystem is served on that port.

@@ -88,7 +88,7 @@ impl Namespace {
     pub(crate) fn has_name(&self, subsystem: &[u8], nsid: u64) -> bool
         ensures { result ≡ is_named subsystem.now nsid self.now }
     {
-        self.subsystem.as_bytes() == subsystem && u64::from(self.nsid) == nsid
+        self.subsystem.is(subsystem) && u64::from(self.nsid) == nsid
     }
 
     fn set(&mut self, value: Setting)
@@ -155,9 +155,7 @@ pub fn has_namespace(namespaces: &[Namespace], subsystem: &[u8], nsid: u64) -> b
 pub fn has_namespaces(namespaces: &[Namespace], subsystem: &[u8]) -> bool
     ensures { result ≡ list_any (λ n. bytes_eq n.subsystem subsystem.now) namespaces.now }
 {
-    namespaces
-        .iter()
-        .any(|n| n.subsystem.as_bytes() == subsystem)
+    namespaces.iter().any(|n| n.subsystem.is(subsystem))
 }
 
 /// Whether a namespace has that UUID.

@@ -28,13 +28,13 @@ impl Show {
     fn is_of(&self, subsystem: &[u8], nsid: u64) -> bool
         ensures { result ≡ is_show_of subsystem.now nsid self.now }
     {
-        u64::from(self.nsid) == nsid && self.subsystem.as_bytes() == subsystem
+        u64::from(self.nsid) == nsid && self.subsystem.is(subsystem)
     }
 
     fn is_to(&self, subsystem: &[u8], nsid: u64, host: &[u8]) -> bool
         ensures { result ≡ is_show_to subsystem.now nsid host.now self.now }
     {
-        self.is_of(subsystem, nsid) && self.host.as_bytes() == host
+        self.is_of(subsystem, nsid) && self.host.is(host)
     }
 }
 
@@ -77,7 +77,9 @@ pub fn is_host_shown(shows: &[Show], host: &Nqn) -> bool
 pub fn is_shown_of(shows: &[Show], subsystem: &[u8], host: &[u8]) -> bool
     ensures { result ≡ is_shown_of shows.now subsystem.now host.now }
 {
-    shows.iter().any(|show| show.subsystem.as_bytes() == subsystem && show.host.as_bytes() == host)
+    shows
+        .iter()
+        .any(|show| show.host.is(host) && show.subsystem.is(subsystem))
 }
 
 /// Takes the show of that namespace to that host away.

@@ -81,7 +81,7 @@ pub fn has_open_subsystem(subsystems: &[Subsystem], nqn: &[u8]) -> bool
     ensures { result ≡ list_any
         (λ s. bytes_eq s.nqn nqn.now && is_open s.access) subsystems.now }
 {
-    subsystems.iter().any(|subsystem| subsystem.nqn.as_bytes() == nqn && subsystem.access.is_open())
+    subsystems.iter().any(|subsystem| subsystem.nqn.is(nqn) && subsystem.access.is_open())
 }
 
 /// Gives the subsystem of that name this access.

@@ -1,2 +1,3 @@
 pub mod Nsids
+pub mod Onlooker
 pub mod Tables

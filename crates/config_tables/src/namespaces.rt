@@ -1,17 +1,17 @@
 //! The namespaces of one subsystem that a host sees, by their identifiers.
-ghost use Rattle.std.specs.Prelude.{◌≡◌, ◌≤◌, ◌+◌, ◌&&◌, ℕ, [], None, filter, find, length, map};
+ghost use Rattle.std.specs.Prelude.{◌≡◌, ◌≤◌, ◌+◌, ℕ, [], None, filter, find, length, map};
 ghost use Rattle.std.specs.Prelude.{slice_index_or};
 ghost use Rattle.std.specs.Option.{option_copied};
-ghost use Rattle.std.specs.Str.{bytes_eq};
 ghost use Rattle.config_lists.specs.Namespace.{is_named, nsid_max};
 ghost use Rattle.config_lists.specs.Show.{is_seen};
 ghost use Rattle.config_tables.specs.Nsids.{nsids_in};
 ghost use Rattle.config_tables.specs.Tables.{IsEmptyTable, IsTable};
 
+use crate::onlooker::Onlooker;
 use crate::place::put_first;
 use config_lists::Namespace;
 use config_lists::namespace::NSID_MAX;
-use config_lists::show::{Show, is_seen};
+use config_lists::show::Show;
 use config_words::{NsidSet, Nsids};
 use std::marker::Model;
 
@@ -97,18 +97,11 @@ fn set_places<'a>(
     ensures taken { taken.new ≡ nsids_in (map option_copied places.new) }
     ensures len { length places.new ≡ nsid_max + 1 }
 {
+    let onlooker = Onlooker::new(shows, host, subsystem);
     for namespace in namespaces {
-        if is_seen_of(namespace, shows, host, subsystem) {
+        if onlooker.sees(namespace) {
             put_first(places, namespace.nsid as usize, namespace);
             taken.insert(namespace.nsid);
         }
     }
-}
-
-// Whether it is a namespace of the subsystem, and the host sees it.
-fn is_seen_of(namespace: &Namespace, shows: &[Show], host: &[u8], subsystem: &[u8]) -> bool
-    ensures { result ≡ (bytes_eq namespace.now.subsystem subsystem.now
-        && is_seen shows.now host.now namespace.now) }
-{
-    namespace.subsystem.as_bytes() == subsystem && is_seen(shows, host, namespace)
 }

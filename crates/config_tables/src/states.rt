@@ -75,5 +75,5 @@ fn set_places<'a>(
 fn is_on(state: &GroupState, subsystem: &[u8], port: u16) -> bool
     ensures { result ≡ is_state_on port subsystem.now state.now }
 {
-    state.port == port && state.subsystem.as_bytes() == subsystem
+    state.port == port && state.subsystem.is(subsystem)
 }

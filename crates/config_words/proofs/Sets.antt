@@ -2,7 +2,7 @@
 use Rattle.std.proofs.Common.{◌≡◌, ℕ, ◌+◌, ◌-◌, ◌<◌, ◌≤◌, Bool, true, false, not, ◌==◌, ◌&&◌, ◌||◌, [], ◌∷◌, filter, length, nat_eq, nat_lt, refl, ap, ◌∙◌, arith}
 use Rattle.std.proofs.lemmas.Bool.Decides.{nat_tests}
 use Rattle.std.specs.List.{list_any}
-use Rattle.config_lists.specs.Namespace.{nsid_max}
+use Rattle.config_lists.specs.Namespace.{is_nsid, nsid_max}
 use Rattle.config_words.specs.NsidSet.{with_nsid}
 use Rattle.config_words.specs.Numbered.{nsids_from, nsids_where, numbers_from}
 use Rattle.config_words.proofs.Numbers.{few_kept, hidden_between, kept_alike, kept_where, none_kept, numbers_between, shown_next}
@@ -28,6 +28,16 @@ is_where p k above below =
       and_true : (b : Bool) → (b && true) ≡ b
       and_true true = refl
       and_true false = refl
+
+-- one that no namespace may have is not among them
+pub is_nowhere : (p : ℕ → Bool) (k : ℕ) → is_nsid k ≡ false → list_any (nat_eq k) (nsids_where p) ≡ false
+unfolding nsids_where
+is_nowhere p k outside =
+    let without : (nat_lt k (1 + nsid_max) && not (nat_lt k 1)) ≡ false = grind (arith, nat_tests, outside) in
+    kept_where p (numbers_from 1 nsid_max) k ∙ ap (λ b. p k && b) (numbers_between 1 nsid_max k ∙ without) ∙ and_false (p k) where
+      and_false : (b : Bool) → (b && false) ≡ false
+      and_false true = refl
+      and_false false = refl
 
 -- a set is told by its own test
 pub set_is_where : (p : ℕ → Bool) → nsids_where (λ n. list_any (nat_eq n) (nsids_where p)) ≡ nsids_where p

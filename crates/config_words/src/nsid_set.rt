@@ -1,6 +1,7 @@
 //! Sets of namespaces' identifiers.
-ghost use Rattle.std.specs.Prelude.{◌≡◌, ◌<◌, ◌≤◌, ◌-◌, ◌/◌, ◌^◌, [], length};
+ghost use Rattle.std.specs.Prelude.{◌≡◌, ◌<◌, ◌≤◌, ◌-◌, ◌/◌, ◌^◌, [], length, nat_eq};
 ghost use Rattle.std.specs.Iterator.{YieldsFirst, item_count};
+ghost use Rattle.std.specs.List.{list_any};
 ghost use Rattle.config_lists.specs.Namespace.{nsid_max};
 ghost use Rattle.config_words.specs.Numbered.{nsids_where};
 ghost use Rattle.config_words.specs.NsidSet.{is_marked, with_nsid};
@@ -45,6 +46,13 @@ impl NsidSet {
         ensures { self.new ≡ with_nsid nsid self.old }
     {
         mark(&mut self.words, nsid);
+    }
+
+    /// Whether it has an identifier.
+    pub fn has(&self, nsid: u32) -> bool
+        ensures { result ≡ list_any (nat_eq nsid) self.now }
+    {
+        is_marked(&self.words, nsid)
     }
 
     /// How many identifiers it has.
@@ -115,6 +123,17 @@ fn bits_from(word: u64, bit: u32) -> u64
     ensures few { result < 2 ^ (64 - bit) }
 {
     word >> bit
+}
+
+// Whether the bit of an identifier is set: none is of one that no namespace may have.
+fn is_marked(words: &[u64; WORDS], nsid: u32) -> bool
+    ensures { result ≡ list_any (nat_eq nsid) (nsids_where (is_marked words.now)) }
+{
+    if !is_nsid(u64::from(nsid)) {
+        return false;
+    }
+    let bit = nsid - 1;
+    bits_from(words[(bit / WORD_BITS) as usize], bit % WORD_BITS) % 2 == 1
 }
 
 // Sets the bit of an identifier, where a namespace may have it.

@@ -40,7 +40,7 @@ pub(crate) fn allowed<'a>(
 {
     let mut names = Vec::new(alloc);
     for allow in config.allows() {
-        if allow.host.as_bytes() == host {
+        if allow.host.is(host) {
             names.push(allow.subsystem.as_bytes())?;
         }
     }

@@ -3,18 +3,15 @@
 use crate::clock::{micros_since, now, rate};
 use crate::edits::read_all;
 use crate::fault::BenchFault;
-use crate::files::read_file;
+use crate::memory::report_memory;
 use bench_queues::{Limits, Work, copies};
 use nvt_config::Edit;
 use std::rt::{Clock, Files};
 
-// How often the edits that change the records of one host are made, and those of all.
-const ROUNDS: u32 = 100;
+/// How often the edits that change what concerns one host are made.
+pub const ROUNDS: u32 = 100;
 
 const READS: u32 = 100_000;
-
-// Of a page of memory.
-const PAGE_KIB: u64 = 4;
 
 /// Makes the configuration of the set-up, and prints a figure for the edits of each kind and the memory, at
 /// first and after many, and a figure for the reads.
@@ -69,7 +66,13 @@ fn measure_edits<R: Clock + Print>(
     report_edits(rt, edits.len(), what, micros_since(rt, begun)?)
 }
 
-fn report_edits<R: Print>(rt: &R, count: usize, what: &str, micros: u64) -> Result<(), BenchFault> {
+/// Prints a figure for so many edits that took so long.
+pub fn report_edits<R: Print>(
+    rt: &R,
+    count: usize,
+    what: &str,
+    micros: u64,
+) -> Result<(), BenchFault> {
     let rate = rate(count as u64, micros);
     let text = format_args!("{count} edits of {what}, in {micros} microseconds: {rate} a second\n");
     match rt.print(text) {
@@ -84,35 +87,6 @@ fn make(limits: &mut Limits, edits: &[Edit]) -> Result<(), BenchFault> {
     } else {
         Err(BenchFault::OtherAnswer)
     }
-}
-
-// Prints how much memory the program has, as the system says it.
-fn report_memory<R: Files + Print + AllocGlobal>(rt: &R) -> Result<(), BenchFault> {
-    let kib = resident_pages(rt)?.saturating_mul(PAGE_KIB);
-    match rt.print(format_args!("resident memory: {kib} KiB\n")) {
-        Ok(()) => Ok(()),
-        Err(_) => Err(BenchFault::Io),
-    }
-}
-
-fn resident_pages<R: Files + AllocGlobal>(rt: &R) -> Result<u64, BenchFault> {
-    let text = read_file(rt, rt.alloc(), "/proc/self/statm")?;
-    Ok(second_number(&text))
-}
-
-// The second of some decimal numbers, with a space between one and the next.
-fn second_number(text: &[u8]) -> u64 {
-    let mut spaces: u32 = 0;
-    let mut number: u64 = 0;
-    for byte in text {
-        if *byte == b' ' {
-            spaces = spaces.saturating_add(1);
-        } else if spaces == 1 && byte.is_ascii_digit() {
-            let digit = u64::from(byte.wrapping_sub(b'0'));
-            number = number.saturating_mul(10).saturating_add(digit);
-        }
-    }
-    number
 }
 
 fn measure_reads<R: Clock + Print + AllocGlobal>(

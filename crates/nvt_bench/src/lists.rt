@@ -1,13 +1,13 @@
-//! What is measured of lists of namespaces: reads of that of the active ones, edits of a size that each host is
-//! told of, and reads of the list of those that changed.
+//! What is measured of lists of namespaces: reads of that of the active ones and of the ANA log page, edits of a size
+//! that each host is told of, and reads of the list of those that changed.
 use crate::clock::{micros_since, nanos_since, now, rate};
 use crate::edits::read_all;
 use crate::fault::BenchFault;
-use bench_queues::Hosts;
+use bench_queues::{Hosts, Page};
 use nvt_config::Edit;
 use std::rt::Clock;
 
-const ACTIVE_READS: u32 = 500_000;
+const READS: u32 = 500_000;
 
 // How many edits of a size there are before each host reads which namespaces changed. It is told of the first.
 const CHANGED: usize = 3;
@@ -41,7 +41,13 @@ fn measure_on<R: Clock + Print>(
     hosts: &mut Hosts,
     sizes: &[Edit],
 ) -> Result<(), BenchFault> {
-    measure_active(rt, hosts)?;
+    measure_reads(
+        rt,
+        hosts,
+        Page::ActiveNamespaces,
+        "the list of active namespaces",
+    )?;
+    measure_reads(rt, hosts, Page::Ana, "the ANA log page")?;
     let mut rounds = Rounds {
         count: 0,
         edit_nanos: 0,
@@ -53,16 +59,22 @@ fn measure_on<R: Clock + Print>(
     report_rounds(rt, hosts.count() as u64, rounds)
 }
 
-fn measure_active<R: Clock + Print>(rt: &R, hosts: &mut Hosts) -> Result<(), BenchFault> {
+/// Prints a figure for reads of this page by the first host.
+pub fn measure_reads<R: Clock + Print>(
+    rt: &R,
+    hosts: &mut Hosts,
+    page: Page,
+    what: &str,
+) -> Result<(), BenchFault> {
     let begun = now(rt)?;
-    is_answered(hosts.reads_active(ACTIVE_READS))?;
+    is_answered(hosts.reads(page, READS))?;
     let micros = micros_since(rt, begun)?;
-    report(
-        rt,
-        u64::from(ACTIVE_READS),
-        "reads of the list of active namespaces",
-        micros,
-    )
+    let rate = rate(u64::from(READS), micros);
+    let text = format_args!("{READS} reads of {what} in {micros} microseconds: {rate} a second\n");
+    match rt.print(text) {
+        Ok(()) => Ok(()),
+        Err(_) => Err(BenchFault::Io),
+    }
 }
 
 fn is_answered(answered: bool) -> Result<(), BenchFault> {

@@ -1,11 +1,12 @@
 //! Measures the edit language: how many lines of edits a second are read, written back and checked
-//! against a configuration. `nvt_bench SETUP LINES SERVED CHANGES SIZES ONE ALL` takes seven files of edits: SETUP
+//! against a configuration. `nvt_bench SETUP LINES SERVED CHANGES SIZES SHOWN SHOWS ONE ALL` takes nine files of edits: SETUP
 //! makes the configuration, over 256 disks, and the edits of LINES are measured. Then it measures I/O
 //! commands on a target over a disk in memory, against bare copies of as many bytes, and on a host that is
 //! joined to such a target. Then SERVED makes the configuration of a target with hosts, and the edits of
 //! CHANGES are measured, each told to the hosts, and what the hosts read; so are those of SIZES, and reads of
-//! lists of namespaces; and that of a target with one host, which the edits of ONE change for one host, and
-//! those of ALL for all, and what that host reads.
+//! lists of namespaces. SHOWN makes that of a target with hosts which are shown namespaces by name, and the edits of
+//! SHOWS, ONE, ALL and CHANGES are measured there. SERVED makes that of a target with one host, which the edits of ONE
+//! change for one host, and those of ALL for all, and what that host reads.
 #![tactic(auto)]
 
 mod clock;
@@ -15,7 +16,9 @@ mod fault;
 mod files;
 mod limits;
 mod lists;
+mod memory;
 mod pairs;
+mod shows;
 mod told;
 
 use fault::BenchFault;
@@ -40,7 +43,9 @@ fn run_on<R: Env + Files + Clock + Print + Eprint + AllocGlobal>(
     match read_paths(rt, words) {
         Some(paths) => finish(rt, run(rt, paths)),
         None => {
-            let _ = eprintln!(rt; "usage: nvt_bench SETUP LINES SERVED CHANGES SIZES ONE ALL");
+            let _ = eprintln!(rt;
+                "usage: nvt_bench SETUP LINES SERVED CHANGES SIZES SHOWN SHOWS ONE ALL"
+            );
             ExitCode::from(BAD_ARGUMENTS)
         }
     }
@@ -64,6 +69,8 @@ struct Paths<'a> {
     served: &'a str,
     changes: &'a str,
     sizes: &'a str,
+    shown: &'a str,
+    shows: &'a str,
     one: &'a str,
     all: &'a str,
 }
@@ -78,12 +85,25 @@ fn read_paths<'a, R: Env + AllocGlobal>(rt: &R, words: &'a mut Vec<String>) -> O
 
 fn paths_of(words: &[String]) -> Option<Paths<'_>> {
     match words {
-        [_, setup, lines, served, changes, sizes, one, all] => Some(Paths {
+        [
+            _,
             setup,
             lines,
             served,
             changes,
             sizes,
+            shown,
+            shows,
+            one,
+            all,
+        ] => Some(Paths {
+            setup,
+            lines,
+            served,
+            changes,
+            sizes,
+            shown,
+            shows,
             one,
             all,
         }),
@@ -97,6 +117,7 @@ fn run<R: Files + Clock + Print + AllocGlobal>(rt: &R, paths: Paths<'_>) -> Resu
     pairs::measure(rt)?;
     measure_told(rt, paths)?;
     measure_lists(rt, paths)?;
+    measure_shows(rt, paths)?;
     measure_limits(rt, paths)
 }
 
@@ -125,6 +146,24 @@ fn measure_lists<R: Files + Clock + Print + AllocGlobal>(
     let served = read_file(rt, rt.alloc(), paths.served)?;
     let sizes = read_file(rt, rt.alloc(), paths.sizes)?;
     lists::measure(rt, &served, &sizes)
+}
+
+fn measure_shows<R: Files + Clock + Print + AllocGlobal>(
+    rt: &R,
+    paths: Paths<'_>,
+) -> Result<(), BenchFault> {
+    let shown = read_file(rt, rt.alloc(), paths.shown)?;
+    let shows = read_file(rt, rt.alloc(), paths.shows)?;
+    let one = read_file(rt, rt.alloc(), paths.one)?;
+    let all = read_file(rt, rt.alloc(), paths.all)?;
+    let changes = read_file(rt, rt.alloc(), paths.changes)?;
+    let lines = shows::Lines {
+        shows: &shows,
+        one: &one,
+        all: &all,
+        changes: &changes,
+    };
+    shows::measure(rt, &shown, lines)
 }
 
 fn measure_limits<R: Files + Clock + Print + AllocGlobal>(

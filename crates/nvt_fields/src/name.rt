@@ -74,6 +74,16 @@ impl Nqn {
         &self.bytes
     }
 
+    /// Whether it is this name. Names are most often told apart by their lengths or last bytes, so these are
+    /// compared first.
+    pub fn is(&self, name: &[u8]) -> bool
+        ensures { result ≡ bytes_eq self.now name.now }
+    {
+        let bytes = self.bytes.as_slice();
+        let last = bytes.len() - 1;
+        name.len() == bytes.len() && name[last] == bytes[last] && name == bytes
+    }
+
     /// The name's length in bytes.
     pub fn len(&self) -> usize
         ensures value { result ≡ length self.now }
@@ -107,7 +117,7 @@ impl PartialEq for Nqn {
     ghost laws = { partial_equiv_from_equiv nat_list_eq_equiv };
 
     fn eq(&self, other: &Nqn) -> bool {
-        self.as_bytes() == other.as_bytes()
+        self.is(other.as_bytes())
     }
 }
 

@@ -1,0 +1,17 @@
+use Rattle.std.proofs.Common.{◌≡◌, ◌≤◌, true, nat_eq, ap, sym, ◌∙◌, arith}
+use Rattle.std.proofs.lemmas.Bool.Decides.{nat_tests}
+use Rattle.std.specs.List.{list_any}
+use Rattle.config_lists.specs.Namespace.{is_nsid, nsid_max}
+use Rattle.config_lists.specs.Show.{has_show}
+use Rattle.config_words.proofs.Sets.{is_where}
+use Rattle.config_tables.specs.Onlooker.{Looking}
+use Rattle.config_tables.proofs.onlooker.Onlooker.is_shown.Goals as goal
+
+pub returns-then-is_nsid : goal.returns-then-is_nsid
+returns-then-is_nsid c =
+    let v = c.self.inside in
+    let may : is_nsid c.args.nsid ≡ true = ap is_nsid (sym c.from.ensures) ∙ sym c.is_nsid.ensures ∙ c.if-is_nsid.true in
+    let above : 1 ≤ c.args.nsid = grind (arith, nat_tests, may) in
+    let below : c.args.nsid ≤ nsid_max = grind (arith, nat_tests, may) in
+    c.has.ensures ∙ ap (list_any (nat_eq c.args.nsid)) c.self.invariant ∙ is_where (λ nsid. has_show v.shows.now v.subsystem.now nsid v.host.now) c.args.nsid above below
+    ∙ ap (λ (l : Looking). has_show l.shows l.subsystem c.args.nsid l.host) c.self.view_is
