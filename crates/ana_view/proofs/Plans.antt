@@ -1,8 +1,9 @@
 -- What a plan has of two configurations, what is shown after it, and what it says that changes.
-use Rattle.std.proofs.Common.{◌≡◌, ◌≤◌, ◌&&◌, ℕ, Bool, true, false, ◌-◌, not, arith, Option, Some, None, Result, Ok, Err, IfOk, IfSome, Bor, is_none, is_some, List, replicate, bytes_eq, refl, ap, sym, subst, ◌∙◌, inl, inr, if◌then◌else◌}
+use Rattle.std.proofs.Common.{◌≡◌, ◌≤◌, ◌&&◌, ℕ, Bool, true, false, ◌-◌, not, arith, Option, Some, None, Result, Ok, Err, IfOk, IfSome, is_none, is_some, List, replicate, bytes_eq, refl, ap, sym, subst, ◌∙◌, inl, inr, if◌then◌else◌}
 use Rattle.std.proofs.lemmas.Bool.{and_parts, cases_Bool}
 use Rattle.std.proofs.lemmas.List.{get_or-replicate}
-use Rattle.std.specs.Option.{option_copied}
+use Rattle.std.proofs.lemmas.Result.{IfOk-at_ok}
+use Rattle.config_lists.specs.declared.show.Show.{Show}
 use Rattle.config_lists.specs.Show.{is_shown_of}
 use Rattle.config_lists.proofs.Names.{same_name}
 use Rattle.config_rules.specs.Accept.{accept}
@@ -13,6 +14,7 @@ use Rattle.config_edits.specs.declared.fault.EditFault.{EditFault}
 use Rattle.edit_reach.specs.Reach.{StaysAsItWas, host_reached, is_host_reached, is_reached, reaches, subsystem_reached}
 use Rattle.edit_reach.proofs.Others.{shown_stays, stays, strangers_stay}
 use Rattle.edit_reach.proofs.Viewers.{either_way}
+use Rattle.nvt_config.specs.Seen.{ChangesShowsAlone}
 use Rattle.name_table.specs.Table.{value_of}
 use Rattle.name_table.specs.Variants.{variant_of}
 use Rattle.ana_view.specs.Group.{are_same, changes_group, descriptor, listed}
@@ -158,23 +160,31 @@ module _ (old new : Configuration) (edit : Edit) (made : accept old edit ≡ Ok 
           | inr apart ↦ rw apart (own_as_before v host subsystem shows (other_two host subsystem apart))
         ]))
 
--- ---- whatever an edit makes that is accepted, where it reaches nothing
+-- ---- where an edit is known to be accepted alone
 
-pub none_copied : (o : Option (Bor (List ℕ))) → is_some o ≡ false → option_copied o ≡ None
-none_copied None none = refl
-none_copied (Some name) none = absurd (cc)
+if_made : (r : Result Configuration EditFault) (P : Configuration → Type 0) → ((next : Configuration) → r ≡ Ok next → P next) → IfOk r P
+if_made (Ok next) P each = each next refl
+if_made (Err fault) P each = tt
 
 pub plans_nothing_accepted : (c : Configuration) (edit : Edit) → subsystem_reached edit ≡ None → IfOk (accept c edit) (λ next. PlansEdit c next nothing)
-plans_nothing_accepted c edit unreached = by_result (accept c edit) refl where
-  by_result : (r : Result Configuration EditFault) → accept c edit ≡ r → IfOk r (λ next. PlansEdit c next nothing)
-  by_result (Ok next) accepted = plans_nothing c next edit accepted unreached
-  by_result (Err fault) accepted = tt
+plans_nothing_accepted c edit unreached = if_made (accept c edit) (λ next. PlansEdit c next nothing) (λ next made. plans_nothing c next edit made unreached)
 
 pub leads_nothing_accepted : (c : Configuration) (edit : Edit) → subsystem_reached edit ≡ None → (v : Shown) → ShowsAna c v → IfOk (accept c edit) (λ next. LeadsTo next v nothing)
-leads_nothing_accepted c edit unreached v shows = by_result (accept c edit) refl where
-  by_result : (r : Result Configuration EditFault) → accept c edit ≡ r → IfOk r (λ next. LeadsTo next v nothing)
-  by_result (Ok next) accepted = leads_nothing c next edit accepted unreached v shows
-  by_result (Err fault) accepted = tt
+leads_nothing_accepted c edit unreached v shows = if_made (accept c edit) (λ next. LeadsTo next v nothing) (λ next made. leads_nothing c next edit made unreached v shows)
+
+-- an edit that reaches one host alone makes the configuration with these shows
+module _ (c : Configuration) (edit : Edit) (shows : List Show) (name host : List ℕ) (r : HostReached) (changes : ChangesShowsAlone c edit shows) (reached : subsystem_reached edit ≡ Some name) (alone : host_reached edit ≡ Some host)
+    (of : IsOfHost c (record c { shows = shows }) host name r) where
+  of_next : (next : Configuration) → accept c edit ≡ Ok next → IsOfHost c next host name r
+  of_next next made =
+      let is : next ≡ record c { shows = shows } = IfOk-at_ok (λ next. (h : List ℕ) → host_reached edit ≡ Some h → next ≡ record c { shows = shows }) made changes host alone in
+      subst (λ n. IsOfHost c n host name r) (sym is) of
+
+  pub plans_one_accepted : IfOk (accept c edit) (λ next. PlansEdit c next (one_host r))
+  plans_one_accepted = if_made (accept c edit) (λ next. PlansEdit c next (one_host r)) (λ next made. plans_one_host c next edit made name host r reached alone (of_next next made))
+
+  pub leads_one_accepted : (v : Shown) → ShowsAna c v → IfOk (accept c edit) (λ next. LeadsTo next v (one_host r))
+  leads_one_accepted v shown = if_made (accept c edit) (λ next. LeadsTo next v (one_host r)) (λ next made. leads_one_host c next edit made name host r reached alone (of_next next made) v shown)
 
 -- ---- what changes
 

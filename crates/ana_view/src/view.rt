@@ -1,8 +1,9 @@
 //! A view of the ANA groups: it follows the edits of a configuration and writes the log page of each
 //! controller, as its host sees it.
-ghost use Rattle.std.specs.Prelude.{◌≡◌, ◌<◌, [], IfOk, IsOk, Ok, length, slice_get};
+ghost use Rattle.std.specs.Prelude.{◌≡◌, ◌<◌, [], IfOk, IsOk, Ok, Some, length, slice_get};
 ghost use Rattle.std.specs.Option.{option_copied};
 ghost use Rattle.config_rules.specs.Accept.{accept};
+ghost use Rattle.edit_reach.specs.Reach.{host_reached, subsystem_reached};
 ghost use Rattle.name_table.specs.Variants.{count_at};
 ghost use Rattle.nvt_fields.specs.Window.{window};
 ghost use Rattle.ana_view.specs.Counts.{Counts};
@@ -16,7 +17,7 @@ use crate::group_list::AnaGroup;
 use crate::page::{page_len, write_page};
 use crate::plan::{EveryoneGroups, HostGroups, Plan, Reached};
 use crate::subsystem::SubsystemGroups;
-use config_lists::show::is_shown_of;
+use config_tables::Shows;
 use edit_reach::{host_reached, subsystem_reached};
 use nvt_config::{Config, Edit};
 use std::alloc::{AllocError, Global};
@@ -53,7 +54,7 @@ impl AnaView {
     /// Every answer is as before, also after want of memory. An edit that reaches no subsystem's
     /// namespaces or states costs nothing, one that reaches a subsystem's costs its own, for strangers
     /// and for each host that is shown some, and one that shows or hides a namespace costs those of its
-    /// host.
+    /// host, and copies no configuration.
     pub fn prepare(&mut self, config: &Config, edit: &Edit) -> Result<Plan, AllocError>
         requires { IsOk (accept config.now edit.now) }
         ensures planned { IfOk result (λ plan. IfOk (accept config.now edit.now)
@@ -63,13 +64,16 @@ impl AnaView {
         ensures room { IfOk result (IsPlannedFor self.new) }
         ensures kept { self.new.shown ≡ self.old.shown }
     {
-        if subsystem_reached(edit).is_none() {
+        let Some(subsystem) = subsystem_reached(edit) else {
             return Ok(Plan {
                 reached: Reached::Nothing,
             });
-        }
-        let next = config.edited(edit)?;
-        self.prepare_to(config, &next, edit)
+        };
+        let Some(host) = host_reached(edit) else {
+            let next = config.edited(edit)?;
+            return self.prepare_to(config, &next, edit);
+        };
+        self.prepare_one(config, edit, host, subsystem)
     }
 
     /// The same, for a caller that has the configuration after the edit already.
@@ -91,14 +95,35 @@ impl AnaView {
                 reached: Reached::Nothing,
             });
         };
-        self.bodies.reserve()?;
         let Some(host) = host_reached(edit) else {
+            self.bodies.reserve()?;
             let everyone = self.everyone(config, next, subsystem)?;
             return Ok(Plan {
                 reached: Reached::Everyone(everyone),
             });
         };
-        let one = self.of_host(config, next, host, subsystem)?;
+        self.prepare_one(config, edit, host, subsystem)
+    }
+
+    // Prepares an edit that reaches one host alone. Nothing of the configuration is copied.
+    fn prepare_one(
+        &mut self,
+        config: &Config,
+        edit: &Edit,
+        host: &[u8],
+        subsystem: &[u8],
+    ) -> Result<Plan, AllocError>
+        requires subsystem { subsystem_reached edit.now ≡ Some subsystem.now }
+        requires host { host_reached edit.now ≡ Some host.now }
+        ensures planned { IfOk result (λ plan. IfOk (accept config.now edit.now)
+            (λ next. PlansEdit config.now next plan)) }
+        ensures next { ShowsAna config.now self.old.shown → IfOk result (λ plan.
+            IfOk (accept config.now edit.now) (λ next. LeadsTo next self.old.shown plan)) }
+        ensures room { IfOk result (IsPlannedFor self.new) }
+        ensures kept { self.new.shown ≡ self.old.shown }
+    {
+        self.bodies.reserve()?;
+        let one = self.of_host(config, config.shows_after(edit), host, subsystem)?;
         Ok(Plan {
             reached: Reached::Host(one),
         })
@@ -123,21 +148,24 @@ impl AnaView {
         })
     }
 
-    // What an edit makes of a subsystem for one host.
+    // What an edit makes of a subsystem for one host: after it there are these shows.
     fn of_host(
         &self,
-        old: &Config,
-        new: &Config,
+        config: &Config,
+        shows: Shows<'_>,
         host: &[u8],
         subsystem: &[u8],
     ) -> Result<HostGroups, AllocError>
-        ensures of { IfOk result (IsOfHost old.now new.now host.now subsystem.now) }
+        ensures of { let next = record config.now { shows = shows.entry } in
+            IfOk result (IsOfHost config.now next host.now subsystem.now) }
         ensures empty { IfOk result (λ r. r.room.values ≡ []) }
         ensures wide { IfOk result
             (λ r. count_at self.now.shown.subsystems subsystem.now < r.room.room) }
     {
-        let before = SubsystemGroups::of(self.alloc, &old.seen_by(host), subsystem)?;
-        let after = SubsystemGroups::of(self.alloc, &new.seen_by(host), subsystem)?;
+        let is_own = shows.is_shown_of(subsystem, host);
+        let before = SubsystemGroups::of(self.alloc, &config.seen_by(host), subsystem)?;
+        let seen = config.seen_with(shows, host);
+        let after = SubsystemGroups::of(self.alloc, &seen, subsystem)?;
         let room = self.bodies.room_for_host(self.alloc, subsystem)?;
         Ok(HostGroups {
             subsystem: Vec::from_slice(self.alloc, subsystem)?,
@@ -145,7 +173,7 @@ impl AnaView {
             before,
             after,
             nobody: SubsystemGroups::empty(self.alloc),
-            is_own: is_shown_of(new.shows(), subsystem, host),
+            is_own,
             room,
         })
     }

@@ -1,10 +1,11 @@
 -- What an edit makes of the lists.
-use Rattle.std.proofs.Common.{◌≡◌, ◌⊎◌, ℕ, Bool, true, false, not, ◌||◌, ◌&&◌, ◌==◌, Option, Some, None, Result, Ok, Err, IfOk, IfSome, is_none, is_some, List, [], ◌∷◌, ◌++◌, bytes_eq, refl, ap, sym, subst, ◌∙◌, inl, inr, if◌then◌else◌}
-use Rattle.std.proofs.lemmas.Bool.{and_cases, and_from, and_parts, cases_Bool, both_ways, eq-eqb, false_from_ne_true, or_parts}
+use Rattle.std.proofs.Common.{◌≡◌, ℕ, Bool, true, false, not, ◌&&◌, ◌==◌, Option, Some, None, Result, Ok, Err, IfOk, IfSome, is_none, is_some, List, ◌++◌, bytes_eq, refl, ap, sym, subst, ◌∙◌, inl, inr, if◌then◌else◌}
+use Rattle.std.proofs.lemmas.Bool.{and_from, and_parts, cases_Bool, eq-eqb, or_parts}
 use Rattle.std.proofs.lemmas.List.Folds.{list_any-append}
-use Rattle.std.specs.Borrow.{Bor}
-use Rattle.std.specs.Option.{option_copied, option_map}
+use Rattle.std.proofs.lemmas.Result.{IfOk-at_ok}
+use Rattle.std.specs.Option.{option_map}
 use Rattle.std.specs.Prelude.{unwrap_or}
+use Rattle.config_lists.specs.declared.show.Show.{Show}
 use Rattle.config_lists.specs.Show.{is_show_in, is_shown_of}
 use Rattle.config_lists.proofs.Names.{bytes_eq-same, same_name}
 use Rattle.config_rules.specs.Accept.{accept}
@@ -15,13 +16,13 @@ use Rattle.config_words.proofs.Sets.{nsids_alike}
 use Rattle.config_edits.specs.declared.edit.Edit.{Edit}
 use Rattle.config_edits.specs.declared.fault.EditFault.{EditFault}
 use Rattle.edit_reach.specs.Reach.{StaysAsItWas, host_reached, is_host_reached, is_reached, reaches, subsystem_reached}
-use Rattle.edit_reach.specs.Viewers.{AreOwnOf}
 use Rattle.edit_reach.proofs.Found.{same_namespace}
 use Rattle.edit_reach.proofs.Others.{shown_stays, stays, strangers_stay, unshown_sees}
 use Rattle.edit_reach.proofs.Viewers.{either_way}
+use Rattle.nvt_config.specs.Seen.{ChangesShowsAlone}
 use Rattle.name_table.specs.Table.{value_of}
-use Rattle.name_table.specs.Variants.{VariantsState, variant_of}
-use Rattle.change_lists.specs.ActiveView.{AreThoseChanged, EveryoneReached, HostReached, LeadsTo, PlansEdit, Shown, ShowsActive, everyone, nothing, one_host, own_after, own_in, strangers_in}
+use Rattle.name_table.specs.Variants.{variant_of}
+use Rattle.change_lists.specs.ActiveView.{AreThoseChanged, EveryoneReached, HostReached, LeadsTo, PlansEdit, Shown, ShowsActive, everyone, nothing, one_host, own_in}
 use Rattle.change_lists.specs.Changes.{Attributes, are_same, attributes_in, attributes_of, changes_namespace}
 use Rattle.change_lists.specs.Reached.{AreChangesFor, IsListFor, IsOfEveryone, IsOfHost}
 use Rattle.change_lists.proofs.Ready.{same_active, shows_by, what_is_own}
@@ -201,10 +202,6 @@ module _ (old new : Configuration) (edit : Edit) (made : accept old edit ≡ Ok 
 
 -- ---- where an edit is known to be accepted alone
 
-pub none_lent : {T : Type 0} (o : Option (Bor T)) → is_some o ≡ false → option_copied o ≡ None
-none_lent None none = refl
-none_lent (Some x) none = cc
-
 if_made : (r : Result Configuration EditFault) (P : Configuration → Type 0) → ((next : Configuration) → r ≡ Ok next → P next) → IfOk r P
 if_made (Ok next) P each = each next refl
 if_made (Err fault) P each = tt
@@ -214,3 +211,17 @@ leads_nothing_accepted c edit v none shows = if_made (accept c edit) (λ next. L
 
 pub plans_nothing_accepted : (c : Configuration) (edit : Edit) → subsystem_reached edit ≡ None → IfOk (accept c edit) (λ next. PlansEdit c next nothing)
 plans_nothing_accepted c edit none = if_made (accept c edit) (λ next. PlansEdit c next nothing) (λ next made. plans_nothing c next edit made none)
+
+-- an edit that reaches one host alone makes the configuration with these shows
+module _ (c : Configuration) (edit : Edit) (shows : List Show) (name host : List ℕ) (r : HostReached) (changes : ChangesShowsAlone c edit shows) (reached : subsystem_reached edit ≡ Some name) (alone : host_reached edit ≡ Some host)
+    (of : IsOfHost c (record c { shows = shows }) host name r) where
+  of_next : (next : Configuration) → accept c edit ≡ Ok next → IsOfHost c next host name r
+  of_next next made =
+      let is : next ≡ record c { shows = shows } = IfOk-at_ok (λ next. (h : List ℕ) → host_reached edit ≡ Some h → next ≡ record c { shows = shows }) made changes host alone in
+      subst (λ n. IsOfHost c n host name r) (sym is) of
+
+  pub plans_one_accepted : IfOk (accept c edit) (λ next. PlansEdit c next (one_host r))
+  plans_one_accepted = if_made (accept c edit) (λ next. PlansEdit c next (one_host r)) (λ next made. plans_one_host c next edit made name host r reached alone (of_next next made))
+
+  pub leads_one_accepted : (v : Shown) → ShowsActive c v → IfOk (accept c edit) (λ next. LeadsTo next v (one_host r))
+  leads_one_accepted v shown = if_made (accept c edit) (λ next. LeadsTo next v (one_host r)) (λ next made. leads_one_host c next edit made name host r reached alone (of_next next made) v shown)

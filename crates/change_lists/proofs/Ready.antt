@@ -1,30 +1,27 @@
 -- The lists that are ready: each is that of its subsystem as a host sees it, and a subsystem that is not there has none.
-use Rattle.std.proofs.Common.{◌≡◌, ◌≤◌, ◌⊎◌, ℕ, Bool, true, false, not, ◌||◌, ◌&&◌, Option, Some, None, Ok, IfSome, is_some, List, [], ◌∷◌, ◌++◌, find, get_or, map, bytes_eq, refl, ap, sym, subst, ◌∙◌, inl, inr, if◌then◌else◌}
-use Rattle.std.proofs.lemmas.Bool.{and_cases, and_parts, cases_Bool, both_ways, false_from_ne_true}
-use Rattle.std.proofs.lemmas.List.Elements.{All-get_or}
-use Rattle.std.proofs.lemmas.List.Folds.{Any-from_list_any, list_any-from_Any}
+use Rattle.std.proofs.Common.{◌≡◌, ◌≤◌, ℕ, Bool, true, false, not, ◌||◌, ◌&&◌, Option, Some, None, IfSome, is_some, List, [], ◌∷◌, ◌++◌, find, get_or, map, bytes_eq, refl, ap, sym, subst, ◌∙◌, inl, inr, if◌then◌else◌}
+use Rattle.std.proofs.lemmas.Bool.{cases_Bool, both_ways, false_from_ne_true}
 use Rattle.std.specs.List.{list_any}
-use Rattle.std.specs.Option.{option_map, option_copied}
+use Rattle.std.specs.Option.{option_map}
 use Rattle.std.specs.Prelude.{unwrap_or}
 use Rattle.config_lists.specs.declared.namespace.Namespace.{Namespace}
-use Rattle.config_lists.specs.declared.show.Show.{Show}
 use Rattle.config_lists.specs.declared.subsystem.Subsystem.{Subsystem}
 use Rattle.config_lists.specs.Namespace.{is_named, nsid_max}
-use Rattle.config_lists.specs.Show.{is_show_in, is_shown_of}
+use Rattle.config_lists.specs.Show.{is_shown_of}
 use Rattle.config_lists.proofs.Names.{bytes_eq-same, same_name}
-use Rattle.config_rules.specs.Configuration.{Configuration, has_namespace, has_subsystem}
+use Rattle.config_rules.specs.Configuration.{Configuration, has_subsystem}
 use Rattle.config_rules.specs.Seen.{seen_by, seen_by_strangers}
 use Rattle.config_rules.specs.Valid.{IsValid}
-use Rattle.config_rules.proofs.Seeing.{sees_what_is_shown, strangers_valid}
+use Rattle.config_rules.proofs.Seeing.{strangers_valid}
 use Rattle.config_tables.specs.Nsids.{is_taken, nsids_in as nsids_of_table}
-use Rattle.config_words.specs.Numbered.{active_nsids, is_there, nsids_where}
+use Rattle.config_words.specs.Numbered.{active_nsids, is_there}
 use Rattle.config_words.proofs.Sets.{no_nsids, nsids_alike}
 use Rattle.edit_reach.specs.Reach.{StaysAsItWas}
 use Rattle.edit_reach.specs.Viewers.{AreOwnOf}
 use Rattle.edit_reach.proofs.Found.{none_found, same_namespace, unshown_absent}
 use Rattle.edit_reach.proofs.Others.{unshown_sees}
 use Rattle.name_table.specs.Table.{IsPut, IsRemoved, value_of}
-use Rattle.name_table.specs.Variants.{VariantsState, common_of, own_of, variant_at, variant_of}
+use Rattle.name_table.specs.Variants.{VariantsState, common_of, own_of, variant_of}
 use Rattle.change_lists.specs.ActiveView.{Shown, ShowsActive, nsids_in, own_in, strangers_in}
 use Rattle.change_lists.specs.Reached.{IsListFor}
 

@@ -1,6 +1,6 @@
 -- A view of the active namespaces, as its callers see it: of each subsystem the identifiers of its namespaces that a host
 -- sees.
-use Rattle.std.specs.Prelude.{◌≡◌, ◌<◌, ◌≤◌, ℕ, Bool, false, true, ◌&&◌, List, [], Option, Some, None, ⊤, is_some, if◌then◌else◌, unwrap_or}
+use Rattle.std.specs.Prelude.{◌≡◌, ◌<◌, ◌≤◌, ℕ, Bool, false, ◌&&◌, List, [], Option, Some, None, ⊤, is_some, if◌then◌else◌, unwrap_or}
 use Rattle.std.specs.Str.{bytes_eq}
 use Rattle.config_lists.specs.Show.{is_shown_of}
 use Rattle.config_rules.specs.Configuration.{Configuration}

@@ -1,11 +1,12 @@
 //! A view of the active namespaces: it follows the edits of a configuration and lends each subsystem's
 //! list, as each host sees it.
-ghost use Rattle.std.specs.Prelude.{◌≡◌, IfOk, IsOk, Ok, length};
+ghost use Rattle.std.specs.Prelude.{◌≡◌, IfOk, IsOk, Ok, Some, length};
 ghost use Rattle.config_rules.specs.Accept.{accept};
 ghost use Rattle.nvt_fields.specs.Window.{window};
 ghost use Rattle.change_lists.specs.ActiveView.{IsPlannedFor, IsShownAfter, LeadsTo, PlansEdit};
 ghost use Rattle.change_lists.specs.ActiveView.{ShowsActive, active_page, nsids_in};
 ghost use Rattle.change_lists.specs.Reached.{IsOfEveryone, IsOfHost};
+ghost use Rattle.edit_reach.specs.Reach.{host_reached, subsystem_reached};
 ghost use Rattle.name_table.specs.Variants.{count_at};
 ghost use Rattle.std.specs.Prelude.{◌<◌, []};
 
@@ -14,7 +15,7 @@ use crate::active_lists::{ActiveLists, lists_of};
 use crate::differences::{changed_nsids, changes_of};
 use crate::nsid_list::NsidList;
 use crate::plan::{EveryoneLists, HostLists, Plan, Reached};
-use config_lists::show::is_shown_of;
+use config_tables::Shows;
 use edit_reach::{host_reached, subsystem_reached};
 use nvt_config::{Config, Edit};
 use std::alloc::{AllocError, Global};
@@ -49,7 +50,8 @@ impl ActiveView {
     /// Takes all the memory to go over to what an edit makes of the configuration that the view shows.
     /// Every answer is as before, also after want of memory. An edit that reaches no subsystem's
     /// namespaces costs nothing, one that reaches a subsystem's costs its own, for strangers and for each
-    /// host that is shown some, and one that shows or hides a namespace costs those of its host.
+    /// host that is shown some, and one that shows or hides a namespace costs those of its host, and copies
+    /// no configuration.
     pub fn prepare(&mut self, config: &Config, edit: &Edit) -> Result<Plan, AllocError>
         requires { IsOk (accept config.now edit.now) }
         ensures plan { IfOk result (λ plan. IfOk (accept config.now edit.now)
@@ -59,13 +61,16 @@ impl ActiveView {
         ensures room { IfOk result (IsPlannedFor self.new) }
         ensures kept { self.new.shown ≡ self.old.shown }
     {
-        if subsystem_reached(edit).is_none() {
+        let Some(subsystem) = subsystem_reached(edit) else {
             return Ok(Plan {
                 reached: Reached::Nothing,
             });
-        }
-        let next = config.edited(edit)?;
-        self.prepare_to(config, &next, edit)
+        };
+        let Some(host) = host_reached(edit) else {
+            let next = config.edited(edit)?;
+            return self.prepare_to(config, &next, edit);
+        };
+        self.prepare_one(config, edit, host, subsystem)
     }
 
     /// Prepares the same where the configuration that the edit makes is there already.
@@ -87,14 +92,35 @@ impl ActiveView {
                 reached: Reached::Nothing,
             });
         };
-        self.lists.reserve()?;
         let Some(host) = host_reached(edit) else {
+            self.lists.reserve()?;
             let everyone = self.everyone(config, next, subsystem)?;
             return Ok(Plan {
                 reached: Reached::Everyone(everyone),
             });
         };
-        let one = self.of_host(config, next, host, subsystem)?;
+        self.prepare_one(config, edit, host, subsystem)
+    }
+
+    // Prepares an edit that reaches one host alone. Nothing of the configuration is copied.
+    fn prepare_one(
+        &mut self,
+        config: &Config,
+        edit: &Edit,
+        host: &[u8],
+        subsystem: &[u8],
+    ) -> Result<Plan, AllocError>
+        requires subsystem { subsystem_reached edit.now ≡ Some subsystem.now }
+        requires host { host_reached edit.now ≡ Some host.now }
+        ensures plan { IfOk result (λ plan. IfOk (accept config.now edit.now)
+            (λ next. PlansEdit config.now next plan)) }
+        ensures next { ShowsActive config.now self.old.shown → IfOk result (λ plan.
+            IfOk (accept config.now edit.now) (λ next. LeadsTo next self.old.shown plan)) }
+        ensures room { IfOk result (IsPlannedFor self.new) }
+        ensures kept { self.new.shown ≡ self.old.shown }
+    {
+        self.lists.reserve()?;
+        let one = self.of_host(config, config.shows_after(edit), host, subsystem)?;
         Ok(Plan {
             reached: Reached::Host(one),
         })
@@ -119,20 +145,22 @@ impl ActiveView {
         })
     }
 
-    // What an edit makes of a subsystem for one host.
+    // What an edit makes of a subsystem for one host: after it there are these shows.
     fn of_host(
         &self,
-        old: &Config,
-        new: &Config,
+        config: &Config,
+        shows: Shows<'_>,
         host: &[u8],
         subsystem: &[u8],
     ) -> Result<HostLists, AllocError>
-        ensures of { IfOk result (IsOfHost old.now new.now host.now subsystem.now) }
+        ensures of { let next = record config.now { shows = shows.entry } in
+            IfOk result (IsOfHost config.now next host.now subsystem.now) }
         ensures empty { IfOk result (λ r. r.room.values ≡ []) }
         ensures wide { IfOk result
             (λ r. count_at self.now.shown.lists subsystem.now < r.room.room) }
     {
-        let seen = new.seen_by(host);
+        let is_own = shows.is_shown_of(subsystem, host);
+        let seen = config.seen_with(shows, host);
         let nsids = NsidList::of(self.alloc, &seen, subsystem)?;
         let room = self.lists.room_for_host(self.alloc, subsystem)?;
         let name = Vec::from_slice(self.alloc, subsystem)?;
@@ -141,8 +169,8 @@ impl ActiveView {
             host: Vec::from_slice(self.alloc, host)?,
             nsids,
             nobody: NsidList::empty(self.alloc),
-            changed: changed_nsids(&old.seen_by(host), &seen, subsystem),
-            is_own: is_shown_of(new.shows(), subsystem, host),
+            changed: changed_nsids(&config.seen_by(host), &seen, subsystem),
+            is_own,
             room,
         })
     }

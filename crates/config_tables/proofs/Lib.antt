@@ -1,3 +1,4 @@
+pub mod Changed
 pub mod Shown
 pub mod Tables
 pub mod Taken

@@ -1,3 +1,4 @@
 pub mod Nsids
 pub mod Onlooker
+pub mod Shows
 pub mod Tables

@@ -6,7 +6,9 @@
 pub mod namespaces;
 mod onlooker;
 mod place;
+pub mod shows;
 pub mod states;
 
 pub use namespaces::NamespaceTable;
+pub use shows::Shows;
 pub use states::{GROUP_END, StateTable};

@@ -9,9 +9,9 @@ ghost use Rattle.config_tables.specs.Tables.{IsEmptyTable, IsTable};
 
 use crate::onlooker::Onlooker;
 use crate::place::put_first;
+use crate::shows::Shows;
 use config_lists::Namespace;
 use config_lists::namespace::NSID_MAX;
-use config_lists::show::Show;
 use config_words::{NsidSet, Nsids};
 use std::marker::Model;
 
@@ -45,7 +45,7 @@ impl<'a> NamespaceTable<'a> {
     /// the first of an identifier counts.
     pub fn of(
         namespaces: &'a [Namespace],
-        shows: &[Show],
+        shows: &Shows<'_>,
         host: &[u8],
         subsystem: &[u8],
     ) -> NamespaceTable<'a>
@@ -86,7 +86,7 @@ fn set_places<'a>(
     places: &mut [Option<&'a Namespace>; PLACES],
     taken: &mut NsidSet,
     namespaces: &'a [Namespace],
-    shows: &[Show],
+    shows: &Shows<'_>,
     host: &[u8],
     subsystem: &[u8],
 )

@@ -1,10 +1,10 @@
 //! Which namespaces of a subsystem a host sees.
 ghost use Rattle.std.specs.Prelude.{◌≡◌, ◌&&◌};
 ghost use Rattle.std.specs.Str.{bytes_eq};
-ghost use Rattle.config_lists.specs.Show.{has_show, is_seen, is_show_in};
-ghost use Rattle.config_words.specs.Numbered.{nsids_where};
+ghost use Rattle.config_lists.specs.Show.{has_show, is_seen};
 ghost use Rattle.config_tables.specs.Onlooker.{nsids_shown};
 
+use crate::shows::{ShowChange, Shows, is_show_in};
 use config_lists::Namespace;
 use config_lists::namespace::is_nsid;
 use config_lists::show::{Show, has_show};
@@ -15,33 +15,41 @@ use std::marker::Model;
 /// shows, however many namespaces it looks at.
 #[derive(Drop)]
 pub(crate) struct Onlooker<'a> {
-    shows: &'a [Show],
+    listed: &'a [Show],
+    change: ShowChange<'a>,
     host: &'a [u8],
     subsystem: &'a [u8],
+    // By the shows that are listed.
     shown: NsidSet,
 }
 
 impl<'a> Model for Onlooker<'a> {
     ghost use Rattle.std.specs.Prelude.{◌≡◌};
     ghost use Rattle.config_tables.specs.Onlooker.{Looking, nsids_shown};
+    ghost use Rattle.config_tables.specs.Shows.{shows_after};
 
     ghost Value = { Looking };
 
-    ghost view = { λ v. record { shows = v.shows.now; host = v.host.now; subsystem = v.subsystem.now } };
+    ghost view = { λ v. record {
+      shows = shows_after v.change v.listed.now;
+      host = v.host.now;
+      subsystem = v.subsystem.now;
+    } };
 
-    ghost invariant = { λ v. v.shown ≡ nsids_shown v.shows.now v.host.now v.subsystem.now };
+    ghost invariant = { λ v. v.shown ≡ nsids_shown v.listed.now v.host.now v.subsystem.now };
 }
 
 impl<'a> Onlooker<'a> {
     /// The host of that name, which is shown namespaces by these shows.
-    pub(crate) fn new(shows: &'a [Show], host: &'a [u8], subsystem: &'a [u8]) -> Onlooker<'a>
+    pub(crate) fn new(shows: &Shows<'a>, host: &'a [u8], subsystem: &'a [u8]) -> Onlooker<'a>
         ensures { result ≡ record { shows = shows.now; host = host.now; subsystem = subsystem.now } }
     {
         Onlooker {
-            shows,
+            listed: shows.listed,
+            change: shows.change,
             host,
             subsystem,
-            shown: nsids_shown(shows, host, subsystem),
+            shown: nsids_shown(shows.listed, host, subsystem),
         }
     }
 
@@ -59,10 +67,14 @@ impl<'a> Onlooker<'a> {
     fn is_shown(&self, nsid: u32) -> bool
         ensures { result ≡ has_show self.now.shows self.now.subsystem nsid self.now.host }
     {
-        if is_nsid(u64::from(nsid)) {
+        let number = u64::from(nsid);
+        if let Some(is_shown) = self.change.says(self.subsystem, number, self.host) {
+            return is_shown;
+        }
+        if is_nsid(number) {
             self.shown.has(nsid)
         } else {
-            has_show(self.shows, self.subsystem, u64::from(nsid), self.host)
+            has_show(self.listed, self.subsystem, number, self.host)
         }
     }
 }
@@ -78,10 +90,4 @@ fn nsids_shown(shows: &[Show], host: &[u8], subsystem: &[u8]) -> NsidSet
         }
     }
     shown
-}
-
-fn is_show_in(show: &Show, subsystem: &[u8], host: &[u8]) -> bool
-    ensures { result ≡ is_show_in subsystem.now host.now show.now }
-{
-    show.host.is(host) && show.subsystem.is(subsystem)
 }

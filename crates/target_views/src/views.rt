@@ -15,7 +15,7 @@ use admin_queue::Pages;
 use ana_view::{AnaView, Plan as AnaPlan};
 use change_lists::{ActiveView, Plan as ActivePlan};
 use discovery_view::{DiscoveryView, Plan as DiscoveryPlan, RecordFormer};
-use edit_reach::subsystem_reached;
+use edit_reach::{host_reached, subsystem_reached};
 use notices::PlannedEdit;
 use nvt_config::{Config, Edit};
 use std::alloc::{AllocError, Global};
@@ -110,8 +110,8 @@ impl Views {
         })
     }
 
-    // Prepares the views of namespaces, which change where the edit reaches a subsystem: the configuration
-    // that it makes is made once for both.
+    // Prepares the views of namespaces, which change where the edit reaches a subsystem. The configuration
+    // that it makes is made once for both, and not at all where it reaches one host alone.
     fn prepare_lists(
         &mut self,
         config: &Config,
@@ -125,7 +125,7 @@ impl Views {
             (λ next. ListsLeadTo config.now next self.old.shown plans.0 plans.1)) }
         ensures kept { self.new ≡ record self.old { active_room = self.new.active_room; ana_room = self.new.ana_room } }
     {
-        if subsystem_reached(edit).is_none() {
+        if subsystem_reached(edit).is_none() || host_reached(edit).is_some() {
             let active = self.active.prepare(config, edit)?;
             return both(active, self.ana.prepare(config, edit));
         }

@@ -9,7 +9,7 @@ use Rattle.config_tables.proofs.namespaces.set_places.Given as goal
 -- the table is that of the namespaces so far, and so are the identifiers taken
 abbrev pub invariant-loop-namespace : goal.invariant-loop-namespace
 invariant-loop-namespace l = record {
-  table : IsTable (is_named l.subsystem) (filter (is_seen l.shows l.host) (take l.namespace-index l.namespaces)) l.places;
+  table : IsTable (is_named l.subsystem) (filter (is_seen l.fn.shows l.host) (take l.namespace-index l.namespaces)) l.places;
   taken : l.taken ≡ nsids_in (map option_copied l.places);
   len : length l.places ≡ nsid_max + 1;
 }

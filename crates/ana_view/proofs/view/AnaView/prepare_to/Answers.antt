@@ -1,6 +1,6 @@
 use Rattle.std.proofs.Common.{sym, ap, ◌∙◌}
 use Rattle.std.specs.Option.{option_copied}
-use Rattle.ana_view.proofs.Plans.{leads_everyone, leads_nothing, leads_one_host, plans_everyone, plans_nothing, plans_one_host}
+use Rattle.ana_view.proofs.Plans.{leads_everyone, leads_nothing, plans_everyone, plans_nothing}
 use Rattle.ana_view.proofs.view.AnaView.prepare_to.Goals as goal
 
 pub returns-in_default-clause-planned : goal.returns-in_default-clause-planned
@@ -22,13 +22,7 @@ returns-in_default-host_reached-clause-next c =
     leads_everyone c.args.config.now c.args.next.now c.args.edit.now c.requires c.in-Some.subsystem.now c.in_ok-everyone.everyone reached (sym c.in_default-host_reached.ensures) c.in_ok-everyone.ensures c.args.self.now.shown
 
 pub returns-clause-planned : goal.returns-clause-planned
-returns-clause-planned c =
-    let reached = sym c.subsystem_reached.ensures ∙ ap option_copied c.in-Some.is in
-    let alone = sym c.host_reached.ensures ∙ ap option_copied c.in-Some-host_reached.is in
-    plans_one_host c.args.config.now c.args.next.now c.args.edit.now c.requires c.in-Some.subsystem.now c.in-Some-host_reached.host.now c.in_ok-one.one reached alone c.in_ok-one.ensures.of
+returns-clause-planned c = rw c.requires at c.prepare_one.ensures.planned
 
 pub returns-clause-next : goal.returns-clause-next
-returns-clause-next c =
-    let reached = sym c.subsystem_reached.ensures ∙ ap option_copied c.in-Some.is in
-    let alone = sym c.host_reached.ensures ∙ ap option_copied c.in-Some-host_reached.is in
-    leads_one_host c.args.config.now c.args.next.now c.args.edit.now c.requires c.in-Some.subsystem.now c.in-Some-host_reached.host.now c.in_ok-one.one reached alone c.in_ok-one.ensures.of c.args.self.now.shown
+returns-clause-next c = λ shows. rw c.requires at (c.prepare_one.ensures.next shows)

@@ -1,9 +1,9 @@
-use Rattle.std.proofs.Common.{◌≡◌, ◌+◌, ◌++◌, ◌∷◌, [], List, suc, take, refl, ap, sym, ◌∙◌, arith}
+use Rattle.std.proofs.Common.{◌≡◌, ◌+◌, ◌++◌, ◌∷◌, [], List, suc, take, ap, sym, ◌∙◌, arith}
 use Rattle.std.proofs.Math.Seq.{take-suc}
 use Rattle.std.proofs.lemmas.List.{map-append, take_all}
 use Rattle.config_lists.specs.declared.subsystem.Subsystem.{Subsystem}
 use Rattle.name_table.specs.Table.{IsPut}
-use Rattle.change_lists.proofs.Ready.{AreReady, names_of, none_ready, one_more_ready, shows_active}
+use Rattle.change_lists.proofs.Ready.{names_of, none_ready, one_more_ready, shows_active}
 use Rattle.change_lists.proofs.active_lists.ActiveLists.of.Goals as goal
 
 pub loop-subsystem-init : goal.loop-subsystem-init

@@ -1,6 +1,6 @@
 use Rattle.std.proofs.Common.{ap, sym, ◌∙◌}
 use Rattle.std.specs.Option.{option_copied}
-use Rattle.change_lists.proofs.Planned.{leads_everyone, leads_nothing, leads_one_host, plans_everyone, plans_nothing, plans_one_host}
+use Rattle.change_lists.proofs.Planned.{leads_everyone, leads_nothing, plans_everyone, plans_nothing}
 use Rattle.change_lists.proofs.active_view.ActiveView.prepare_to.Goals as goal
 
 pub returns-in_default-clause-plan : goal.returns-in_default-clause-plan
@@ -22,11 +22,7 @@ returns-in_default-host_reached-clause-next c = λ shows.
     (sym c.host_reached.ensures ∙ ap option_copied c.in_default-host_reached.is) c.in_ok-everyone.ensures c.args.self.now.shown shows
 
 pub returns-clause-plan : goal.returns-clause-plan
-returns-clause-plan c =
-    plans_one_host c.args.config.now c.args.next.now c.args.edit.now c.requires c.in-Some.subsystem.now c.in-Some-host_reached.host.now c.in_ok-one.one (sym c.subsystem_reached.ensures ∙ ap option_copied c.in-Some.is)
-    (sym c.host_reached.ensures ∙ ap option_copied c.in-Some-host_reached.is) c.in_ok-one.ensures.of
+returns-clause-plan c = rw c.requires at c.prepare_one.ensures.plan
 
 pub returns-clause-next : goal.returns-clause-next
-returns-clause-next c = λ shows.
-    leads_one_host c.args.config.now c.args.next.now c.args.edit.now c.requires c.in-Some.subsystem.now c.in-Some-host_reached.host.now c.in_ok-one.one (sym c.subsystem_reached.ensures ∙ ap option_copied c.in-Some.is)
-    (sym c.host_reached.ensures ∙ ap option_copied c.in-Some-host_reached.is) c.in_ok-one.ensures.of c.args.self.now.shown shows
+returns-clause-next c = λ shows. rw c.requires at (c.prepare_one.ensures.next shows)
