@@ -2,12 +2,14 @@
 //! that these name, and the exit status that tells how they ended.
 #![tactic(auto)]
 
+mod check;
 mod disks;
 mod files;
 mod replay;
 mod serve;
 mod status;
 
+pub use check::CheckArguments;
 pub use disks::{DiskArguments, disk_sizes};
 pub use files::{read_file, read_file_into};
 pub use replay::ReplayArguments;

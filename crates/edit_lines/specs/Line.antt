@@ -1,6 +1,8 @@
 -- Lines of edits that are made on a target, and those that are refused.
 use Rattle.std.specs.Prelude.{◌≡◌, ℕ, List, Some, Ok, Err}
 use Rattle.config_edits.specs.declared.edit.Edit.{Edit}
+use Rattle.config_edits.specs.declared.fault.EditFault.{EditFault}
+use Rattle.config_edits.specs.declared.fault.EditFault.TheVariants as why
 use Rattle.config_rules.specs.Accept.{accept}
 use Rattle.config_rules.specs.Configuration.{Configuration}
 use Rattle.line_words.specs.declared.fault.LineFault.{LineFault}
@@ -28,6 +30,10 @@ not_read_by fault _ = Refused (reply.Line fault)
 
 abbrev pub not_read : LineFault → NotMade
 not_read fault = not_read_by fault fault.kind
+
+abbrev pub not_made : EditFault → NotMade
+not_made why.Memory = Memory
+not_made fault = Refused (reply.Edit fault)
 
 -- why the edit of a line is not made
 abbrev pub IsRefused : Configuration → List ℕ → NotMade → Type 0

@@ -4,7 +4,7 @@ ghost use Rattle.std.specs.Prelude.{◌≡◌, IfErr, Ok, OnErr, OnOk};
 ghost use Rattle.config_rules.specs.Accept.{accept};
 ghost use Rattle.target_core.specs.Transition.{Transition};
 ghost use Rattle.target_history.specs.Event.{edited};
-ghost use Rattle.edit_lines.specs.Line.{IsEditRefused, IsRefused, MakesLine, not_read};
+ghost use Rattle.edit_lines.specs.Line.{IsEditRefused, IsRefused, MakesLine, not_made, not_read};
 
 use block_store::Disk;
 use config_text::{LineFault, LineFaultKind, read_edit};
@@ -45,12 +45,22 @@ fn make_edit<D: Disk + Drop>(target: &mut Target<D>, edit: &Edit) -> Result<(), 
 {
     match target.edit(edit) {
         Ok(()) => Ok(()),
-        Err(EditFault::Memory) => Err(NotMade::Memory),
-        Err(fault) => Err(NotMade::Refused(Reply::Edit(fault))),
+        Err(fault) => Err(not_made(fault)),
     }
 }
 
-fn not_read(fault: LineFault) -> NotMade
+/// Why the edit of a line is not made that is refused so.
+pub(crate) fn not_made(fault: EditFault) -> NotMade
+    ensures { result ≡ not_made fault }
+{
+    match fault {
+        EditFault::Memory => NotMade::Memory,
+        _ => NotMade::Refused(Reply::Edit(fault)),
+    }
+}
+
+/// Why the edit of a line is not made that has this fault.
+pub(crate) fn not_read(fault: LineFault) -> NotMade
     ensures { result ≡ not_read fault }
 {
     match fault.kind {

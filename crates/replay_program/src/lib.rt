@@ -1,9 +1,11 @@
-//! The command `replay` of the program: what its arguments ask for, done over files and the standard
-//! output. It reads no command line.
+//! The commands `replay` and `check` of the program: what their arguments ask for, done over files and the
+//! standard output. It reads no command line.
 #![tactic(auto)]
 
+mod check;
 mod command;
 mod explained;
 
+pub use check::check;
 pub use command::run;
 pub use nvt_replay::ReplayFault;

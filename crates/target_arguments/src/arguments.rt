@@ -2,7 +2,7 @@
 
 use crate::command_line;
 use clap::ArgMatches;
-use command_parts::{DiskArguments, ReplayArguments, ReplayFault, ServeArguments};
+use command_parts::{CheckArguments, DiskArguments, ReplayArguments, ReplayFault, ServeArguments};
 use program_words::{Refusal, number, parsed, refusal_of, take_words};
 use std::alloc::{AllocError, Global};
 use std::rt::Env;
@@ -12,6 +12,7 @@ use std::rt::Env;
 pub enum Usage {
     Replay(ReplayArguments),
     Serve(ServeArguments),
+    Check(CheckArguments),
     /// The help, which was printed.
     Help,
     Bad,
@@ -47,8 +48,11 @@ fn usage_of(alloc: Global, matches: &ArgMatches<'_>) -> Result<Usage, ReplayFaul
     if let Some(replay) = matches.subcommand_matches("replay") {
         return replay_usage(alloc, replay);
     }
-    match matches.subcommand_matches("run") {
-        Some(run) => serve_usage(alloc, run),
+    if let Some(run) = matches.subcommand_matches("run") {
+        return serve_usage(alloc, run);
+    }
+    match matches.subcommand_matches("check") {
+        Some(check) => check_usage(alloc, check),
         None => Ok(Usage::Bad),
     }
 }
@@ -84,6 +88,16 @@ fn serve_usage(alloc: Global, run: &ArgMatches<'_>) -> Result<Usage, ReplayFault
                 disks,
             },
         )),
+        _ => Ok(Usage::Bad),
+    }
+}
+
+fn check_usage(alloc: Global, check: &ArgMatches<'_>) -> Result<Usage, ReplayFault> {
+    match (check.get_str("EDITS"), disk_arguments(check)) {
+        (Some(edits), Some(disks)) => Ok(Usage::Check(CheckArguments {
+            edits: String::from_str(alloc, edits)?,
+            disks,
+        })),
         _ => Ok(Usage::Bad),
     }
 }

@@ -1,6 +1,6 @@
 //! The command line, as the program declares it.
 
-use crate::help::{HELP, RUN_HELP};
+use crate::help::{CHECK_HELP, HELP, RUN_HELP};
 use clap::{Arg, ArgAction, Command, value_parser};
 use program_words::{port_option, turns, with, with_command};
 use std::alloc::{AllocError, Global};
@@ -13,14 +13,15 @@ const CONTROL_HELP: &str = "The TCP port for lines of edits, at 127.0.0.1";
 
 const TURNS_HELP: &str = "How many turns the target is served; an idle one takes up to 1 ms";
 
-/// The program, with its commands `replay` and `run`.
+/// The program, with its commands `replay`, `run` and `check`.
 pub fn program<'a>(alloc: Global) -> Result<Command<'a>, AllocError> {
     let program = Command::new(alloc, "nvt_target")
         .about("A target of NVMe over TCP")
         .after_help(HELP)
         .subcommand_required(true);
     let program = with_command(Ok(program), replay(alloc));
-    with_command(program, run(alloc))
+    let program = with_command(program, run(alloc));
+    with_command(program, check(alloc))
 }
 
 fn replay<'a>(alloc: Global) -> Result<Command<'a>, AllocError> {
@@ -43,6 +44,15 @@ fn run<'a>(alloc: Global) -> Result<Command<'a>, AllocError> {
     let control = port_option(alloc, "control", CONTROL_HELP);
     let command = with(command, control);
     let command = with(command, turns(alloc, TURNS_HELP));
+    let command = with(command, disks(alloc));
+    with(command, units(alloc))
+}
+
+fn check<'a>(alloc: Global) -> Result<Command<'a>, AllocError> {
+    let command = Command::new(alloc, "check")
+        .about("Applies the lines of EDITS to disks alone, and serves nothing")
+        .after_help(CHECK_HELP)
+        .arg(file(alloc, "EDITS", "A file of one edit a line"));
     let command = with(command, disks(alloc));
     with(command, units(alloc))
 }

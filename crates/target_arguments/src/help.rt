@@ -97,3 +97,18 @@ A first session, with a Linux host beside it:
 and then, to nc, the line
   ns add nqn.2026-01.test:a 1 0 262144 512 11111111-1111-4111-8111-111111111111 1
 which is answered `ok`: the host has a disk of 128 MiB.";
+
+/// What a file of edits is checked against.
+pub const CHECK_HELP: &str =
+    "EDITS has one edit a line; `nvt_target help replay` lists them, and the replies to them. They are
+applied, in their order, to the configuration of that many disks and nothing else, as `run` and
+`replay` apply them. Where each is accepted, `ok` is printed, and the exit status is 0. Else it is
+1, and on standard error the first line that is refused is named with its reply, as these do it:
+  error: line 17: refused Exists Port
+
+No disk is made, no port is opened, and no host is served.
+
+Example:
+  printf 'port add 1 ipv4 127.0.0.1 4420\\n' > EDITS
+  nvt_target check EDITS --disks 256 --units 1048576
+prints `ok`.";
