@@ -10,11 +10,11 @@ use Rattle.config_lists.specs.Namespace.{is_named}
 use Rattle.config_lists.specs.Show.{has_show, is_show_of, is_show_to}
 use Rattle.config_lists.proofs.Names.{bytes_eq-same, same_name}
 use Rattle.config_edits.specs.declared.edit.Edit.{Edit}
-use Rattle.config_edits.specs.declared.edit.Edit.TheVariants.{HostAdd, HostDel}
+use Rattle.config_edits.specs.declared.edit.Edit.TheVariants.{AllowAdd, HostAdd, HostDel, NamespaceShow}
 use Rattle.config_rules.specs.Accept.{accept}
 use Rattle.config_rules.specs.Configuration.{Configuration, has_allow, has_host, has_live_host, has_namespace, has_subsystem, with_live, with_new_host}
 use Rattle.config_rules.specs.Valid.{AreAllows, AreHosts, AreShows, IsAllow, IsNamespace, IsShow, IsValid}
-use Rattle.config_saved.specs.Saved.{after_all, edit_of_allow, edit_of_show, edits_of_host}
+use Rattle.config_saved.specs.Saved.{after_all, edits_of_allow, edits_of_show, edits_of_host}
 use Rattle.config_saved.proofs.Items.{changed_last, finds_last, found_sound, item_fits, item_new, item_sound}
 use Rattle.config_saved.proofs.Rebuild.{AddEach, accept_where_none, after_first, after_one}
 use Rattle.config_saved.proofs.Stages.{at_allows, at_hosts, at_shows}
@@ -76,15 +76,15 @@ hosts_added c valid before h after whole = edits_add_host c valid before h after
 abbrev IsSameAllow : Allow → Allow → Type 0
 IsSameAllow a b = (a.subsystem ≡ b.subsystem) × (a.host ≡ b.host)
 
-pub allows_added : (c : Configuration) → IsValid c → AddEach (λ a. edit_of_allow a ∷ []) (at_allows c) c.allows
+pub allows_added : (c : Configuration) → IsValid c → AddEach edits_of_allow (at_allows c) c.allows
 allows_added c valid before a after whole =
     let are : AreAllows c.subsystems c.hosts (before ++ a ∷ after) = subst (AreAllows c.subsystems c.hosts) (sym whole) valid.allows in
     let sound : IsAllow c.subsystems c.hosts a = item_sound (IsAllow c.subsystems c.hosts) before a after are.sound in
     let new : has_allow before a.subsystem a.host ≡ false = item_new IsSameAllow (λ b. bytes_eq b.subsystem a.subsystem && bytes_eq b.host a.host) before a after are.distinct (λ b same.
     let parts = and_parts (bytes_eq b.subsystem a.subsystem) (bytes_eq b.host a.host) same in
     (same_name b.subsystem a.subsystem parts.0, same_name b.host a.host parts.1)) in
-    after_one (at_allows c before) (at_allows c (before ++ a ∷ [])) (edit_of_allow a)
-    (accept_where_none (at_allows c before) (edit_of_allow a) (
+    after_one (at_allows c before) (at_allows c (before ++ a ∷ [])) (AllowAdd a.subsystem a.host)
+    (accept_where_none (at_allows c before) (AllowAdd a.subsystem a.host) (
       not_from_true (has_subsystem c.subsystems a.subsystem) sound.subsystem,
       (
         not_from_true (has_live_host c.hosts a.host) sound.host,
@@ -115,13 +115,13 @@ same_show s t same =
     let of = and_parts (s.nsid == t.nsid) (bytes_eq s.subsystem t.subsystem) parts.0 in
     (same_name s.subsystem t.subsystem of.1, eqb-true s.nsid t.nsid of.0, same_name s.host t.host parts.1)
 
-pub shows_added : (c : Configuration) → IsValid c → AddEach (λ s. edit_of_show s ∷ []) (at_shows c) c.shows
+pub shows_added : (c : Configuration) → IsValid c → AddEach edits_of_show (at_shows c) c.shows
 shows_added c valid before s after whole =
     let are : AreShows c.namespaces c.hosts (before ++ s ∷ after) = subst (AreShows c.namespaces c.hosts) (sym whole) valid.shows in
     let sound : IsShow c.namespaces c.hosts s = item_sound (IsShow c.namespaces c.hosts) before s after are.sound in
     let new : has_show before s.subsystem s.nsid s.host ≡ false = item_new IsSameShow (is_show_to s.subsystem s.nsid s.host) before s after are.distinct (λ t. same_show t s) in
-    after_one (at_shows c before) (at_shows c (before ++ s ∷ [])) (edit_of_show s)
-    (accept_where_none (at_shows c before) (edit_of_show s) (
+    after_one (at_shows c before) (at_shows c (before ++ s ∷ [])) (NamespaceShow s.subsystem s.nsid s.host)
+    (accept_where_none (at_shows c before) (NamespaceShow s.subsystem s.nsid s.host) (
       not_from_true (has_subsystem c.subsystems s.subsystem) (namespace_end c valid s.subsystem s.nsid sound.named_namespace),
       (
         not_from_true (has_namespace c.namespaces s.subsystem s.nsid) sound.named_namespace,

@@ -11,9 +11,10 @@ use Rattle.config_lists.specs.Namespace.{is_group}
 use Rattle.config_lists.specs.Port.{is_address, is_port, is_port_number}
 use Rattle.config_lists.proofs.Names.{same_name}
 use Rattle.config_edits.specs.declared.edit.Edit.{Edit}
+use Rattle.config_edits.specs.declared.edit.Edit.TheVariants.{AnaSet, LinkAdd, PortAdd, ReferralAdd}
 use Rattle.config_rules.specs.Configuration.{Configuration, has_link, has_port, has_state, has_subsystem, with_ana_state, with_new_state, with_state_set, without_state}
 use Rattle.config_rules.specs.Valid.{AreLinks, ArePorts, AreStates, IsGroupState, IsLink, IsValid}
-use Rattle.config_saved.specs.Saved.{edit_of_link, edit_of_port, edit_of_referral, edit_of_state}
+use Rattle.config_saved.specs.Saved.{endpoint_of, edits_of_link, edits_of_port, edits_of_referral, edits_of_state}
 use Rattle.config_saved.proofs.Items.{found_sound, item_fits, item_new, item_sound}
 use Rattle.config_saved.proofs.Rebuild.{AddEach, NoneHolds, accept_where_none, after_one}
 use Rattle.config_saved.proofs.Stages.{at_links, at_ports, at_referrals, at_states}
@@ -34,12 +35,12 @@ module _ (before : List Port) (p : Port) (after : List Port) (are : ArePorts (be
   port_new : has_port before p.id ≡ false
   port_new = item_new (λ (p q : Port). p.id ≡ q.id) (λ q. q.id == p.id) before p after are.distinct (λ q. eqb-true q.id p.id)
 
-pub ports_added : (c : Configuration) → IsValid c → AddEach (λ p. edit_of_port p ∷ []) (at_ports c) c.ports
+pub ports_added : (c : Configuration) → IsValid c → AddEach edits_of_port (at_ports c) c.ports
 ports_added c valid before p after whole =
     let are : ArePorts (before ++ p ∷ after) = subst ArePorts (sym whole) valid.ports in
     let sound = port_sound before p after are in
-    after_one (at_ports c before) (at_ports c (before ++ p ∷ [])) (edit_of_port p)
-    (accept_where_none (at_ports c before) (edit_of_port p) (
+    after_one (at_ports c before) (at_ports c (before ++ p ∷ [])) (PortAdd (endpoint_of p))
+    (accept_where_none (at_ports c before) (PortAdd (endpoint_of p)) (
       not_from_true (is_port_number p.id) sound.0,
       (
         not_from_true (is_address p.address) sound.1,
@@ -53,12 +54,12 @@ ports_added c valid before p after whole =
       ),
     ))
 
-pub referrals_added : (c : Configuration) → IsValid c → AddEach (λ p. edit_of_referral p ∷ []) (at_referrals c) c.referrals
+pub referrals_added : (c : Configuration) → IsValid c → AddEach edits_of_referral (at_referrals c) c.referrals
 referrals_added c valid before p after whole =
     let are : ArePorts (before ++ p ∷ after) = subst ArePorts (sym whole) valid.referrals in
     let sound = port_sound before p after are in
-    after_one (at_referrals c before) (at_referrals c (before ++ p ∷ [])) (edit_of_referral p)
-    (accept_where_none (at_referrals c before) (edit_of_referral p) (
+    after_one (at_referrals c before) (at_referrals c (before ++ p ∷ [])) (ReferralAdd (endpoint_of p))
+    (accept_where_none (at_referrals c before) (ReferralAdd (endpoint_of p)) (
       not_from_true (is_port_number p.id) sound.0,
       (
         not_from_true (is_address p.address) sound.1,
@@ -77,15 +78,15 @@ referrals_added c valid before p after whole =
 abbrev IsSameLink : Link → Link → Type 0
 IsSameLink k l = (k.port ≡ l.port) × (k.subsystem ≡ l.subsystem)
 
-pub links_added : (c : Configuration) → IsValid c → AddEach (λ l. edit_of_link l ∷ []) (at_links c) c.links
+pub links_added : (c : Configuration) → IsValid c → AddEach edits_of_link (at_links c) c.links
 links_added c valid before l after whole =
     let are : AreLinks c.ports c.subsystems (before ++ l ∷ after) = subst (AreLinks c.ports c.subsystems) (sym whole) valid.links in
     let sound : IsLink c.ports c.subsystems l = item_sound (IsLink c.ports c.subsystems) before l after are.sound in
     let new : has_link before l.port l.subsystem ≡ false = item_new IsSameLink (λ k. (k.port == l.port) && bytes_eq k.subsystem l.subsystem) before l after are.distinct (λ k same.
     let parts = and_parts (k.port == l.port) (bytes_eq k.subsystem l.subsystem) same in
     (eqb-true k.port l.port parts.0, same_name k.subsystem l.subsystem parts.1)) in
-    after_one (at_links c before) (at_links c (before ++ l ∷ [])) (edit_of_link l)
-    (accept_where_none (at_links c before) (edit_of_link l) (
+    after_one (at_links c before) (at_links c (before ++ l ∷ [])) (LinkAdd l.port l.subsystem)
+    (accept_where_none (at_links c before) (LinkAdd l.port l.subsystem) (
       not_from_true (has_port c.ports l.port) sound.port,
       (
         not_from_true (has_subsystem c.subsystems l.subsystem) sound.subsystem,
@@ -121,14 +122,14 @@ state_is_new c s other new =
     cond-false (is_optimized s.state) (without_state c s.port s.subsystem s.group) _ other
     ∙ cond-false (has_state c.states s.port s.subsystem s.group) (with_state_set c s.port s.subsystem s.group s.state) (with_new_state c s) new
 
-pub states_added : (c : Configuration) → IsValid c → AddEach (λ s. edit_of_state s ∷ []) (at_states c) c.states
+pub states_added : (c : Configuration) → IsValid c → AddEach edits_of_state (at_states c) c.states
 states_added c valid before s after whole =
     let are : AreStates c.links (before ++ s ∷ after) = subst (AreStates c.links) (sym whole) valid.states in
     let sound : IsGroupState c.links s = item_sound (IsGroupState c.links) before s after are.sound in
     let ends = link_ends c valid s.port s.subsystem sound.link in
     let new : has_state before s.port s.subsystem s.group ≡ false = item_new IsSameState (is_state_for s.port s.subsystem s.group) before s after are.distinct (λ t. same_state t s) in
-    after_one (at_states c before) (at_states c (before ++ s ∷ [])) (edit_of_state s)
-    (accept_where_none (at_states c before) (edit_of_state s) (
+    after_one (at_states c before) (at_states c (before ++ s ∷ [])) (AnaSet s.port s.subsystem s.group s.state)
+    (accept_where_none (at_states c before) (AnaSet s.port s.subsystem s.group s.state) (
       not_from_true (is_group s.group) sound.group,
       (
         not_from_true (has_port c.ports s.port) ends.0,

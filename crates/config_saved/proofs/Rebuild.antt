@@ -1,5 +1,5 @@
 -- What edits that are accepted one after another leave.
-use Rattle.std.proofs.Common.{◌≡◌, ◌++◌, ◌∷◌, [], true, false, List, map, flat_map, Result, Ok, Err, refl, ap, sym, ◌∙◌, subst}
+use Rattle.std.proofs.Common.{◌≡◌, ◌++◌, ◌∷◌, [], true, false, List, flat_map, Result, Ok, Err, refl, ap, sym, ◌∙◌, subst}
 use Rattle.std.proofs.lemmas.List.{append-nil, append_assoc}
 use Rattle.config_edits.specs.declared.edit.Edit.{Edit}
 use Rattle.config_edits.specs.declared.fault.EditFault.{EditFault}
@@ -55,12 +55,3 @@ module _ {X : Type 0} (edits_of : X → List Edit) (holding : List X → Configu
   -- so the edits of all items add the list
   pub after_each : (xs : List X) → AddEach xs → after_all (holding []) (flat_map edits_of xs) ≡ Ok (holding xs)
   after_each xs each = after_those_left xs each [] xs refl
-
-map-flat_map : {X : Type 0} (edit_of : X → Edit) (xs : List X) → flat_map (λ x. edit_of x ∷ []) xs ≡ map edit_of xs
-map-flat_map edit_of [] = refl
-map-flat_map edit_of (x ∷ xs) = ap (λ l. edit_of x ∷ l) (map-flat_map edit_of xs)
-
--- .. where each item has one edit
-pub after_map : {X : Type 0} (edit_of : X → Edit) (holding : List X → Configuration) (xs : List X) → AddEach (λ x. edit_of x ∷ []) holding xs → after_all (holding []) (map edit_of xs) ≡ Ok (holding xs)
-after_map edit_of holding xs each =
-    subst (λ edits. after_all (holding []) edits ≡ Ok (holding xs)) (map-flat_map edit_of xs) (after_each (λ x. edit_of x ∷ []) holding xs each)

@@ -16,22 +16,22 @@ use Rattle.config_lists.specs.Namespace.{block_size_of, bytes_of, is_for_all, is
 use Rattle.config_lists.specs.Subsystem.{is_discovery, is_serial, is_subsystem}
 use Rattle.config_lists.proofs.Names.{bytes_eq-same, same_name}
 use Rattle.config_edits.specs.declared.edit.Edit.{Edit}
-use Rattle.config_edits.specs.declared.edit.Edit.TheVariants.{NamespaceAdd, NamespaceView}
+use Rattle.config_edits.specs.declared.edit.Edit.TheVariants.{NamespaceAdd, NamespaceView, SubsystemAdd}
 use Rattle.config_rules.specs.Accept.{accept, block_size_named, effect, is_over, namespace_of}
 use Rattle.config_rules.specs.Configuration.{Configuration, has_namespace, has_subsystem}
 use Rattle.config_rules.specs.Valid.{AreNamespaces, AreSubsystems, IsNamespace, IsValid, is_size_on}
-use Rattle.config_saved.specs.Saved.{added_namespace, after_all, edit_of_subsystem, edits_of_namespace}
+use Rattle.config_saved.specs.Saved.{added_namespace, after_all, edits_of_subsystem, edits_of_namespace}
 use Rattle.config_saved.proofs.Items.{changed_last, finds_last, item_fits, item_new, item_sound}
 use Rattle.config_saved.proofs.Rebuild.{AddEach, accept_where_none, after_first, after_one}
 use Rattle.config_saved.proofs.Stages.{at_namespaces, at_subsystems}
 
-pub subsystems_added : (c : Configuration) → IsValid c → AddEach (λ s. edit_of_subsystem s ∷ []) (at_subsystems c) c.subsystems
+pub subsystems_added : (c : Configuration) → IsValid c → AddEach edits_of_subsystem (at_subsystems c) c.subsystems
 subsystems_added c valid before s after whole =
     let are : AreSubsystems (before ++ s ∷ after) = subst AreSubsystems (sym whole) valid.subsystems in
     let sound = and_parts (not (is_discovery s.nqn)) (is_serial s.serial) (item_sound (λ (t : Subsystem). IsTrue (is_subsystem t)) before s after are.sound) in
     let new = item_new (λ s t. s.nqn ≡ t.nqn) (λ t. bytes_eq t.nqn s.nqn) before s after are.distinct (λ t. same_name t.nqn s.nqn) in
-    after_one (at_subsystems c before) (at_subsystems c (before ++ s ∷ [])) (edit_of_subsystem s)
-    (accept_where_none (at_subsystems c before) (edit_of_subsystem s)
+    after_one (at_subsystems c before) (at_subsystems c (before ++ s ∷ [])) (SubsystemAdd s.nqn s.serial s.access)
+    (accept_where_none (at_subsystems c before) (SubsystemAdd s.nqn s.serial s.access)
     (not-true (is_discovery s.nqn) sound.0, (not_from_true (is_serial s.serial) sound.1, (new, (item_fits 32 before s after are.count, tt)))))
 
 -- a size that the disk has is no bad one

@@ -1,5 +1,5 @@
 -- The saved configuration: the edits that make an equal one of a new one.
-use Rattle.std.specs.Prelude.{◌≡◌, List, [], ◌∷◌, ◌++◌, map, flat_map, Result, Ok, Err, if◌then◌else◌}
+use Rattle.std.specs.Prelude.{◌≡◌, List, [], ◌∷◌, ◌++◌, flat_map, Result, Ok, Err, if◌then◌else◌}
 use Rattle.config_lists.specs.declared.allow.Allow.{Allow}
 use Rattle.config_lists.specs.declared.group_state.GroupState.{GroupState}
 use Rattle.config_lists.specs.declared.host.Host.{Host}
@@ -18,8 +18,8 @@ use Rattle.config_rules.specs.Accept.{accept}
 use Rattle.config_rules.specs.Configuration.{Configuration, disks_alone}
 use Rattle.config_rules.specs.Valid.{IsValid}
 
-abbrev pub edit_of_subsystem : Subsystem → Edit
-edit_of_subsystem s = SubsystemAdd s.nqn s.serial s.access
+abbrev pub edits_of_subsystem : Subsystem → List Edit
+edits_of_subsystem s = SubsystemAdd s.nqn s.serial s.access ∷ []
 
 -- the namespace as it is added
 abbrev pub added_namespace : Namespace → NewNamespace
@@ -39,43 +39,44 @@ edits_of_namespace n =
     NamespaceAdd (added_namespace n)
     ∷ (if is_for_all n.visibility then [] else NamespaceView n.subsystem n.nsid n.visibility ∷ [])
 
+-- where a port listens, or a referral leads
 abbrev pub endpoint_of : Port → Endpoint
 endpoint_of p = record { id = p.id; family = p.family; address = p.address; service = p.service }
 
-abbrev pub edit_of_port : Port → Edit
-edit_of_port p = PortAdd (endpoint_of p)
+abbrev pub edits_of_port : Port → List Edit
+edits_of_port p = PortAdd (endpoint_of p) ∷ []
 
-abbrev pub edit_of_link : Link → Edit
-edit_of_link l = LinkAdd l.port l.subsystem
+abbrev pub edits_of_link : Link → List Edit
+edits_of_link l = LinkAdd l.port l.subsystem ∷ []
 
-abbrev pub edit_of_state : GroupState → Edit
-edit_of_state s = AnaSet s.port s.subsystem s.group s.state
+abbrev pub edits_of_state : GroupState → List Edit
+edits_of_state s = AnaSet s.port s.subsystem s.group s.state ∷ []
 
 -- a host that is added is live, so one that is not is deleted at once, while nothing names it
 abbrev pub edits_of_host : Host → List Edit
 edits_of_host h = HostAdd h.nqn ∷ (if h.live then [] else HostDel h.nqn ∷ [])
 
-abbrev pub edit_of_allow : Allow → Edit
-edit_of_allow a = AllowAdd a.subsystem a.host
+abbrev pub edits_of_allow : Allow → List Edit
+edits_of_allow a = AllowAdd a.subsystem a.host ∷ []
 
-abbrev pub edit_of_show : Show → Edit
-edit_of_show s = NamespaceShow s.subsystem s.nsid s.host
+abbrev pub edits_of_show : Show → List Edit
+edits_of_show s = NamespaceShow s.subsystem s.nsid s.host ∷ []
 
-abbrev pub edit_of_referral : Port → Edit
-edit_of_referral p = ReferralAdd (endpoint_of p)
+abbrev pub edits_of_referral : Port → List Edit
+edits_of_referral p = ReferralAdd (endpoint_of p) ∷ []
 
--- the edits that give the lists of a configuration, each in its order: what an item names comes before it
+-- the edits that add each item of each list, in the list's order; what an item names is added before it
 abbrev pub saved_edits : Configuration → List Edit
 saved_edits c =
-    map edit_of_subsystem c.subsystems
+    flat_map edits_of_subsystem c.subsystems
     ++ (flat_map edits_of_namespace c.namespaces
-    ++ (map edit_of_port c.ports
-    ++ (map edit_of_link c.links
-    ++ (map edit_of_state c.states
+    ++ (flat_map edits_of_port c.ports
+    ++ (flat_map edits_of_link c.links
+    ++ (flat_map edits_of_state c.states
     ++ (flat_map edits_of_host c.hosts
-    ++ (map edit_of_allow c.allows
-    ++ (map edit_of_show c.shows
-    ++ map edit_of_referral c.referrals)))))))
+    ++ (flat_map edits_of_allow c.allows
+    ++ (flat_map edits_of_show c.shows
+    ++ flat_map edits_of_referral c.referrals)))))))
 
 -- what comes of a configuration, where there is one
 abbrev pub then_after : (Configuration → Result Configuration EditFault) → Result Configuration EditFault → Result Configuration EditFault
