@@ -9,7 +9,6 @@ use Rattle.config_lists.specs.declared.show.Show.{Show}
 use Rattle.config_lists.specs.Namespace.{is_named}
 use Rattle.config_lists.specs.Show.{has_show, is_show_of, is_show_to}
 use Rattle.config_lists.proofs.Names.{bytes_eq-same, same_name}
-use Rattle.config_edits.specs.declared.edit.Edit.{Edit}
 use Rattle.config_edits.specs.declared.edit.Edit.TheVariants.{AllowAdd, HostAdd, HostDel, NamespaceShow}
 use Rattle.config_rules.specs.Accept.{accept}
 use Rattle.config_rules.specs.Configuration.{Configuration, has_allow, has_host, has_live_host, has_namespace, has_subsystem, with_live, with_new_host}

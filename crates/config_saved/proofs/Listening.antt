@@ -1,8 +1,7 @@
 -- The edits of ports, of links, of ANA states and of referrals add them.
-use Rattle.std.proofs.Common.{◌≡◌, ◌==◌, ◌++◌, ◌∷◌, [], ℕ, Bool, true, false, not, ◌&&◌, List, Ok, IsTrue, nat_le, length, ap, sym, ◌∙◌, subst}
+use Rattle.std.proofs.Common.{◌≡◌, ◌==◌, ◌++◌, ◌∷◌, [], ℕ, true, false, ◌&&◌, List, Ok, IsTrue, ap, sym, ◌∙◌, subst}
 use Rattle.std.proofs.lemmas.Bool.{and_parts, cond-false, eqb-true, not_from_true}
 use Rattle.std.specs.Str.{bytes_eq}
-use Rattle.config_lists.specs.declared.group_state.AnaState.{AnaState}
 use Rattle.config_lists.specs.declared.group_state.GroupState.{GroupState}
 use Rattle.config_lists.specs.declared.link.Link.{Link}
 use Rattle.config_lists.specs.declared.port.Port.{Port}
@@ -10,13 +9,12 @@ use Rattle.config_lists.specs.GroupState.{is_optimized, is_state_for, is_state_o
 use Rattle.config_lists.specs.Namespace.{is_group}
 use Rattle.config_lists.specs.Port.{is_address, is_port, is_port_number}
 use Rattle.config_lists.proofs.Names.{same_name}
-use Rattle.config_edits.specs.declared.edit.Edit.{Edit}
 use Rattle.config_edits.specs.declared.edit.Edit.TheVariants.{AnaSet, LinkAdd, PortAdd, ReferralAdd}
 use Rattle.config_rules.specs.Configuration.{Configuration, has_link, has_port, has_state, has_subsystem, with_ana_state, with_new_state, with_state_set, without_state}
 use Rattle.config_rules.specs.Valid.{AreLinks, ArePorts, AreStates, IsGroupState, IsLink, IsValid}
 use Rattle.config_saved.specs.Saved.{endpoint_of, edits_of_link, edits_of_port, edits_of_referral, edits_of_state}
 use Rattle.config_saved.proofs.Items.{found_sound, item_fits, item_new, item_sound}
-use Rattle.config_saved.proofs.Rebuild.{AddEach, NoneHolds, accept_where_none, after_one}
+use Rattle.config_saved.proofs.Rebuild.{AddEach, accept_where_none, after_one}
 use Rattle.config_saved.proofs.Stages.{at_links, at_ports, at_referrals, at_states}
 
 -- ---- ports, and referrals, which are ports elsewhere

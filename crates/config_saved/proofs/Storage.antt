@@ -1,5 +1,5 @@
 -- The edits of subsystems and of namespaces add them.
-use Rattle.std.proofs.Common.{◌≡◌, ◌==◌, ◌*◌, ◌<◌, ◌++◌, ◌∷◌, [], ℕ, Bool, true, false, not, ◌&&◌, ◌||◌, List, Option, Some, None, Result, Ok, Err, IsTrue, nat_le, nat_lt, length, slice_get, refl, ap, sym, ◌∙◌, subst, arith, inl, inr}
+use Rattle.std.proofs.Common.{◌≡◌, ◌==◌, ◌*◌, ◌<◌, ◌++◌, ◌∷◌, [], ℕ, Bool, true, false, not, ◌||◌, List, Option, Some, None, Ok, IsTrue, nat_le, nat_lt, length, slice_get, refl, ap, sym, ◌∙◌, subst, arith, inl, inr}
 use Rattle.std.proofs.lemmas.Bool.{and_from, and_parts, cases_lt, cond_both, eq-eqb, eqb-true, le-ltb, leb-true, lt-leb, ne_eqb, not-true, not_from_true, or_from}
 use Rattle.std.proofs.lemmas.Option.{slice_get_past}
 use Rattle.std.specs.Option.{is_none}
@@ -11,13 +11,11 @@ use Rattle.config_lists.specs.declared.namespace.Setting.TheVariants.{Visibility
 use Rattle.config_lists.specs.declared.namespace.Visibility.{Visibility}
 use Rattle.config_lists.specs.declared.namespace.Visibility.TheVariants.{All as SeenByAll, Named}
 use Rattle.config_lists.specs.declared.subsystem.Subsystem.{Subsystem}
-use Rattle.config_lists.specs.Lists.{changed_where}
 use Rattle.config_lists.specs.Namespace.{block_size_of, bytes_of, is_for_all, is_group, is_named, is_nsid, with_setting}
 use Rattle.config_lists.specs.Subsystem.{is_discovery, is_serial, is_subsystem}
 use Rattle.config_lists.proofs.Names.{bytes_eq-same, same_name}
-use Rattle.config_edits.specs.declared.edit.Edit.{Edit}
 use Rattle.config_edits.specs.declared.edit.Edit.TheVariants.{NamespaceAdd, NamespaceView, SubsystemAdd}
-use Rattle.config_rules.specs.Accept.{accept, block_size_named, effect, is_over, namespace_of}
+use Rattle.config_rules.specs.Accept.{accept, block_size_named, is_over, namespace_of}
 use Rattle.config_rules.specs.Configuration.{Configuration, has_namespace, has_subsystem}
 use Rattle.config_rules.specs.Valid.{AreNamespaces, AreSubsystems, IsNamespace, IsValid, is_size_on}
 use Rattle.config_saved.specs.Saved.{added_namespace, after_all, edits_of_subsystem, edits_of_namespace}

@@ -2,6 +2,11 @@
 //! same disks, are each accepted and give an equal one. The line that says each is `config_text`'s.
 #![tactic(auto)]
 
+mod item_edits;
+mod items_left;
 pub mod laws;
+pub mod saved_edits;
+mod saved_list;
 
 pub use laws::saved_is_equal;
+pub use saved_edits::SavedEdits;
