@@ -1,0 +1,28 @@
+-- The text of a saved configuration.
+use Rattle.std.specs.Prelude.{◌≡◌, ℕ, ◌+◌, ◌<◌, ◌≤◌, List, [], ◌∷◌, ◌++◌, length, flat_map, Result, Ok, Err}
+use Rattle.bytes.specs.Filled.{Filled}
+use Rattle.config_edits.specs.declared.edit.Edit.{Edit}
+use Rattle.config_rules.specs.Configuration.{Configuration}
+use Rattle.config_text.specs.EditLine.{line_of}
+use Rattle.config_saved.specs.Saved.{saved_edits}
+use Rattle.config_saved.specs.declared.write.SaveFault.{SaveFault}
+use Rattle.config_saved.specs.declared.write.SaveFault.TheVariants.{Full, Memory}
+
+-- the edit's line, with its end
+abbrev pub ended_line : Edit → List ℕ
+ended_line edit = line_of edit ++ 10 ∷ []
+
+-- the lines of edits, one after another
+abbrev pub text_of : List Edit → List ℕ
+text_of edits = flat_map ended_line edits
+
+abbrev pub saved_text : Configuration → List ℕ
+saved_text c = text_of (saved_edits c)
+
+-- The bytes stand at the end, in what was spare room. Only where that is too small is the buffer full; it is then as it
+-- was, and so it is where no memory is.
+abbrev pub AppendsOrNot : Filled → Filled → List ℕ → Result (Unit {0}) SaveFault → Type 0
+AppendsOrNot old new bytes (Ok done) =
+    (length bytes ≤ old.spare) × (new.items ≡ old.items ++ bytes) × (new.spare + length bytes ≡ old.spare)
+AppendsOrNot old new bytes (Err Full) = (old.spare < length bytes) × (new ≡ old)
+AppendsOrNot old new bytes (Err Memory) = new ≡ old
