@@ -1,9 +1,12 @@
 -- The text of a saved configuration.
 use Rattle.std.specs.Prelude.{◌≡◌, ℕ, ◌+◌, ◌<◌, ◌≤◌, List, [], ◌∷◌, ◌++◌, length, flat_map, Result, Ok, Err}
+use Rattle.std.specs.List.{AllByRecursion}
 use Rattle.bytes.specs.Filled.{Filled}
+use Rattle.line_words.specs.Lines.{lines_of}
 use Rattle.config_edits.specs.declared.edit.Edit.{Edit}
 use Rattle.config_rules.specs.Configuration.{Configuration}
-use Rattle.config_text.specs.EditLine.{line_of}
+use Rattle.config_rules.specs.Valid.{IsValid}
+use Rattle.config_text.specs.EditLine.{IsLineOf, IsSayable, line_of}
 use Rattle.config_saved.specs.Saved.{saved_edits}
 use Rattle.config_saved.specs.declared.write.SaveFault.{SaveFault}
 use Rattle.config_saved.specs.declared.write.SaveFault.TheVariants.{Full, Memory}
@@ -18,6 +21,18 @@ text_of edits = flat_map ended_line edits
 
 abbrev pub saved_text : Configuration → List ℕ
 saved_text c = text_of (saved_edits c)
+
+-- the lines are those of the edits, one of each
+abbrev pub AreLinesOf : List (List ℕ) → List Edit → Type 0
+AreLinesOf [] [] = Unit {0}
+AreLinesOf [] (edit ∷ edits) = ⊥
+AreLinesOf (line ∷ lines) [] = ⊥
+AreLinesOf (line ∷ lines) (edit ∷ edits) = IsLineOf line edit × AreLinesOf lines edits
+
+-- The lines of a saved text are those of the saved edits, where each value of these has a word: each is read as its edit.
+abbrev pub SavedTextIsReadBack : Type 0
+SavedTextIsReadBack = (c : Configuration) → IsValid c → AllByRecursion IsSayable (saved_edits c)
+    → AreLinesOf (lines_of (saved_text c)) (saved_edits c)
 
 -- The bytes stand at the end, in what was spare room. Only where that is too small is the buffer full; it is then as it
 -- was, and so it is where no memory is.

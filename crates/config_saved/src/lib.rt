@@ -9,6 +9,6 @@ pub mod saved_edits;
 mod saved_list;
 pub mod write;
 
-pub use laws::saved_is_equal;
+pub use laws::{saved_is_equal, saved_text_is_read_back};
 pub use saved_edits::SavedEdits;
 pub use write::{SaveFault, write_saved};
