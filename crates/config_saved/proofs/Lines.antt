@@ -1,5 +1,5 @@
 -- The lines of saved edits: how long they are, and that no line end is in one.
-use Rattle.std.proofs.Common.{◌≡◌, ◌+◌, ◌<◌, ◌≤◌, ◌^◌, ◌==◌, ◌++◌, ◌∷◌, [], ℕ, Bool, true, false, ◌&&◌, nat_eq, nat_lt, nat_le, if◌then◌else◌, is_none, Some, None, List, All, codes, length, get_or, refl, ap, sym, ◌∙◌, subst, arith, inl, inr, lit≤, lit<}
+use Rattle.std.proofs.Common.{◌≡◌, ◌+◌, ◌<◌, ◌≤◌, ◌^◌, ◌==◌, ◌++◌, ◌∷◌, [], ℕ, Bool, true, false, ◌&&◌, nat_eq, nat_lt, nat_le, if◌then◌else◌, is_none, Some, None, List, codes, length, get_or, refl, ap, sym, ◌∙◌, subst, arith, inl, inr, lit≤, lit<}
 use Rattle.std.proofs.lemmas.Bool.{and_parts, both_ways, cases_Bool, cond-false, ltb-false, or_from, or_parts}
 use Rattle.std.proofs.lemmas.Bool.Decides.{nat_tests}
 use Rattle.std.proofs.lemmas.Fmt.{decimal_is_IsNumeral, length-decimal-le}
@@ -21,7 +21,7 @@ use Rattle.nvt_fields.specs.Name.{is_name}
 use Rattle.nvt_fields.specs.declared.name.NqnFault.TheVariants.{TooLong, BadNqn}
 use Rattle.line_words.specs.Lines.{lines_of}
 use Rattle.line_words.specs.Operand.{IsSaid, Value, access, family, name, number, state, text, uuid, visibility, word_of}
-use Rattle.line_words.specs.Word.{is_name_word, is_text_word, uuid_word}
+use Rattle.line_words.specs.Word.{uuid_word}
 use Rattle.uuid.specs.Text.{digit_place, hex_digit, is_hyphen_place, nibble}
 use Rattle.uuid.proofs.TextLemmas.{by_index_at, by_index_length}
 use Rattle.config_text.specs.EditLine.{IsLineOf, IsSayable, command_of, line_of, values_of}

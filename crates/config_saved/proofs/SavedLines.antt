@@ -1,5 +1,5 @@
 -- Each saved edit of a configuration has a line that is not too long.
-use Rattle.std.proofs.Common.{◌≡◌, ◌≤◌, ◌++◌, ◌∷◌, [], ℕ, Bool, true, not, ◌&&◌, List, All, IsTrue, length, nat_le, flat_map, refl, arith, lit≤}
+use Rattle.std.proofs.Common.{◌≡◌, ◌≤◌, ◌++◌, ◌∷◌, [], ℕ, true, not, ◌&&◌, List, IsTrue, length, nat_le, flat_map, Ok, refl, ap, ◌∙◌, arith, lit≤}
 use Rattle.std.proofs.lemmas.Bool.{and_parts, cond_both, leb-true}
 use Rattle.std.proofs.lemmas.List.Elements.{recursion_from_All}
 use Rattle.std.specs.Char.{is_ascii_graphic}
@@ -18,12 +18,14 @@ use Rattle.config_lists.specs.Subsystem.{is_discovery, is_serial, is_subsystem}
 use Rattle.config_lists.specs.Text.{is_word}
 use Rattle.config_edits.specs.declared.edit.Edit.{Edit}
 use Rattle.config_edits.specs.declared.edit.Edit.TheVariants.{HostDel, NamespaceView}
-use Rattle.config_rules.specs.Configuration.{Configuration}
+use Rattle.config_rules.specs.Configuration.{Configuration, disks_alone}
 use Rattle.config_rules.specs.Valid.{IsValid}
 use Rattle.config_text.specs.EditLine.{IsSayable}
+use Rattle.config_text.proofs.EditLemmas.{one_edit}
 use Rattle.line_words.specs.Lines.{lines_of}
-use Rattle.config_saved.specs.Saved.{edits_of_allow, edits_of_host, edits_of_link, edits_of_namespace, edits_of_port, edits_of_referral, edits_of_show, edits_of_state, edits_of_subsystem, saved_edits}
+use Rattle.config_saved.specs.Saved.{after_all, edits_of_allow, edits_of_host, edits_of_link, edits_of_namespace, edits_of_port, edits_of_referral, edits_of_show, edits_of_state, edits_of_subsystem, saved_edits}
 use Rattle.config_saved.specs.Text.{AreLinesOf, saved_text}
+use Rattle.config_saved.proofs.Whole.{saved_gives_equal}
 use Rattle.config_saved.proofs.Lines.{HasShortLine, lines_of-text_of}
 
 abbrev AreShort : List Edit → Type 0
@@ -101,3 +103,19 @@ saved_are_short c valid =
 -- the lines of the saved text are those of the saved edits
 pub saved_text_read_back : (c : Configuration) → IsValid c → AllByRecursion IsSayable (saved_edits c) → AreLinesOf (lines_of (saved_text c)) (saved_edits c)
 saved_text_read_back c valid sayable = lines_of-text_of (saved_edits c) sayable (saved_are_short c valid)
+
+-- the same lines are those of the same edits
+same_edits : (lines : List (List ℕ)) (edits others : List Edit) → AreLinesOf lines edits → AreLinesOf lines others → edits ≡ others
+same_edits [] [] [] first second = refl
+same_edits [] [] (other ∷ others) first second = absurd second
+same_edits [] (edit ∷ edits) others first second = absurd first
+same_edits (line ∷ lines) [] others first second = absurd first
+same_edits (line ∷ lines) (edit ∷ edits) [] first second = absurd second
+same_edits (line ∷ lines) (edit ∷ edits) (other ∷ others) first second =
+    ap (λ e. e ∷ edits) (one_edit line edit other first.0 second.0) ∙ ap (λ l. other ∷ l) (same_edits lines edits others first.1 second.1)
+
+-- so what is read of the text gives an equal configuration
+pub read_edits_give_equal : (c : Configuration) (edits : List Edit) → IsValid c → AllByRecursion IsSayable (saved_edits c) → AreLinesOf (lines_of (saved_text c)) edits → after_all (disks_alone c.units) edits ≡ Ok c
+read_edits_give_equal c edits valid sayable are =
+    ap (after_all (disks_alone c.units)) (same_edits (lines_of (saved_text c)) edits (saved_edits c) are (saved_text_read_back c valid sayable))
+    ∙ saved_gives_equal c valid

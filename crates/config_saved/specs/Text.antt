@@ -4,10 +4,10 @@ use Rattle.std.specs.List.{AllByRecursion}
 use Rattle.bytes.specs.Filled.{Filled}
 use Rattle.line_words.specs.Lines.{lines_of}
 use Rattle.config_edits.specs.declared.edit.Edit.{Edit}
-use Rattle.config_rules.specs.Configuration.{Configuration}
+use Rattle.config_rules.specs.Configuration.{Configuration, disks_alone}
 use Rattle.config_rules.specs.Valid.{IsValid}
 use Rattle.config_text.specs.EditLine.{IsLineOf, IsSayable, line_of}
-use Rattle.config_saved.specs.Saved.{saved_edits}
+use Rattle.config_saved.specs.Saved.{after_all, saved_edits}
 use Rattle.config_saved.specs.declared.write.SaveFault.{SaveFault}
 use Rattle.config_saved.specs.declared.write.SaveFault.TheVariants.{Full, Memory}
 
@@ -29,10 +29,18 @@ AreLinesOf [] (edit ∷ edits) = ⊥
 AreLinesOf (line ∷ lines) [] = ⊥
 AreLinesOf (line ∷ lines) (edit ∷ edits) = IsLineOf line edit × AreLinesOf lines edits
 
--- The lines of a saved text are those of the saved edits, where each value of these has a word: each is read as its edit.
+-- each value of the saved edits has a word: numbers are below 2^64, names are names, UUIDs have 16 bytes
+abbrev pub IsSayableWhole : Configuration → Type 0
+IsSayableWhole c = AllByRecursion IsSayable (saved_edits c)
+
+-- the lines of a saved text are those of the saved edits, so that each is read as its edit
 abbrev pub SavedTextIsReadBack : Type 0
-SavedTextIsReadBack = (c : Configuration) → IsValid c → AllByRecursion IsSayable (saved_edits c)
-    → AreLinesOf (lines_of (saved_text c)) (saved_edits c)
+SavedTextIsReadBack = (c : Configuration) → IsValid c → IsSayableWhole c → AreLinesOf (lines_of (saved_text c)) (saved_edits c)
+
+-- .. and the edits that are read of it give an equal configuration
+abbrev pub SavedTextGivesEqual : Type 0
+SavedTextGivesEqual = (c : Configuration) (edits : List Edit) → IsValid c → IsSayableWhole c → AreLinesOf (lines_of (saved_text c)) edits
+    → after_all (disks_alone c.units) edits ≡ Ok c
 
 -- The bytes stand at the end, in what was spare room. Only where that is too small is the buffer full; it is then as it
 -- was, and so it is where no memory is.
