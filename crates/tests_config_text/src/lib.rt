@@ -1,6 +1,6 @@
 //! Tests of the text of edits, through the public calls: random edits are written and read back,
 //! lines with a byte more or less are no longer theirs, the texts of the faults, and the lines of some
-//! edits and of none, word by word.
+//! edits and of none, word by word; and the text of a saved configuration.
 #![tactic(auto)]
 
 #[cfg(test)]
@@ -9,5 +9,7 @@ mod drawn;
 mod faults;
 #[cfg(test)]
 mod lines;
+#[cfg(test)]
+mod saved;
 #[cfg(test)]
 mod shows;

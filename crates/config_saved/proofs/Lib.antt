@@ -1,0 +1,9 @@
+pub mod Guests
+pub mod Items
+pub mod Lines
+pub mod Listening
+pub mod Rebuild
+pub mod SavedLines
+pub mod Stages
+pub mod Storage
+pub mod Whole

@@ -1,0 +1,27 @@
+-- What one step of a walk over edits answers and leaves.
+use Rattle.std.specs.Prelude.{◌≡◌, List, [], ◌∷◌, ◌++◌, Option, Some, None, Result, Ok, Err}
+use Rattle.std.specs.declared.alloc.AllocError.{AllocError}
+use Rattle.config_edits.specs.declared.edit.Edit.{Edit}
+use Rattle.config_saved.specs.declared.item_edits.ItemEdits.{ItemEdits}
+
+-- the edit, where there is one
+abbrev pub edits_due : Option Edit → List Edit
+edits_due None = []
+edits_due (Some edit) = edit ∷ []
+
+-- both of an item
+abbrev pub edits_in : ItemEdits → List Edit
+edits_in edits = edits.first ∷ edits_due edits.second
+
+-- The first of the edits that were left, and those after it are left; none where none was left. Where no memory is, all
+-- are left.
+abbrev pub TakesFirst : List Edit → List Edit → Result (Option Edit) AllocError → Type 0
+TakesFirst old new (Ok (Some edit)) = old ≡ edit ∷ new
+TakesFirst old new (Ok None) = (old ≡ []) × (new ≡ old)
+TakesFirst old new (Err fault) = new ≡ old
+
+-- .. and so of those of an item
+abbrev pub TakesItem : List Edit → List Edit → Result (Option ItemEdits) AllocError → Type 0
+TakesItem old new (Ok (Some edits)) = old ≡ edits_in edits ++ new
+TakesItem old new (Ok None) = (old ≡ []) × (new ≡ old)
+TakesItem old new (Err fault) = new ≡ old

@@ -1,0 +1,57 @@
+//! The saved edits of a configuration, one after another.
+ghost use Rattle.std.specs.Prelude.{◌≡◌};
+ghost use Rattle.config_saved.specs.Saved.{saved_edits};
+ghost use Rattle.config_saved.specs.Walk.{TakesFirst};
+
+use crate::items_left::ItemsLeft;
+use config_edits::Edit;
+use nvt_config::Config;
+use std::alloc::AllocError;
+use std::marker::Model;
+
+/// What is left of a walk over the saved edits of a configuration. A contract sees these edits.
+#[derive(Drop)]
+pub struct SavedEdits<'a> {
+    // The second edit of the item whose first was taken.
+    due: Option<Edit>,
+    items: ItemsLeft<'a>,
+}
+
+impl<'a> Model for SavedEdits<'a> {
+    ghost use Rattle.std.specs.Prelude.{◌++◌, List};
+    ghost use Rattle.config_edits.specs.declared.edit.Edit.{Edit};
+    ghost use Rattle.config_saved.specs.Walk.{edits_due};
+
+    ghost Value = { List Edit };
+
+    ghost view = { λ saved. edits_due saved.due ++ saved.items };
+}
+
+impl<'a> SavedEdits<'a> {
+    /// All of them.
+    pub fn of(config: &'a Config) -> SavedEdits<'a>
+        ensures { result ≡ saved_edits config.now }
+    {
+        SavedEdits {
+            due: None,
+            items: ItemsLeft::of(config),
+        }
+    }
+
+    /// The next edit, with its own copies of what it names; none where all were taken. Where no memory is
+    /// for them, the edit is the next one still.
+    pub fn next(&mut self) -> Result<Option<Edit>, AllocError>
+        ensures { TakesFirst self.old self.new result }
+    {
+        if let Some(edit) = self.due.take() {
+            return Ok(Some(edit));
+        }
+        match self.items.next()? {
+            Some(edits) => {
+                self.due = edits.second;
+                Ok(Some(edits.first))
+            }
+            None => Ok(None),
+        }
+    }
+}
