@@ -1,15 +1,15 @@
-use Rattle.std.proofs.Common.{◌≡◌, ◌∷◌, ◌<◌, Bool, List, ℕ, None, [], filter, get_or, length, refl, ap, sym, ◌∙◌, arith}
+use Rattle.std.proofs.Common.{◌≡◌, Bool, List, ℕ, None, [], filter, get_or, length, refl, ap, sym, ◌∙◌}
 use Rattle.std.proofs.lemmas.List.{get_or-replicate, length-map, length-replicate}
 use Rattle.std.specs.Option.{option_copied}
 use Rattle.ana_view.specs.Tables.{each_of, is_member, nsids_of}
-use Rattle.ana_view.proofs.Members.{members_next, members_of, with_member_at}
+use Rattle.ana_view.proofs.Members.{members_next, members_of}
 use Rattle.ana_view.proofs.groups.Groups.members.Goals as goal
 
 pub loop-nsid-init : goal.loop-nsid-init
 loop-nsid-init c = record {
   next = tt;
   finite = tt;
-  len = sym (length-map c.in_ok-members.members.items (λ v. v.items)) ∙ ap length c.in_ok-members.ensures ∙ length-replicate 33 [];
+  len = sym (length-map c.in_ok-members.members.items (λ v. v.items)) ∙ ap length c.in_ok-members.ensures ∙ length-replicate {A = List ℕ} 33 [];
   all = λ group few.
       let p : ℕ → Bool = λ n. is_member c.args.self.now.namespaces.now n group in
       rw (c.in_ok-members.ensures, get_or-replicate {A = List ℕ} 33 group [] [] few) (ap (filter p) (c.into_iter-nsid-iterator.ensures.into_iter_gives ∙ c.nsids-nsid-items.ensures.all) ∙ members_of c.args.self.now group);
