@@ -52,3 +52,7 @@ pub record MakesLine (line : List ℕ) (old new : TargetState) : Type 0 where
   pub is_line : IsLineOf line edit
   pub accepted : accept old.config edit ≡ Ok new.config
   pub transition : Transition (edited edit) old new
+
+-- the line is that of an edit, which the configuration accepts
+abbrev pub AppliesLine : List ℕ → Configuration → Configuration → Type 0
+AppliesLine line old new = (edit : Edit) × IsLineOf line edit × (accept old edit ≡ Ok new)

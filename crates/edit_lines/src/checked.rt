@@ -1,12 +1,12 @@
 //! The configuration that the lines of a file make, where there is no target.
 
-ghost use Rattle.std.specs.Prelude.{◌≡◌, IfErr, IfOk, OnErr, OnOk, true};
+ghost use Rattle.std.specs.Prelude.{◌≡◌, IfErr, IfOk, Ok, OnOk, true};
 ghost use Rattle.std.specs.Bool.{OnFalse};
 ghost use Rattle.config_rules.specs.Accept.{accept};
 ghost use Rattle.config_rules.specs.Configuration.{are_disks, disks_alone};
 ghost use Rattle.edit_lines.specs.Configured.{Configures, RefusesDisks, RefusesEdits, RefusesLines};
 ghost use Rattle.edit_lines.specs.Configured.{TakesLine};
-ghost use Rattle.edit_lines.specs.Line.{IsEditRefused};
+ghost use Rattle.edit_lines.specs.Line.{AppliesLine, IsEditRefused, IsRefused};
 ghost use Rattle.line_words.specs.Lines.{lines_of};
 
 use crate::line::{NotMade, not_made, not_read};
@@ -50,13 +50,13 @@ fn apply_lines(alloc: Global, config: &mut Config, edits: &[u8]) -> Result<(), R
     let mut number = 0;
     for line in Lines::of(edits) {
         number += 1;
-        apply_line(alloc, config, number, line)?;
+        take_line(alloc, config, number, line)?;
     }
     Ok(())
 }
 
 // Applies one line of edits.
-fn apply_line(
+fn take_line(
     alloc: Global,
     config: &mut Config,
     number: usize,
@@ -64,11 +64,7 @@ fn apply_line(
 ) -> Result<(), ReplayFault>
     ensures { TakesLine config.old line.now number result config.new }
 {
-    let applied = match read_edit(alloc, line) {
-        Ok(edit) => apply(config, &edit),
-        Err(fault) => Err(not_read(fault)),
-    };
-    match applied {
+    match apply_line(alloc, config, line) {
         Ok(()) => Ok(()),
         Err(NotMade::Memory) => Err(ReplayFault::Memory),
         Err(NotMade::Refused(reply)) => Err(ReplayFault::EditLine {
@@ -78,10 +74,19 @@ fn apply_line(
     }
 }
 
+fn apply_line(alloc: Global, config: &mut Config, line: &[u8]) -> Result<(), NotMade>
+    ensures made { OnOk result (AppliesLine line.now config.old config.new) }
+    ensures refused { IfErr result (IsRefused config.old line.now) }
+{
+    match read_edit(alloc, line) {
+        Ok(edit) => apply(config, &edit),
+        Err(fault) => Err(not_read(fault)),
+    }
+}
+
 fn apply(config: &mut Config, edit: &Edit) -> Result<(), NotMade>
-    ensures ok { OnOk result (accept config.old edit.now ≡ Ok config.new) }
+    ensures made { OnOk result (accept config.old edit.now ≡ Ok config.new) }
     ensures refused { IfErr result (IsEditRefused config.old edit.now) }
-    ensures err { OnErr result (config.new ≡ config.old) }
 {
     match config.apply(edit) {
         Ok(()) => Ok(()),

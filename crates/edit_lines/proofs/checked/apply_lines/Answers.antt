@@ -1,0 +1,34 @@
+use Rattle.std.proofs.Common.{◌≡◌, ◌∷◌, drop, subst, ◌∙◌, arith}
+use Rattle.std.proofs.lemmas.Result.{err_from_is_err_and}
+use Rattle.line_words.specs.Lines.{lines_of}
+use Rattle.edit_lines.specs.Configured.{Configures}
+use Rattle.line_words.proofs.LineLemmas.{length-lines_of}
+use Rattle.edit_lines.proofs.Taking.{IsNext, all_taken, before_more, next_line, refused_at}
+use Rattle.edit_lines.proofs.checked.apply_lines.Goals as goal
+
+pub overflow_add-number : goal.overflow_add-number
+overflow_add-number c =
+    let left : drop c.loop-line.number (lines_of c.args.edits.now) ≡ c.in-Some.line.now ∷ c.next.new.self = c.loop-line.invariant.rest ∙ c.in-Some.ensures.steps in
+    let next : IsNext (lines_of c.args.edits.now) c.loop-line.number c.in-Some.line.now c.next.new.self = next_line (lines_of c.args.edits.now) c.loop-line.number c.in-Some.line.now c.next.new.self left in
+    omega (arith, length-lines_of c.args.edits.now)
+
+pub loop-line-preserved : goal.loop-line-preserved
+loop-line-preserved c =
+    let left : drop c.loop-line.number (lines_of c.args.edits.now) ≡ c.in-Some.line.now ∷ c.next.new.self = c.loop-line.invariant.rest ∙ c.in-Some.ensures.steps in
+    let next : IsNext (lines_of c.args.edits.now) c.loop-line.number c.in-Some.line.now c.next.new.self = next_line (lines_of c.args.edits.now) c.loop-line.number c.in-Some.line.now c.next.new.self left in
+    record {
+      rest = next.after;
+      counted = omega (arith, next.below);
+      before = before_more (lines_of c.args.edits.now) c.loop-line.number c.in-Some.line.now c.next.new.self _ _ _ left c.loop-line.invariant.before c.in_ok-take_line.ensures;
+    }
+
+pub returns-in_err-take_line-clause-fault : goal.returns-in_err-take_line-clause-fault
+returns-in_err-take_line-clause-fault c =
+    let left : drop c.loop-line.number (lines_of c.args.edits.now) ≡ c.in-Some.line.now ∷ c.next.new.self = c.loop-line.invariant.rest ∙ c.in-Some.ensures.steps in
+    let p = err_from_is_err_and c.from_residual.result c.from_residual.ensures.1 in
+    rw (p.1, p.2) (refused_at _ c.args.edits.now c.loop-line.number c.in-Some.line.now c.next.new.self _ _ left c.loop-line.invariant.before c.in_err-take_line.ensures)
+
+pub returns-clause-ok : goal.returns-clause-ok
+returns-clause-ok c =
+    let all = all_taken (lines_of c.args.edits.now) c.loop-line.number (c.loop-line.invariant.rest ∙ c.in-None.ensures.steps.0) in
+    subst (λ lines. Configures lines c.args.config.now c.loop-line.config) all c.loop-line.invariant.before
