@@ -1,5 +1,5 @@
 //! The control port: its listener, the connections that lines of edits come from, and the configuration that they are shown.
-ghost use Rattle.std.specs.Prelude.{◌<◌, ◌≤◌, ◌≡◌, IfOk, IfSome, length, ℕ};
+ghost use Rattle.std.specs.Prelude.{◌<◌, ◌≤◌, ◌≡◌, IfOk, IfSome, length};
 ghost use Rattle.nvt_sockets.specs.HandsOut.{FitsLine};
 
 use crate::editor::{Editor, Heard, REPLY_MAX};
@@ -128,7 +128,9 @@ impl<L: Drop, S: Drop> Control<L, S> {
             Heard::Line(n) => {
                 self.seats.heard(place);
                 if is_show(&buf[..n]) {
-                    return self.show(network, place);
+                    let since = network.micros();
+                    self.show(network, place);
+                    return Heard::Shown { since };
                 }
                 self.asking = Some(place);
             }
@@ -137,13 +139,11 @@ impl<L: Drop, S: Drop> Control<L, S> {
     }
 
     // Begins to show the configuration that stands to the connection in this place.
-    fn show<N: Network<Listener = L, Stream = S>>(&mut self, network: &mut N, place: usize) -> Heard
+    fn show<N: Network<Listener = L, Stream = S>>(&mut self, network: &mut N, place: usize)
         requires { place < 16 }
-        ensures { (len : ℕ) → FitsLine len result }
     {
-        let since = network.micros();
         let reply = SavedReply::to_show(self.standing.as_ref());
-        self.editors[place].show(network, since, reply, &mut self.piece)
+        self.editors[place].show(network, reply, &mut self.piece);
     }
 
     /// Answers the line that was taken last, on its own connection.

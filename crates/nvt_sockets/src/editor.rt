@@ -1,5 +1,5 @@
 //! A connection for lines of edits.
-ghost use Rattle.std.specs.Prelude.{◌≤◌, length, ℕ};
+ghost use Rattle.std.specs.Prelude.{◌≤◌, length};
 ghost use Rattle.nvt_sockets.specs.HandsOut.{FitsLine};
 
 use crate::network::{Network, Received};
@@ -80,7 +80,11 @@ impl<S: Drop> Editor<S> {
         }
         if self.shown.is_some() {
             let since = network.micros();
-            return self.show_more(network, since, piece);
+            return if self.show_more(network, piece) {
+                Heard::Shown { since }
+            } else {
+                Heard::Nothing
+            };
         }
         if let Some(n) = self.lines.next_line(buf) {
             return Heard::Line(n);
@@ -131,30 +135,21 @@ impl<S: Drop> Editor<S> {
         self.send(network);
     }
 
-    /// Answers the line that was taken last by this, which began at this time.
+    /// Answers the line that was taken last by this, of which a first piece is sent.
     pub fn show<N: Network<Stream = S>>(
         &mut self,
         network: &mut N,
-        since: u64,
         reply: SavedReply,
         piece: &mut BytesMut,
-    ) -> Heard
-        ensures { (len : ℕ) → FitsLine len result }
-    {
+    ) {
         self.shown = Some(reply);
-        self.show_more(network, since, piece)
+        self.show_more(network, piece);
     }
 
-    // Sends the next piece of what it is shown, where nothing else is kept. Where no memory is for it, that is tried again in
-    // the next turn: whoever keeps the text would take one that ends too early for the whole.
-    fn show_more<N: Network<Stream = S>>(
-        &mut self,
-        network: &mut N,
-        since: u64,
-        piece: &mut BytesMut,
-    ) -> Heard
-        ensures { (len : ℕ) → FitsLine len result }
-    {
+    // Sends the next piece of what it is shown, where nothing else is kept, and answers whether there is one. Where no memory
+    // is for it, that is tried again in the next turn: whoever keeps the text would take one that ends too early for the
+    // whole.
+    fn show_more<N: Network<Stream = S>>(&mut self, network: &mut N, piece: &mut BytesMut) -> bool {
         piece.clear();
         if let Some(reply) = &mut self.shown {
             if reply.write(piece) == PieceEnd::Whole {
@@ -162,11 +157,11 @@ impl<S: Drop> Editor<S> {
             }
         }
         if piece.is_empty() {
-            return Heard::Nothing;
+            return false;
         }
         self.replies.keep(piece.as_slice());
         self.send(network);
-        Heard::Shown { since }
+        true
     }
 
     // Sends what is kept, as far as it goes.
