@@ -1,6 +1,8 @@
 -- The namespaces in a group, by a table.
-use Rattle.std.proofs.Common.{◌&&◌, ◌+◌, ◌≡◌, ℕ, zero, suc, ◌≤◌, ◌==◌, Bool, true, false, List, [], ◌∷◌, Option, Some, None, All, bytes_eq, filter, find, get_or, is_some, length, refl, ap, ◌∙◌, arith}
+use Rattle.std.proofs.Common.{◌&&◌, ◌++◌, ◌≡◌, ℕ, zero, suc, ◌≤◌, ◌<◌, ◌==◌, Bool, true, false, List, [], ◌∷◌, Option, Some, None, All, bytes_eq, filter, find, get_or, is_some, length, refl, ap, sym, ◌∙◌, arith, inl, inr}
+use Rattle.std.proofs.lemmas.Bool.{both_ways, cases_Bool, eq-eqb, eqb-true}
 use Rattle.std.proofs.lemmas.Bool.Decides.{nat_tests}
+use Rattle.std.proofs.lemmas.List.{append_assoc, get_or-set_other, get_or-set_same}
 use Rattle.std.proofs.lemmas.List.Elements.{All-cons, All-nil}
 use Rattle.std.specs.List.{cons_option, filter_map}
 use Rattle.std.specs.Prelude.{if◌then◌else◌}
@@ -14,7 +16,7 @@ use Rattle.config_words.specs.Numbered.{nsids_where, numbers_from}
 use Rattle.config_words.proofs.Sets.{nsids_alike, nsids_are_few}
 use Rattle.ana_view.specs.Group.{Descriptor, are_same, are_same_numbers, descriptor, descriptor_with, is_in_group, listed_by, members, state_code}
 use Rattle.ana_view.specs.declared.groups.Groups.{Groups}
-use Rattle.ana_view.specs.Tables.{AreNamespacesOf, descriptor_of, is_member, listing_of, nsids_of, state_of}
+use Rattle.ana_view.specs.Tables.{AreNamespacesOf, descriptor_of, is_member, listing_of, nsids_of, state_of, with_member}
 use Rattle.ana_view.specs.View.{AreFew}
 
 pub same_is_same : (ns : List ℕ) → are_same_numbers ns ns ≡ true
@@ -90,12 +92,21 @@ plain_descriptor c subsystem t group found state =
 
 -- ---- how many there are
 
--- one identifier more, in a group or not, of those that are left
-pub counted_next : (p : ℕ → Bool) (k : ℕ) (rest : List ℕ) (o n all : ℕ) → n ≡ (if p k then o + 1 else o) → o + length (filter p (k ∷ rest)) ≡ all → n + length (filter p rest) ≡ all
-counted_next p k rest o n all more so_far = by_test (p k) refl more so_far where
-  by_test : (b : Bool) → p k ≡ b → n ≡ (if b then o + 1 else o) → o + length (filter p (k ∷ rest)) ≡ all → n + length (filter p rest) ≡ all
-  by_test true there is so_far = let counted = rw there at so_far in omega (arith, is, counted)
-  by_test false absent is so_far = let counted = rw absent at so_far in omega (arith, is, counted)
+-- one identifier more in a group, where it is of the group
+pub members_next : (p : ℕ → Bool) (k : ℕ) (rest old new all : List ℕ) → new ≡ (if p k then old ++ k ∷ [] else old) → old ++ filter p (k ∷ rest) ≡ all → new ++ filter p rest ≡ all
+members_next p k rest old new all more so_far = by_test (p k) refl more so_far where
+  by_test : (b : Bool) → p k ≡ b → new ≡ (if b then old ++ k ∷ [] else old) → old ++ filter p (k ∷ rest) ≡ all → new ++ filter p rest ≡ all
+  by_test true there is so_far = let all_so_far = rw there at so_far in ap (λ nsids. nsids ++ filter p rest) is ∙ append_assoc old (k ∷ []) (filter p rest) ∙ all_so_far
+  by_test false absent is so_far = let all_so_far = rw absent at so_far in ap (λ nsids. nsids ++ filter p rest) is ∙ all_so_far
+
+pub with_member_at : (each : List (List ℕ)) (at nsid group : ℕ) → group < length each
+    → get_or (with_member at nsid each) group [] ≡ (if at == group then get_or each group [] ++ nsid ∷ [] else get_or each group [])
+with_member_at each at nsid group within = elim (cases_Bool (at == group)) [
+  | inl same ↦
+      let is : at ≡ group = eqb-true at group same in
+      rw same (rw is (get_or-set_same each group (get_or each group [] ++ nsid ∷ []) [] within))
+  | inr other ↦ rw other (get_or-set_other each at group (get_or each at [] ++ nsid ∷ []) [] (λ is. both_ways (at == group) other (eq-eqb at group (sym is))))
+]
 
 -- ---- a listing is short
 

@@ -1,6 +1,7 @@
 -- What a log page shows, as it is taken from a configuration: by identifier the namespaces of a subsystem, and by
 -- group its states on a port.
-use Rattle.std.specs.Prelude.{◌≡◌, ◌<◌, ◌≤◌, ℕ, Bool, List, Option, None, find, length, slice_index, slice_index_or}
+use Rattle.std.specs.Prelude.{◌≡◌, ◌<◌, ◌≤◌, ℕ, Bool, List, [], ◌∷◌, ◌++◌, Option, None, Vec, find, map, slice_index_or, slice_set}
+use Rattle.std.specs.declared.alloc.Global.{Global}
 use Rattle.config_lists.specs.declared.group_state.AnaState.{AnaState}
 use Rattle.config_lists.specs.declared.group_state.AnaState.TheVariants.{Optimized}
 use Rattle.config_lists.specs.declared.namespace.Namespace.{Namespace}
@@ -34,6 +35,14 @@ listing_of t = listed_by (descriptor_of t)
 abbrev pub shown_of : Groups → ℕ → Descriptor
 shown_of t group = record { id = group; state = state_of t group; nsids = nsids_of t group }
 
--- by group, how many identifiers are in it
-abbrev pub AreSizes : Groups → List ℕ → Type 0
-AreSizes t sizes = (group : ℕ) → group < 33 → slice_index sizes group ≡ length (nsids_of t group)
+-- what each vector holds
+abbrev pub each_of : Vec (Vec ℕ Global) Global → List (List ℕ)
+each_of vectors = map (λ v. v.items) vectors.items
+
+-- by group, the identifiers in it
+abbrev pub AreMembers : Groups → List (List ℕ) → Type 0
+AreMembers t members = (group : ℕ) → group < 33 → slice_index_or members group [] ≡ nsids_of t group
+
+-- with one more in a group
+abbrev pub with_member : ℕ → ℕ → List (List ℕ) → List (List ℕ)
+with_member group nsid members = slice_set members group (slice_index_or members group [] ++ nsid ∷ [])

@@ -1,6 +1,6 @@
 //! The ANA groups of one subsystem on one port, ready.
 ghost use Rattle.std.specs.Prelude.{◌≡◌, ◌↔◌, [], IfOk, IsTrue};
-ghost use Rattle.ana_view.specs.Tables.{listing_of, nsids_of};
+ghost use Rattle.ana_view.specs.Tables.{listing_of};
 ghost use Rattle.ana_view.specs.View.{AreFew};
 
 use crate::groups::Groups;
@@ -81,14 +81,15 @@ impl GroupList {
     pub(crate) fn of(alloc: Global, groups: &Groups<'_>) -> Result<GroupList, AllocError>
         ensures { IfOk result (λ list. list ≡ listing_of groups.now) }
     {
-        let sizes = groups.sizes();
+        let members = groups.members(alloc)?;
         let mut list = Vec::new(alloc);
         for group in 1..GROUP_END {
-            if sizes[group as usize] > 0 {
+            let nsids = members[group as usize].as_slice();
+            if !nsids.is_empty() {
                 list.push(AnaGroup {
                     id: group,
                     state: groups.state(group),
-                    nsids: members(alloc, groups, group)?,
+                    nsids: Vec::from_slice(alloc, nsids)?,
                 })?;
             }
         }
@@ -109,17 +110,4 @@ impl GroupList {
     {
         self.groups.is_empty()
     }
-}
-
-// The identifiers of the namespaces in a group, rising.
-fn members(alloc: Global, groups: &Groups<'_>, group: u32) -> Result<Vec<u32>, AllocError>
-    ensures { IfOk result (λ nsids. nsids.items ≡ nsids_of groups.now group) }
-{
-    let mut nsids = Vec::new(alloc);
-    for nsid in groups.nsids() {
-        if groups.has(nsid, group) {
-            nsids.push(nsid)?;
-        }
-    }
-    Ok(nsids)
 }

@@ -1,16 +1,13 @@
 //! The ANA groups that the controllers of one subsystem on one port show.
-ghost use Rattle.std.specs.Prelude.{◌≡◌, ◌≤◌, ◌<◌, ◌+◌, ℕ, List, if◌then◌else◌, length};
-ghost use Rattle.std.specs.Prelude.{slice_index};
-ghost use Rattle.std.specs.Option.{option_copied};
-ghost use Rattle.config_lists.specs.Namespace.{nsid_max};
+ghost use Rattle.std.specs.Prelude.{◌≡◌, ◌<◌, ℕ, List, [], IfOk, OnOk, length, replicate};
 ghost use Rattle.config_lists.specs.declared.group_state.AnaState.TheVariants.{Optimized};
 ghost use Rattle.config_rules.specs.Configuration.{Configuration};
-ghost use Rattle.config_tables.specs.Nsids.{nsids_in};
-ghost use Rattle.ana_view.specs.Group.{descriptor, descriptor_with, is_in_group, members};
+ghost use Rattle.ana_view.specs.Group.{descriptor, descriptor_with, members};
+ghost use Rattle.ana_view.specs.Tables.{each_of, with_member};
 
 use config_tables::{GROUP_END, NamespaceTable, StateTable};
-use config_words::Nsids;
-use nvt_config::{AnaState, Namespace, Seen};
+use nvt_config::{AnaState, Seen};
+use std::alloc::{AllocError, Global};
 
 /// Of a subsystem on a port, its namespaces, which say their groups, and the state of each group. The
 /// states are taken by one walk over a configuration's, which takes no memory.
@@ -23,8 +20,7 @@ pub(crate) struct Groups<'a> {
 }
 
 impl<'a> Groups<'a> {
-    ghost use Rattle.ana_view.specs.Tables.{AreNamespacesOf, AreSizes, descriptor_of, is_member};
-    ghost use Rattle.ana_view.specs.Tables.{nsids_of, state_of};
+    ghost use Rattle.ana_view.specs.Tables.{AreMembers, AreNamespacesOf, descriptor_of, state_of};
 
     /// Those of a configuration as it is seen, whose namespaces of the subsystem are these.
     pub(crate) fn of(
@@ -56,33 +52,18 @@ impl<'a> Groups<'a> {
         }
     }
 
-    /// The identifiers of the namespaces, rising.
-    pub(crate) fn nsids(&self) -> Nsids<'_>
-        ensures all { result ≡ nsids_in self.now.namespaces.now }
-        ensures few { length result ≤ nsid_max }
+    /// By group, the identifiers of the namespaces in it, rising. The namespaces are walked over once.
+    pub(crate) fn members(&self, alloc: Global) -> Result<Vec<Vec<u32>>, AllocError>
+        ensures len { IfOk result (λ members. length members.items ≡ 33) }
+        ensures members { IfOk result (λ members. AreMembers self.now (each_of members)) }
     {
-        self.namespaces.nsids()
-    }
-
-    /// Whether the namespace is in the group.
-    pub(crate) fn has(&self, nsid: u32, group: u32) -> bool
-        ensures { result ≡ is_member self.now.namespaces.now nsid group }
-    {
-        match self.namespaces.get(nsid) {
-            Some(namespace) => namespace.group == group,
-            None => false,
+        let mut members = no_members(alloc)?;
+        for nsid in self.namespaces.nsids() {
+            if let Some(namespace) = self.namespaces.get(nsid) {
+                add_member(&mut members, namespace.group, nsid)?;
+            }
         }
-    }
-
-    /// By group, how many namespaces are in it.
-    pub(crate) fn sizes(&self) -> [u32; GROUP_END as usize]
-        ensures { AreSizes self.now result }
-    {
-        let mut sizes = [0u32; GROUP_END as usize];
-        for nsid in self.nsids() {
-            count_member(&mut sizes, self.namespaces.get(nsid));
-        }
-        sizes
+        Ok(members)
     }
 
     /// The state of the group: optimized where none was set.
@@ -93,17 +74,24 @@ impl<'a> Groups<'a> {
     }
 }
 
-// One more in the group of the namespace, where there is one.
-fn count_member(sizes: &mut [u32; GROUP_END as usize], namespace: Option<&Namespace>)
-    requires { (k : ℕ) → slice_index sizes.old k ≤ nsid_max }
-    ensures { (k : ℕ) → k < 33
-        → slice_index sizes.new k ≡ (if is_in_group (option_copied namespace.entry) k
-        then slice_index sizes.old k + 1 else slice_index sizes.old k) }
+// Of each group none.
+fn no_members(alloc: Global) -> Result<Vec<Vec<u32>>, AllocError>
+    ensures { IfOk result (λ members. each_of members ≡ replicate 33 []) }
 {
-    if let Some(namespace) = namespace {
-        let at = namespace.group as usize;
-        if at < sizes.len() {
-            sizes[at] += 1;
-        }
+    let mut members = Vec::with_capacity(alloc, GROUP_END as usize)?;
+    for _ in 0..GROUP_END {
+        members.push(Vec::new(alloc))?;
     }
+    Ok(members)
+}
+
+// One more in the group, where there is such a group.
+fn add_member(members: &mut Vec<Vec<u32>>, group: u32, nsid: u32) -> Result<(), AllocError>
+    ensures { OnOk result (each_of members.new ≡ with_member group nsid (each_of members.old)) }
+{
+    let at = group as usize;
+    if at < members.len() {
+        members[at].push(nsid)?;
+    }
+    Ok(())
 }

@@ -29,17 +29,17 @@ AreLinesOf [] (edit ∷ edits) = ⊥
 AreLinesOf (line ∷ lines) [] = ⊥
 AreLinesOf (line ∷ lines) (edit ∷ edits) = IsLineOf line edit × AreLinesOf lines edits
 
--- each value of the saved edits has a word: numbers are below 2^64, names are names, UUIDs have 16 bytes
-abbrev pub IsSayableWhole : Configuration → Type 0
-IsSayableWhole c = AllByRecursion IsSayable (saved_edits c)
+-- each of their values has a word: numbers are below 2^64, names are names, UUIDs have 16 bytes
+abbrev pub AreSayable : List Edit → Type 0
+AreSayable edits = AllByRecursion IsSayable edits
 
 -- the lines of a saved text are those of the saved edits, so that each is read as its edit
 abbrev pub SavedTextIsReadBack : Type 0
-SavedTextIsReadBack = (c : Configuration) → IsValid c → IsSayableWhole c → AreLinesOf (lines_of (saved_text c)) (saved_edits c)
+SavedTextIsReadBack = (c : Configuration) → IsValid c → AreSayable (saved_edits c) → AreLinesOf (lines_of (saved_text c)) (saved_edits c)
 
 -- .. and the edits that are read of it give an equal configuration
 abbrev pub SavedTextGivesEqual : Type 0
-SavedTextGivesEqual = (c : Configuration) (edits : List Edit) → IsValid c → IsSayableWhole c → AreLinesOf (lines_of (saved_text c)) edits
+SavedTextGivesEqual = (c : Configuration) (edits : List Edit) → IsValid c → AreSayable (saved_edits c) → AreLinesOf (lines_of (saved_text c)) edits
     → after_all (disks_alone c.units) edits ≡ Ok c
 
 -- The bytes stand at the end, in what was spare room. Only where that is too small is the buffer full; it is then as it

@@ -23,9 +23,9 @@ pub enum SaveFault {
 
 impl From<Full> for SaveFault {
     ghost use Rattle.std.specs.Prelude.{◌≡◌};
-    ghost use Rattle.config_saved.specs.declared.write.SaveFault.TheVariants as fault;
+    ghost use Rattle.config_saved.specs.declared.write.SaveFault.TheVariants as variant;
 
-    ghost from_gives = { λ _ gives. gives ≡ fault.Full };
+    ghost from_gives = { λ _ fault. fault ≡ variant.Full };
 
     fn from(_: Full) -> SaveFault {
         SaveFault::Full
