@@ -59,7 +59,7 @@ ns show nqn.a 1 nqn.i
 ref add 8 ipv6 ::1 8009
 """
 # How long the target may take to make the largest configuration, and to show it.
-LONG = 240
+LONG = 600
 # A name of 223 bytes, the most that one has.
 LONGEST = 223
 
