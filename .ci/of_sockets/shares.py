@@ -154,6 +154,17 @@ def check_edits(program, configured, lines_at):
         check(target.is_running(), "the program ended")
 
 
+def an_editor_that_is_shown_much_leaves_hosts_their_share(program):
+    places = free_ports(17)
+    edits = much_configured(places)
+    with Served(program, edits, options=("--disks", "1")) as target:
+        peer = target.connect(target.control)
+        # Each of the edits is a line of what is shown.
+        shown = sum(len(line) + 1 for line in [*edits, b"ok"])
+        check_share(target, places[0], peer, ask_on, peer, b"show\n" * 4, 4 * shown)
+        check(target.is_running(), "the program ended")
+
+
 def little_configured(places):
     """The edits of two ports, at the first and the last but one of these places."""
     return [*one_disk(places[0]), b"port add 16 ipv4 127.0.0.1 %d" % places[15]]
@@ -177,4 +188,5 @@ TESTS = [
     an_editor_that_moves_a_port_without_end_leaves_hosts_their_share,
     an_editor_of_much_leaves_hosts_their_share,
     an_editor_that_moves_a_port_of_many_leaves_hosts_their_share,
+    an_editor_that_is_shown_much_leaves_hosts_their_share,
 ]

@@ -2,6 +2,7 @@ pub mod Guests
 pub mod Items
 pub mod Lines
 pub mod Listening
+pub mod Pieces
 pub mod Rebuild
 pub mod SavedLines
 pub mod Stages

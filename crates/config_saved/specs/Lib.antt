@@ -1,3 +1,4 @@
+pub mod Pieces
 pub mod Saved
 pub mod Text
 pub mod Walk

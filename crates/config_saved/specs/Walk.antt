@@ -1,8 +1,12 @@
 -- What one step of a walk over edits answers and leaves.
-use Rattle.std.specs.Prelude.{◌≡◌, List, [], ◌∷◌, ◌++◌, Option, Some, None, Result, Ok, Err}
+use Rattle.std.specs.Prelude.{◌≡◌, List, [], ◌∷◌, ◌++◌, drop, Option, Some, None, Result, Ok, Err}
 use Rattle.std.specs.declared.alloc.AllocError.{AllocError}
 use Rattle.config_edits.specs.declared.edit.Edit.{Edit}
+use Rattle.config_rules.specs.Configuration.{Configuration}
+use Rattle.config_saved.specs.Saved.{saved_edits}
+use Rattle.config_saved.specs.declared.edits_left.EditsLeft.{EditsLeft}
 use Rattle.config_saved.specs.declared.item_edits.ItemEdits.{ItemEdits}
+use Rattle.config_saved.specs.declared.items_over.ItemsOver.{ItemsOver}
 
 -- the edit, where there is one
 abbrev pub edits_due : Option Edit → List Edit
@@ -12,6 +16,25 @@ edits_due (Some edit) = edit ∷ []
 -- both of an item
 abbrev pub edits_in : ItemEdits → List Edit
 edits_in edits = edits.first ∷ edits_due edits.second
+
+-- the edits of the items that are not over
+abbrev pub edits_behind : Configuration → ItemsOver → List Edit
+edits_behind c over = saved_edits (record {
+  units = [];
+  subsystems = drop over.subsystems c.subsystems;
+  namespaces = drop over.namespaces c.namespaces;
+  ports = drop over.ports c.ports;
+  links = drop over.links c.links;
+  hosts = drop over.hosts c.hosts;
+  allows = drop over.allows c.allows;
+  states = drop over.states c.states;
+  referrals = drop over.referrals c.referrals;
+  shows = drop over.shows c.shows;
+})
+
+-- .. after the one that is due
+abbrev pub edits_left : Configuration → EditsLeft → List Edit
+edits_left c left = edits_due left.due ++ edits_behind c left.items
 
 -- The first of the edits that were left, and those after it are left; none where none was left. Where no memory is, all
 -- are left.

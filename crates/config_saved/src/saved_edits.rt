@@ -3,7 +3,7 @@ ghost use Rattle.std.specs.Prelude.{◌≡◌};
 ghost use Rattle.config_saved.specs.Saved.{saved_edits};
 ghost use Rattle.config_saved.specs.Walk.{TakesFirst};
 
-use crate::items_left::ItemsLeft;
+use crate::edits_left::EditsLeft;
 use config_edits::Edit;
 use nvt_config::Config;
 use std::alloc::AllocError;
@@ -12,19 +12,18 @@ use std::marker::Model;
 /// What is left of a walk over the saved edits of a configuration. A contract sees these edits.
 #[derive(Drop)]
 pub struct SavedEdits<'a> {
-    // The second edit of the item whose first was taken.
-    due: Option<Edit>,
-    items: ItemsLeft<'a>,
+    config: &'a Config,
+    left: EditsLeft,
 }
 
 impl<'a> Model for SavedEdits<'a> {
-    ghost use Rattle.std.specs.Prelude.{◌++◌, List};
+    ghost use Rattle.std.specs.Prelude.{List};
     ghost use Rattle.config_edits.specs.declared.edit.Edit.{Edit};
-    ghost use Rattle.config_saved.specs.Walk.{edits_due};
+    ghost use Rattle.config_saved.specs.Walk.{edits_left};
 
     ghost Value = { List Edit };
 
-    ghost view = { λ saved. edits_due saved.due ++ saved.items };
+    ghost view = { λ saved. edits_left saved.config.now saved.left };
 }
 
 impl<'a> SavedEdits<'a> {
@@ -33,8 +32,8 @@ impl<'a> SavedEdits<'a> {
         ensures { result ≡ saved_edits config.now }
     {
         SavedEdits {
-            due: None,
-            items: ItemsLeft::of(config),
+            config,
+            left: EditsLeft::all(),
         }
     }
 
@@ -43,15 +42,6 @@ impl<'a> SavedEdits<'a> {
     pub fn next(&mut self) -> Result<Option<Edit>, AllocError>
         ensures { TakesFirst self.old self.new result }
     {
-        if let Some(edit) = self.due.take() {
-            return Ok(Some(edit));
-        }
-        match self.items.next()? {
-            Some(edits) => {
-                self.due = edits.second;
-                Ok(Some(edits.first))
-            }
-            None => Ok(None),
-        }
+        self.left.next(self.config)
     }
 }

@@ -73,8 +73,8 @@ fn append_lines(config: &Config, out: &mut BytesMut) -> Result<(), SaveFault>
     Ok(())
 }
 
-// Appends the edit's line, with its end.
-fn append_line(edit: &Edit, out: &mut BytesMut) -> Result<(), Full>
+/// Appends the edit's line, with its end.
+pub(crate) fn append_line(edit: &Edit, out: &mut BytesMut) -> Result<(), Full>
     ensures { AppendsOrFull out.old out.new (ended_line edit.now) result }
 {
     let before = out.len();

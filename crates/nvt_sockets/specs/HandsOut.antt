@@ -22,6 +22,7 @@ abbrev pub FitsLine : ℕ → Heard → Type 0
 FitsLine len heard.Nothing = Unit {0}
 FitsLine len heard.Something = Unit {0}
 FitsLine len (heard.Line n) = n ≤ len
+FitsLine len (heard.Shown since) = Unit {0}
 
 -- An event fits the slots that were in use, and leaves those in use that it leaves in use; where none comes, these stay.
 abbrev pub HandsOut : List Bool → List ℕ → ℕ → Option PortEvent → List Bool → Type 0
@@ -32,4 +33,5 @@ HandsOut old room len (Some event) new = Fits old room len event × (new ≡ in_
 abbrev pub Tries : List Bool → List ℕ → ℕ → Tried → List Bool → Type 0
 Tries old room len tried.Nothing new = new ≡ old
 Tries old room len tried.Heard new = new ≡ old
+Tries old room len (tried.Shown since) new = new ≡ old
 Tries old room len (tried.Event event) new = Fits old room len event × (new ≡ in_use_after event old)

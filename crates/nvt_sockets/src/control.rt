@@ -1,9 +1,12 @@
-//! The control port: its listener, and the connections that lines of edits come from.
+//! The control port: its listener, the connections that lines of edits come from, and the configuration that they are shown.
 ghost use Rattle.std.specs.Prelude.{◌<◌, ◌≤◌, ◌≡◌, IfOk, IfSome, length};
 ghost use Rattle.nvt_sockets.specs.HandsOut.{FitsLine};
 
-use crate::editor::{Editor, Heard};
+use crate::editor::{Editor, Heard, REPLY_MAX};
 use crate::network::Network;
+use bytes::BytesMut;
+use config_saved::{SavedReply, is_show};
+use nvt_config::Config;
 use socket_rules::{EDITORS_MAX, Seats};
 use std::alloc::{AllocError, Global};
 use std::io;
@@ -17,6 +20,10 @@ pub struct Control<L, S> {
     seats: Seats,
     // Whose line was handed out last, until it is answered.
     asking: Option<usize>,
+    // A copy of the configuration that stands; none where no memory was for it.
+    standing: Option<Config>,
+    // Where a piece of what is shown is written before it is kept.
+    piece: BytesMut,
     ghost whole: { length editors.items ≡ 16 },
 }
 
@@ -38,7 +45,16 @@ impl<L: Drop, S: Drop> Control<L, S> {
             editors: make_editors(alloc)?,
             seats: Seats::new(),
             asking: None,
+            standing: None,
+            piece: BytesMut::with_capacity(alloc, REPLY_MAX)?,
         })
+    }
+
+    /// From here on this configuration stands.
+    pub fn refresh(&mut self, config: &Config) {
+        // The old copy goes first, so that there is never memory for two at a time.
+        self.standing = None;
+        self.standing = config.try_clone().ok();
     }
 
     /// The next connection gets a place, where one waits; answers whether one did. Where all places are taken, those who
@@ -91,7 +107,8 @@ impl<L: Drop, S: Drop> Control<L, S> {
         None
     }
 
-    /// Takes the next line of the connection in this place.
+    /// Takes the next line of the connection in this place, or goes on with what it is shown. A line that asks for the
+    /// configuration is answered here, and not handed out.
     pub fn take_line<N: Network<Listener = L, Stream = S>>(
         &mut self,
         network: &mut N,
@@ -104,16 +121,29 @@ impl<L: Drop, S: Drop> Control<L, S> {
         if place >= EDITORS_MAX {
             return Heard::Nothing;
         }
-        let heard = self.editors[place].take_line(network, buf);
+        let heard = self.editors[place].take_line(network, buf, &mut self.piece);
         match heard {
             Heard::Nothing => {}
-            Heard::Something => self.seats.heard(place),
-            Heard::Line(_) => {
+            Heard::Something | Heard::Shown { .. } => self.seats.heard(place),
+            Heard::Line(n) => {
                 self.seats.heard(place);
+                if is_show(&buf[..n]) {
+                    let since = network.micros();
+                    self.show(network, place);
+                    return Heard::Shown { since };
+                }
                 self.asking = Some(place);
             }
         }
         heard
+    }
+
+    // Begins to show the configuration that stands to the connection in this place.
+    fn show<N: Network<Listener = L, Stream = S>>(&mut self, network: &mut N, place: usize)
+        requires { place < 16 }
+    {
+        let reply = SavedReply::to_show(self.standing.as_ref());
+        self.editors[place].show(network, reply, &mut self.piece);
     }
 
     /// Answers the line that was taken last, on its own connection.

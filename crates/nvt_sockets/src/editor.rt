@@ -3,12 +3,14 @@ ghost use Rattle.std.specs.Prelude.{◌≤◌, length};
 ghost use Rattle.nvt_sockets.specs.HandsOut.{FitsLine};
 
 use crate::network::{Network, Received};
+use bytes::BytesMut;
+use config_saved::{PieceEnd, SavedReply};
 use nvt_ports::PortFault;
 use socket_rules::{LINE_LIMIT, LineSplitter, SendBuffer};
 use std::alloc::{AllocError, Global};
 
-// Longer than any reply, of which one is kept at most.
-const REPLY_MAX: usize = 2_048;
+/// Longer than any reply, of which one is kept at most, or a piece of one.
+pub const REPLY_MAX: usize = 2_048;
 
 /// What comes of a try to take a line.
 #[derive(Clone, Copy)]
@@ -18,6 +20,8 @@ pub enum Heard {
     Something,
     /// A line of so many bytes, which stands at the front of the buffer.
     Line(usize),
+    /// More of a configuration was shown, which began at this time, in microseconds.
+    Shown { since: u64 },
 }
 
 /// A connection for lines of edits, or none.
@@ -26,6 +30,8 @@ pub struct Editor<S> {
     peer: Option<S>,
     lines: LineSplitter,
     replies: SendBuffer,
+    // What is left of the reply to `show`, while it is not all in `replies`.
+    shown: Option<SavedReply>,
 }
 
 impl<S: Drop> Editor<S> {
@@ -35,6 +41,7 @@ impl<S: Drop> Editor<S> {
             peer: None,
             lines: LineSplitter::new(alloc)?,
             replies: SendBuffer::new(alloc, REPLY_MAX)?,
+            shown: None,
         })
     }
 
@@ -53,17 +60,31 @@ impl<S: Drop> Editor<S> {
         self.peer = None;
         self.lines.clear();
         self.replies.clear();
+        self.shown = None;
     }
 
-    /// Takes its next line. Where it does not read its replies, no line is taken. It is closed once it sends no more and its
-    /// lines are answered.
-    pub fn take_line<N: Network<Stream = S>>(&mut self, network: &mut N, buf: &mut [u8]) -> Heard
+    /// Takes its next line, or goes on with what it is shown. Where it does not read its replies, neither is done. It is
+    /// closed once it sends no more and its lines are answered. The piece is used, and holds nothing of worth then.
+    pub fn take_line<N: Network<Stream = S>>(
+        &mut self,
+        network: &mut N,
+        buf: &mut [u8],
+        piece: &mut BytesMut,
+    ) -> Heard
         requires { 1025 ≤ length buf.old }
         ensures { FitsLine (length buf.new) result }
     {
         self.send(network);
         if !self.replies.is_empty() {
             return Heard::Nothing;
+        }
+        if self.shown.is_some() {
+            let since = network.micros();
+            return if self.show_more(network, piece) {
+                Heard::Shown { since }
+            } else {
+                Heard::Nothing
+            };
         }
         if let Some(n) = self.lines.next_line(buf) {
             return Heard::Line(n);
@@ -82,7 +103,9 @@ impl<S: Drop> Editor<S> {
     pub fn hear<N: Network<Stream = S>>(&mut self, network: &mut N, buf: &mut [u8]) -> bool
         requires { 1025 ≤ length buf.old }
     {
-        let waits = self.lines.room() < LINE_LIMIT || !self.replies.is_empty();
+        let waits = self.lines.room() < LINE_LIMIT
+            || !self.replies.is_empty()
+            || self.shown.is_some();
         !waits && self.receive(network, buf)
     }
 
@@ -110,6 +133,35 @@ impl<S: Drop> Editor<S> {
         self.replies.keep(text);
         self.replies.keep(b"\n");
         self.send(network);
+    }
+
+    /// Answers the line that was taken last by this, of which a first piece is sent.
+    pub fn show<N: Network<Stream = S>>(
+        &mut self,
+        network: &mut N,
+        reply: SavedReply,
+        piece: &mut BytesMut,
+    ) {
+        self.shown = Some(reply);
+        self.show_more(network, piece);
+    }
+
+    // Sends the next piece of what it is shown, where nothing else is kept, and answers whether there is one. Where no memory
+    // is for it, that is tried again in the next turn: whoever keeps the text would take one that ends too early for the
+    // whole.
+    fn show_more<N: Network<Stream = S>>(&mut self, network: &mut N, piece: &mut BytesMut) -> bool {
+        piece.clear();
+        if let Some(reply) = &mut self.shown {
+            if reply.write(piece) == PieceEnd::Whole {
+                self.shown = None;
+            }
+        }
+        if piece.is_empty() {
+            return false;
+        }
+        self.replies.keep(piece.as_slice());
+        self.send(network);
+        true
     }
 
     // Sends what is kept, as far as it goes.

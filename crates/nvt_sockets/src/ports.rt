@@ -52,8 +52,12 @@ impl GivenUpHosts {
 ///
 /// Bytes that are given are kept, and sent when a turn gave the same host nothing more, or when much is kept; while
 /// replies are being joined so, the other sockets are looked at now and then alone. Where nothing came or went for some
-/// milliseconds, a call sleeps, up to a millisecond. Hosts that do not connect, or take nothing, are given up. They
-/// allocate when they are opened, and never again.
+/// milliseconds, a call sleeps, up to a millisecond. Hosts that do not connect, or take nothing, are given up.
+///
+/// They keep a copy of the configuration that stands. A line that is `show` is handed out to nobody: whoever sent it gets
+/// the lines of edits that make an equal configuration, and `ok`, in pieces; what that costs counts as an edit does. They
+/// allocate when they are opened, and then for these copies alone: one at each edit, one for each `show` until its last
+/// line is written, and the names in a line while it is written. Where one is refused, all else goes on.
 #[derive(Drop)]
 pub struct SocketPorts<N: Network> {
     network: N,
@@ -188,7 +192,7 @@ impl<N: Network + Drop> SocketPorts<N> {
             let speaker = self.order.at(place)?;
             match self.try_speaker(speaker, room, buf) {
                 Tried::Nothing => {}
-                Tried::Heard => {
+                Tried::Heard | Tried::Shown { .. } => {
                     self.found(place + 1, calls);
                     return None;
                 }
@@ -219,9 +223,13 @@ impl<N: Network + Drop> SocketPorts<N> {
         let tried = self
             .sockets
             .try_speaker(&mut self.network, speaker, room, buf);
-        if let Tried::Event(_) = tried {
-            let now = self.network.micros();
-            self.pace.handed_out(now);
+        match tried {
+            Tried::Nothing | Tried::Heard => {}
+            Tried::Shown { since } => self.pace.handed_out(since),
+            Tried::Event(_) => {
+                let now = self.network.micros();
+                self.pace.handed_out(now);
+            }
         }
         tried
     }
@@ -288,7 +296,7 @@ impl<N: Network + Drop> SocketPorts<N> {
         self.pause.after_vain(now)
     }
 
-    // What the last line of edits asked for is done.
+    // What the last line of edits asked for is done, or what was shown is.
     fn end_line(&mut self)
         ensures in_use { self.new.sockets.in_use ≡ self.old.sockets.in_use }
         ensures faults { self.new.faults ≡ self.old.faults }

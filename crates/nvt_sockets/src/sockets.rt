@@ -21,6 +21,8 @@ pub enum Tried {
     Nothing,
     /// A connection came or went that no event tells of.
     Heard,
+    /// More of the configuration was shown to an editor, which began at this time, in microseconds.
+    Shown { since: u64 },
     Event(PortEvent),
 }
 
@@ -56,7 +58,7 @@ impl<L: Drop, S: Drop> Sockets<L, S> {
         })
     }
 
-    /// Listens for hosts at the ports of this configuration.
+    /// Listens for hosts at the ports of this configuration, which editors are shown from here on.
     pub fn refresh<N: Network<Listener = L, Stream = S>>(
         &mut self,
         network: &mut N,
@@ -66,6 +68,7 @@ impl<L: Drop, S: Drop> Sockets<L, S> {
         ensures { self.new.in_use ≡ self.old.in_use }
     {
         self.listeners.refresh(network, speech, config);
+        self.control.refresh(config);
     }
 
     /// A call begins: what is kept for hosts is sent, is joined with more, or waits.
@@ -128,6 +131,7 @@ impl<L: Drop, S: Drop> Sockets<L, S> {
             Speaker::Editor(place) => match self.control.take_line(network, place, buf) {
                 Heard::Nothing => Tried::Nothing,
                 Heard::Something => Tried::Heard,
+                Heard::Shown { since } => Tried::Shown { since },
                 Heard::Line(n) => Tried::Event(PortEvent::Line { n }),
             },
         }

@@ -77,6 +77,10 @@ local user can send further edits, one a line; each is answered by a line, `ok` 
 refused. Ports that are added are listened to from then on, those that are deleted no more, and
 a host that is connected learns what an edit changed from its log pages.
 
+The line `show` is answered by the edits, one a line, that make a configuration equal to the one
+that stands, on a new target with the same disks, and then by `ok`; or by `refused Memory`. It is
+the configuration of that moment, whatever edits come while it is sent, and it changes nothing.
+
 On standard error there is a line for each listener, as `listening on 127.0.0.1:4420, port 1`.
 On standard output there is `port ID: cannot listen` for a port whose address cannot be listened
 to, once; it is tried again at each edit.

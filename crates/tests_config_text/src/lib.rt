@@ -1,6 +1,7 @@
 //! Tests of the text of edits, through the public calls: random edits are written and read back,
 //! lines with a byte more or less are no longer theirs, the texts of the faults, and the lines of some
-//! edits and of none, word by word; and the text of a saved configuration.
+//! edits and of none, word by word; and the text of a saved configuration, whole and
+//! in pieces.
 #![tactic(auto)]
 
 #[cfg(test)]
@@ -9,6 +10,8 @@ mod drawn;
 mod faults;
 #[cfg(test)]
 mod lines;
+#[cfg(test)]
+mod pieces;
 #[cfg(test)]
 mod saved;
 #[cfg(test)]
