@@ -2,10 +2,10 @@
 //! standard output. It reads no command line.
 #![tactic(auto)]
 
-mod check;
+mod checking;
 mod command;
 mod explained;
 
-pub use check::check;
+pub use checking::check;
 pub use command::run;
 pub use nvt_replay::ReplayFault;
