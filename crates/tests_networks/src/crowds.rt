@@ -3,7 +3,7 @@ use crate::host::Host;
 use crate::manner::{GOOD, HASTY};
 use crate::network::ScriptedNetwork;
 use crate::rig::{Wish, holds_over};
-use crate::script::{Script, connected, lines, shows, unconnected};
+use crate::script::{Script, connected, lines, unconnected};
 use crate::slow::check_good;
 use std::alloc::{AllocError, Global};
 use std::cell::Cell;
@@ -78,35 +78,30 @@ fn endless<'a>(
     Ok(hosts)
 }
 
-// How many hosts and editors that send without end are beside the good one, and how many that ask for the configuration.
+// How many hosts and editors that send without end are beside the good one.
 #[derive(Clone, Copy)]
 struct Crowd {
     hosts: usize,
     editors: usize,
-    showing: usize,
 }
 
 fn network_of<'a>(
     alloc: Global,
-    scripts: &'a [Script; 4],
+    scripts: &'a [Script; 3],
     crowd: Crowd,
 ) -> Result<ScriptedNetwork<'a>, AllocError> {
-    let [good, flood, lines, shows] = scripts;
+    let [good, flood, lines] = scripts;
     let mut hosts = endless(alloc, flood, crowd.hosts)?;
     hosts.insert(0, Host::new(alloc, good, GOOD)?)?;
-    let mut editors = endless(alloc, lines, crowd.editors)?;
-    for _ in 0..crowd.showing {
-        editors.push(Host::new(alloc, shows, HASTY)?)?;
-    }
+    let editors = endless(alloc, lines, crowd.editors)?;
     Ok(ScriptedNetwork::new(hosts, editors))
 }
 
-fn scripts(alloc: Global) -> Result<[Script; 4], AllocError> {
+fn scripts(alloc: Global) -> Result<[Script; 3], AllocError> {
     Ok([
         connected(alloc)?,
         unconnected(alloc, 64, true)?,
         lines(alloc)?,
-        shows(alloc)?,
     ])
 }
 
@@ -121,7 +116,6 @@ fn check_crowd(alloc: Global, crowd: Crowd, part: u64) -> Outcome {
     let alone = Crowd {
         hosts: 0,
         editors: 0,
-        showing: 0,
     };
     let answered = Answered {
         rate: Cell::new(Rate {
@@ -141,7 +135,6 @@ fn a_flood_leaves_time_for_a_good_host(rt: HostRuntime) -> Outcome {
     let crowd = Crowd {
         hosts: 1,
         editors: 0,
-        showing: 0,
     };
     check_crowd(rt.alloc(), crowd, 3)
 }
@@ -151,7 +144,6 @@ fn floods_of_all_slots_leave_time_for_a_good_host(rt: HostRuntime) -> Outcome {
     let crowd = Crowd {
         hosts: 63,
         editors: 0,
-        showing: 0,
     };
     check_crowd(rt.alloc(), crowd, 100)
 }
@@ -161,7 +153,6 @@ fn an_editor_leaves_time_for_a_good_host(rt: HostRuntime) -> Outcome {
     let crowd = Crowd {
         hosts: 0,
         editors: 1,
-        showing: 0,
     };
     check_crowd(rt.alloc(), crowd, 3)
 }
@@ -171,17 +162,6 @@ fn editors_of_all_places_leave_time_for_a_good_host(rt: HostRuntime) -> Outcome 
     let crowd = Crowd {
         hosts: 0,
         editors: 16,
-        showing: 0,
-    };
-    check_crowd(rt.alloc(), crowd, 3)
-}
-
-#[test]
-fn editors_that_ask_for_the_configuration_leave_time_for_a_good_host(rt: HostRuntime) -> Outcome {
-    let crowd = Crowd {
-        hosts: 0,
-        editors: 8,
-        showing: 8,
     };
     check_crowd(rt.alloc(), crowd, 3)
 }

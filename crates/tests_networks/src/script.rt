@@ -140,26 +140,3 @@ pub fn lines(alloc: Global) -> Result<Script, AllocError> {
         free: (0, 0),
     })
 }
-
-// What an editor is shown of a target that each is configured as.
-const SHOWN: &[u8] = b"subsys add nqn.2026-01.test:a SN-A open
-ns add nqn.2026-01.test:a 1 0 512 512 0b5cfe8e-55b0-4f1c-9a3e-2f1d4a6b7c80 1
-port add 1 ipv4 127.0.0.1 4420
-link add 1 nqn.2026-01.test:a
-ok
-";
-
-/// A line that asks for the configuration, again and again, and the reply.
-pub fn shows(alloc: Global) -> Result<Script, AllocError> {
-    Ok(Script {
-        sends: Vec::from_slice(alloc, b"show\n")?,
-        owed: Vec::from_slice(alloc, SHOWN)?,
-        opening: Span { sent: 0, owed: 0 },
-        command: Span {
-            sent: 5,
-            owed: SHOWN.len(),
-        },
-        repeats: true,
-        free: (0, 0),
-    })
-}
