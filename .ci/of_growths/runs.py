@@ -33,9 +33,13 @@ class Shim:
 
 
 def counted(counts):
-    """How many growths there were, and how many of them were refused."""
-    counts.seek(0)
-    return struct.unpack("=QQ", counts.read(16))
+    """How many growths there were, and how many of them were refused, so far."""
+    return struct.unpack("=QQ", os.pread(counts.fileno(), 16, 0))
+
+
+def refusals(counts):
+    """How many growths were refused so far."""
+    return counted(counts)[1]
 
 
 class Run:
@@ -74,6 +78,8 @@ class Case:
 
     # Whether a run may make other growths than another: what comes over sockets and pipes comes in pieces that differ.
     may_differ = False
+    # What the growths that are refused have to be of, as far as no run has shown it yet.
+    unseen = ()
 
     def run(self, shim, refused):
         return Run(shim, self.command, refused)

@@ -44,7 +44,7 @@ def listeners_are_named(program):
     [port] = free_ports(1)
     with Served(program, one_disk(port)) as target:
         Queue(target, port).close()
-        named = sorted(target.err().split(b"\n")[:-1])
+        named = sorted(line for line in target.err().split(b"\n") if line.startswith(b"listening on "))
         control = b"listening on 127.0.0.1:%d, control" % target.control
         check_equal("standard error", named, sorted([control, b"listening on 127.0.0.1:%d, port 1" % port]))
 

@@ -12,4 +12,6 @@ pub struct ServeArguments {
     /// How many turns the target is served.
     pub turns: u64,
     pub disks: DiskArguments,
+    /// Whether nothing is told of who connects and what is edited.
+    pub quiet: bool,
 }

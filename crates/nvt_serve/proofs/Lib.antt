@@ -1,8 +1,11 @@
 pub mod Asked
 pub mod Doing
 pub mod History
+pub mod Lasting
+pub mod Looking
 pub mod Quiet
 pub mod Runs
+pub mod Sets
 pub mod Slots
 pub mod Telling
 pub mod Tying

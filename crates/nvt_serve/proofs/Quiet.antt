@@ -1,16 +1,15 @@
 -- Connections that have output, or nothing of whose stream can be consumed, through the steps of others.
-use Rattle.std.proofs.Common.{◌≡◌, ◌≢◌, ℕ, ◌+◌, ◌-◌, ◌<◌, min, Bool, true, false, ◌||◌, List, [], ◌∷◌, ◌++◌, length, Option, Some, None, Ok, Err, is_some, refl, sym, ◌∙◌, subst, inl, inr, arith}
+use Rattle.std.proofs.Common.{◌≡◌, ◌≢◌, ℕ, ◌+◌, ◌-◌, ◌<◌, ◌≤◌, min, Bool, true, false, ◌||◌, List, [], ◌∷◌, ◌++◌, Option, Some, None, Ok, Err, is_some, refl, sym, ◌∙◌, subst, inl, inr, arith}
 use Rattle.std.specs.Prelude.{◌==◌, ◌^◌, if◌then◌else◌}
 use Rattle.std.specs.Option.{option_map}
 use Rattle.std.proofs.lemmas.Bool.{cases_eq, cases_lt}
-use Rattle.std.proofs.lemmas.List.{get_or_past}
 use Rattle.std.specs.Int.{from_bool}
 use Rattle.std.proofs.lemmas.Bool.Decides.{nat_tests}
 use Rattle.event_queue.specs.declared.completion.Completion.{Completion}
 use Rattle.number_table.specs.Table.{place}
 use Rattle.pdu_cut.specs.declared.side.Side.TheVariants.{Target}
 use Rattle.pdu_cut.specs.Front.{front}
-use Rattle.target_core.specs.declared.fault.StepFault.TheVariants.{NoConn}
+use Rattle.target_core.specs.declared.fault.StepFault.TheVariants as step_fault
 use Rattle.target_core.specs.declared.fault.Stepped.TheVariants.{Idle}
 use Rattle.target_core.specs.Connection.{KnownConnection}
 use Rattle.target_core.specs.Transition.{StepsAt, known_moved, stream_moved}
@@ -22,10 +21,12 @@ use Rattle.target_decision.specs.Tell.{completed_in}
 use Rattle.target_history.specs.EndCause.{ends_by}
 use Rattle.target_history.specs.Event.{Event, stepped, steps}
 use Rattle.target_history.specs.Occurrence.{Occurrence, cause_of, completed_by, ends_live, sends, telling}
+use Rattle.nvt_serve.specs.Looks.{AreReady, LastsAt, Rests, RestsAt}
 use Rattle.nvt_serve.specs.Served.{IsQuiet, IsQuietAt, has_bytes, is_quiet}
+use Rattle.nvt_serve.specs.Sets.{IsFirst, is_in}
 use Rattle.nvt_serve.specs.Stepping.{GoesBySteps, StepsOut}
 use Rattle.target_core.specs.Agreement.{front_of}
-use Rattle.target_steps.specs.Marks.{AreMarks, SameKnown}
+use Rattle.target_steps.specs.Marks.{SameKnown}
 use Rattle.target_steps.specs.Steps.{Steps}
 
 -- ---- a connection that steps
@@ -41,7 +42,7 @@ quiet_with_output t k some = by (place t.streams k) (place t.connections k) some
   by (Some held) None some = refl
   by (Some held) (Some c) some = rw (no_output c.output some) refl
 
-or_true : (b : Bool) → (b || true) ≡ true
+pub or_true : (b : Bool) → (b || true) ≡ true
 or_true true = refl
 or_true false = refl
 
@@ -52,9 +53,9 @@ quiet_idle old new k h = by (place old.streams k) (place old.connections k) h wh
   by (Some held) None h = refl
   by (Some held) (Some c) h = rw h.0 (or_true (has_bytes c.output))
 
-pub quiet_none : (old new : TargetState) (k : ℕ) → StepsAt k (place old.streams k) (place old.connections k) old (Err NoConn) new → IsQuietAt old k
+pub quiet_none : (old new : TargetState) (k : ℕ) → StepsAt k (place old.streams k) (place old.connections k) old (Err step_fault.NoConn) new → IsQuietAt old k
 quiet_none old new k h = by (place old.streams k) (place old.connections k) h where
-  by : (s : Option (List ℕ)) (o : Option KnownConnection) → StepsAt k s o old (Err NoConn) new → is_quiet s o ≡ true
+  by : (s : Option (List ℕ)) (o : Option KnownConnection) → StepsAt k s o old (Err step_fault.NoConn) new → is_quiet s o ≡ true
   by None o h = refl
   by (Some held) None h = refl
   by (Some held) (Some c) h = let fault = h.0 in cc
@@ -80,7 +81,7 @@ ended_if true s ended = refl
 ended_if false s ended = ended
 
 -- one that has ended stays so, where nothing is decided of it
-ended_moved : (x : Occurrence) (k : ℕ) (c : KnownConnection) → steps x.event k ≡ false → is_ended c.state.session ≡ true
+pub ended_moved : (x : Occurrence) (k : ℕ) (c : KnownConnection) → steps x.event k ≡ false → is_ended c.state.session ≡ true
     → is_ended (known_moved x k c).state.session ≡ true
 ended_moved x k c other ended = rw other
     (ended_if (ends_by (cause_of x) (ends_live x) c.state) _ (ended_stays c.state.session (completed_by (telling x c.state) c.state.notices) ended))
@@ -103,7 +104,7 @@ quiet_moved x k (Some held) (Some c) other quiet =
     either (has_bytes c.output) (is_ended c.state.session) (is_incomplete (front Target held)) (has_bytes (c.output ++ sends x k))
     (is_ended (known_moved x k c).state.session) (bytes_more c.output (sends x k)) (ended_moved x k c other) quiet
 
-stream_stays : (event : Event) (k : ℕ) (s : Option (List ℕ)) → steps event k ≡ false → option_map (stream_moved event k) s ≡ s
+pub stream_stays : (event : Event) (k : ℕ) (s : Option (List ℕ)) → steps event k ≡ false → option_map (stream_moved event k) s ≡ s
 stream_stays event k None other = refl
 stream_stays event k (Some held) other = rw other refl
 
@@ -122,10 +123,11 @@ idle_same k (Some held) None old new h = h.1
 idle_same k (Some held) (Some c) old new h = h.1
 
 pub out_idle : (k : ℕ) (first old new : TargetState) → StepsAt k (place old.streams k) (place old.connections k) old (Ok Idle) new
-    → GoesBySteps first old → SameKnown first old → ((j : ℕ) → j ≢ k → IsQuietAt first j → IsQuietAt old j) → StepsOut k false first new
-out_idle k first old new h goes known others =
+    → GoesBySteps first old → SameKnown first old → ((j : ℕ) → j ≢ k → IsQuietAt first j → IsQuietAt old j)
+    → ((j : ℕ) → j ≢ k → LastsAt j first old) → StepsOut k false first new
+out_idle k first old new h goes known others lasts =
     subst (λ (t : TargetState). StepsOut k false first t) (sym (idle_same k (place old.streams k) (place old.connections k) old new h))
-    (record { goes = goes; known = known; quiet = λ same. quiet_idle old new k h; others = others })
+    (record { goes = goes; known = known; quiet = λ same. quiet_idle old new k h; others = others; lasts = lasts })
 
 -- ---- connections that step one after the other
 
@@ -133,29 +135,33 @@ none_wants : (m n sum : ℕ) (wants : Bool) → n ≡ from_bool wants → sum �
 none_wants m n sum true is adds none = absurd (omega (arith, is, adds, none))
 none_wants m n sum false is adds none = (omega (arith, is, adds, none), refl)
 
--- one more has stepped out, and so many wanted memory
-pub quiet_more : (k : ℕ) (old new : TargetState) (wants : Bool) (m n sum : ℕ) → StepsOut k wants old new → n ≡ from_bool wants
-    → sum ≡ min (m + n) (2 ^ 64 - 1) → (m ≡ 0 → (j : ℕ) → j < k → IsQuietAt old j) → sum ≡ 0 → (j : ℕ) → j < k + 1 → IsQuietAt new j
-quiet_more k old new wants m n sum steps is adds before none j below =
+quiet_at_rest : (s : Option (List ℕ)) (o : Option KnownConnection) → RestsAt s o → is_quiet s o ≡ true
+quiet_at_rest None o rests = refl
+quiet_at_rest (Some held) None rests = refl
+quiet_at_rest (Some held) (Some c) rests = rw rests.idle (or_true (has_bytes c.output))
+
+pub quiet_resting : (t : TargetState) (k : ℕ) → Rests t k → IsQuietAt t k
+quiet_resting t k rests = quiet_at_rest (place t.streams k) (place t.connections k) rests
+
+-- one more has stepped out, the next of those that may have something to step, and so many wanted memory
+pub quiet_more : (least k : ℕ) (old new : TargetState) (wants : Bool) (m n sum ready : ℕ) → StepsOut k wants old new → n ≡ from_bool wants
+    → sum ≡ min (m + n) (2 ^ 64 - 1) → IsFirst least k ready → AreReady ready old → (m ≡ 0 → (j : ℕ) → j < least → IsQuietAt old j)
+    → sum ≡ 0 → (j : ℕ) → j < k + 1 → IsQuietAt new j
+quiet_more least k old new wants m n sum ready steps is adds first are before none j below =
     let neither = none_wants m n sum wants is adds none in
     elim (cases_eq j k) [
       | inl same ↦ subst (λ (i : ℕ). IsQuietAt new i) (sym same) (steps.quiet neither.1)
-      | inr differs ↦ steps.others j differs (before neither.0 j (omega (arith, below, differs)))
+      | inr differs ↦ steps.others j differs (elim (cases_lt j least) [
+        | inl passed ↦ before neither.0 j passed
+        | inr past ↦ quiet_resting old j (are j (first.none j past (omega (arith, below, differs))))
+      ])
     ]
 
--- .. or none did, since it is not known
-pub quiet_past : (k : ℕ) (t : TargetState) → is_some (place t.connections k) ≡ false → ((j : ℕ) → j < k → IsQuietAt t j)
-    → (j : ℕ) → j < k + 1 → IsQuietAt t j
-quiet_past k t none before j below =
-    elim (cases_eq j k) [
-      | inl same ↦ subst (λ (i : ℕ). IsQuietAt t i) (sym same) (quiet_unknown t k none)
-      | inr differs ↦ before j (omega (arith, below, differs))
-    ]
-
--- all have: there are no others
-pub quiet_all : (t : TargetState) (marks : List Bool) → AreMarks marks t → length marks ≡ 64 → ((j : ℕ) → j < 64 → IsQuietAt t j) → IsQuiet t
-quiet_all t marks are places before = λ j.
-    elim (cases_lt j 64) [
-      | inl within ↦ before j within
-      | inr past ↦ quiet_unknown t j (sym (are j) ∙ get_or_past marks j false (omega (arith, places, past)))
+-- none is left
+pub quiet_all : (least ready : ℕ) (t : TargetState) → ((k : ℕ) → least ≤ k → is_in ready k ≡ false) → AreReady ready t
+    → ((j : ℕ) → j < least → IsQuietAt t j) → IsQuiet t
+quiet_all least ready t none are before = λ j.
+    elim (cases_lt j least) [
+      | inl passed ↦ before j passed
+      | inr past ↦ quiet_resting t j (are j (none j past))
     ]

@@ -10,7 +10,9 @@ use Rattle.number_table.proofs.Tables.{least_free-Some, length-with_value, place
 use Rattle.nvt_ports.specs.Told.{PortsState}
 use Rattle.nvt_serve.specs.Deed as deed
 use Rattle.nvt_serve.specs.Deed.{ClosedSlot, Deed, Does, IsUnused, Runs, Serving}
-use Rattle.nvt_serve.specs.Served.{AreTied}
+use Rattle.nvt_serve.specs.declared.ties.Ties.{Ties}
+use Rattle.nvt_serve.specs.Looks.{AreLooks}
+use Rattle.nvt_serve.specs.Served.{AreTied, AreTies, IsTiedWithin, serving}
 use Rattle.target_core.specs.Connection.{KnownConnection}
 use Rattle.target_core.specs.Transition.{Transition, known_moved}
 use Rattle.target_core.specs.Target.{TargetState, free_number, meets}
@@ -29,6 +31,11 @@ none_tied s none =
       alone = λ slot other k tied same. absurd (untied slot k tied);
       in_use = λ slot k tied. absurd (untied slot k tied);
     }
+
+pub none_within : (connections : List (Option ℕ)) → ((slot : ℕ) → place connections slot ≡ None) → IsTiedWithin connections
+none_within connections none =
+    let untied : (slot k : ℕ) → place connections slot ≢ Some k = λ slot k tied. let here = none slot in cc in
+    λ slot k tied. absurd (untied slot k tied)
 
 -- ---- as they were
 
@@ -49,6 +56,18 @@ tied_stay old new connections used same are = record {
       are.alone slot other k (there new.connections old.connections slot k connections here) (there new.connections old.connections other k connections too);
   in_use = λ slot k tied.
       used_same new.ports.in_use old.ports.in_use slot used ∙ are.in_use slot k (there new.connections old.connections slot k connections tied);
+}
+
+within_same : (old new : List (Option ℕ)) → new ≡ old → IsTiedWithin old → IsTiedWithin new
+within_same old new same within = λ slot k tied. within slot k (there new old slot k same tied)
+
+-- .. with the ties, where steps were made, or nothing happened
+pub ties_step : (ports : PortsState) (old new : TargetState) (before after : Ties) → SameKnown old new → after.connections ≡ before.connections
+    → AreLooks new after → AreTies ports old before → AreTies ports new after
+ties_step ports old new before after known same looks are = record {
+  tied = tied_stay (serving ports old before) (serving ports new after) same refl known are.tied;
+  within = within_same before.connections after.connections same are.within;
+  looks = looks;
 }
 
 -- .. while a slot that has no connection is closed
@@ -250,3 +269,30 @@ does_keep (deed.closed (Some slot) k) old new h are =
 pub runs_keep : (deeds : List Deed) (old new : Serving) → Runs deeds old new → AreTied old → AreTied new
 runs_keep [] old new same are = subst AreTied (sym same) are
 runs_keep (d ∷ deeds) old new h are = runs_keep deeds h.0 new h.2 (does_keep d old h.0 h.1 are)
+
+-- ---- the connections of slots are of those that there may be
+
+within_left : (old new : List (Option ℕ)) (slot : ℕ) → new ≡ without old slot → IsTiedWithin old → IsTiedWithin new
+within_left old new slot left within = λ other j tied.
+    within other j (left_before old slot other j (there new (without old slot) other j left tied)).1
+
+pub within_kept : (d : Deed) (old new : Serving) → Does d old new → IsTiedWithin old.connections → IsTiedWithin new.connections
+within_kept (deed.clock_set ms) old new h within = within_same old.connections new.connections h.target.connections within
+within_kept (deed.connected slot port k) old new h within = λ other j tied.
+    elim (tied_new old.connections slot k other j (there new.connections (with_value old.connections slot k) other j h.target.tied tied)) [
+      | inl here ↦ subst (λ (i : ℕ). i < 64) (sym here.1) h.target.within
+      | inr was ↦ within other j was.1
+    ]
+within_kept (deed.refused slot port fault) old new h within = within_same old.connections new.connections h.target.stays.connections within
+within_kept (deed.received slot k bytes) old new h within = within_same old.connections new.connections h.target.connections within
+within_kept (deed.received_by_none slot bytes) old new h within = within_same old.connections new.connections h.target.1.connections within
+within_kept (deed.gone slot k) old new h within = within_left old.connections new.connections slot h.target.untied within
+within_kept (deed.gone_from_none slot) old new h within = within_same old.connections new.connections h.target.1.connections within
+within_kept (deed.edit_made line edit) old new h within = within_same old.connections new.connections h.target.happens.connections within
+within_kept (deed.edit_refused line why) old new h within = within_same old.connections new.connections h.target.1.connections within
+within_kept deed.nothing_came old new h within = within_same old.connections new.connections h.target.connections within
+within_kept (deed.stepped_on k found m) old new h within = within_same old.connections new.connections h.target.happens.connections within
+within_kept (deed.sent slot k bytes) old new h within = within_same old.connections new.connections h.target.connections within
+within_kept (deed.failed slot k) old new h within = within_left old.connections new.connections slot h.target.untied within
+within_kept (deed.closed None k) old new h within = within_same old.connections new.connections h.target.untied within
+within_kept (deed.closed (Some slot) k) old new h within = within_left old.connections new.connections slot h.target.untied within

@@ -1,19 +1,19 @@
 -- What is done with what ports hand out, beside what the ports tell of it.
-use Rattle.std.specs.Prelude.{◌≡◌, ◌<◌, ℕ, Bool, true, false, List, Option, Some, None, Result, MatchOption, slice_index_or}
+use Rattle.std.specs.Prelude.{◌≡◌, ◌<◌, ℕ, List, Option, Some, None, Result, MatchOption, slice_index_or}
 use Rattle.edit_lines.specs.declared.line.NotMade.{NotMade}
 use Rattle.edit_lines.specs.Line.{IsRefused, MakesLine}
-use Rattle.number_table.specs.Table.{place, with_value, without}
+use Rattle.number_table.specs.Table.{place}
 use Rattle.nvt_serve.specs.declared.asking.Counted.{Counted}
 use Rattle.nvt_serve.specs.declared.asking.Counted.TheVariants as counted
 use Rattle.nvt_serve.specs.declared.ties.Ties.{Ties}
 use Rattle.nvt_serve.specs.Deed.{ClosedSlot, IsRefusedBy, Serving, Stays}
+use Rattle.nvt_serve.specs.Looks.{Opens, Receives, Unties}
 use Rattle.nvt_serve.specs.Served.{Numbers}
 use Rattle.target_core.specs.declared.fault.NoConn.{NoConn}
 use Rattle.target_core.specs.declared.fault.OpenFault.{OpenFault}
 use Rattle.target_core.specs.Transition.{Transition}
 use Rattle.target_core.specs.Target.{ReceivesAt, TargetState, free_number, open_fault, room_at}
 use Rattle.target_history.specs.Event.{given_up, opened}
-use Rattle.target_steps.specs.Marks.{SetsMark}
 
 -- the ports were asked once, and this came of it
 abbrev pub numbers_by : Counted → Numbers
@@ -34,26 +34,25 @@ HasRooms rooms t ties = (slot : ℕ) → slice_index_or rooms slot 0 ≡ room_of
 
 -- ---- hosts that connect
 
--- a connection is opened in a slot, and marked
-pub record OpensIn (slot port : ℕ) (old new : Serving) (before after : List Bool) : Type 0 where
+-- a connection is opened in a slot
+pub record OpensIn (slot port : ℕ) (old new : Serving) (before after : Ties) : Type 0 where
   pub number : ℕ
   pub accepted : open_fault old.target port ≡ None
   pub within : number < 64
   pub free : free_number old.target ≡ Some number
   pub transition : Transition (opened port number) old.target new.target
-  pub tied : new.connections ≡ with_value old.connections slot number
   pub ports : new.ports ≡ old.ports
-  pub marked : SetsMark number true before after
+  pub opens : Opens slot number (room_at (place new.target.streams number) (place new.target.connections number)) before after
 
 -- or it is refused, and the slot closed
-pub record RefusesIn (slot port : ℕ) (old new : Serving) (before after : List Bool) : Type 0 where
+pub record RefusesIn (slot port : ℕ) (old new : Serving) (before after : Ties) : Type 0 where
   pub fault : OpenFault
   pub why : IsRefusedBy (open_fault old.target port) fault
   pub stays : Stays old new
   pub ports : ClosedSlot slot old.ports new.ports
-  pub marked : after ≡ before
+  pub ties : after ≡ before
 
-abbrev pub OpensBy : ℕ → ℕ → Counted → Serving → Serving → List Bool → List Bool → Type 0
+abbrev pub OpensBy : ℕ → ℕ → Counted → Serving → Serving → Ties → Ties → Type 0
 OpensBy slot port counted.Opened old new before after = OpensIn slot port old new before after
 OpensBy slot port counted.Refused old new before after = RefusesIn slot port old new before after
 OpensBy slot port counted.Edited old new before after = ⊥
@@ -61,26 +60,30 @@ OpensBy slot port counted.Nothing old new before after = ⊥
 
 -- ---- bytes
 
--- the connection of a slot receives as many of these bytes as it has room for
-abbrev pub ReceivesIn : Option ℕ → List ℕ → TargetState → TargetState → Type 0
-ReceivesIn None bytes old new = new ≡ old
-ReceivesIn (Some k) bytes old new =
-    (result : Result ℕ NoConn) × ReceivesAt k (place old.streams k) (place old.connections k) old bytes result new
+-- a connection receives as many of these bytes as it has room for
+pub record ReceivesOf (slot k : ℕ) (bytes : List ℕ) (old new : TargetState) (before after : Ties) : Type 0 where
+  pub result : Result ℕ NoConn
+  pub receives : ReceivesAt k (place old.streams k) (place old.connections k) old bytes result new
+  pub ties : Receives slot k (room_at (place new.streams k) (place new.connections k)) before after
+
+-- the connection of a slot does
+abbrev pub ReceivesIn : ℕ → Option ℕ → List ℕ → TargetState → TargetState → Ties → Ties → Type 0
+ReceivesIn slot None bytes old new before after = (new ≡ old) × (after ≡ before)
+ReceivesIn slot (Some k) bytes old new before after = ReceivesOf slot k bytes old new before after
 
 -- ---- hosts that are gone
 
--- the connection of a slot is given up, and the mark taken away
-pub record EndsIn (slot k : ℕ) (old new : Serving) (before after : List Bool) : Type 0 where
+-- the connection of a slot is given up
+pub record EndsIn (slot k : ℕ) (old new : Serving) (before after : Ties) : Type 0 where
   pub transition : MatchOption (place old.target.connections k) (new.target ≡ old.target) (λ c. Transition (given_up k) old.target new.target)
-  pub untied : new.connections ≡ without old.connections slot
-  pub marked : SetsMark k false before after
+  pub unties : Unties slot k before after
 
-abbrev pub EndsBy : ℕ → Option ℕ → Serving → Serving → List Bool → List Bool → Type 0
-EndsBy slot None old new before after = Stays old new × (after ≡ before)
+abbrev pub EndsBy : ℕ → Option ℕ → Serving → Serving → Ties → Ties → Type 0
+EndsBy slot None old new before after = (new.target ≡ old.target) × (after ≡ before)
 EndsBy slot (Some k) old new before after = EndsIn slot k old new before after
 
 -- .. and the slot is closed
-abbrev pub EndsSlot : ℕ → Option ℕ → Serving → Serving → List Bool → List Bool → Type 0
+abbrev pub EndsSlot : ℕ → Option ℕ → Serving → Serving → Ties → Ties → Type 0
 EndsSlot slot o old new before after = EndsBy slot o old new before after × ClosedSlot slot old.ports new.ports
 
 -- ---- lines

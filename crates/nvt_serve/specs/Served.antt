@@ -5,9 +5,9 @@ use Rattle.nvt_ports.specs.Told.{PortsState}
 use Rattle.nvt_serve.specs.declared.served.Served.{Served}
 use Rattle.nvt_serve.specs.declared.ties.Ties.{Ties}
 use Rattle.nvt_serve.specs.Deed.{Deed, Runs, Serving, is_asking, is_edit, is_opening, is_refusal}
+use Rattle.nvt_serve.specs.Looks.{AreLooks}
 use Rattle.target_core.specs.Connection.{KnownConnection}
 use Rattle.target_core.specs.Target.{TargetState, is_idle}
-use Rattle.target_steps.specs.Marks.{AreMarks}
 
 abbrev pub count_of : (Deed → Bool) → List Deed → ℕ
 count_of test [] = 0
@@ -42,10 +42,15 @@ pub record AreTied (s : Serving) : Type 0 where
   pub alone : (slot other k : ℕ) → place s.connections slot ≡ Some k → place s.connections other ≡ Some k → slot ≡ other
   pub in_use : (slot k : ℕ) → place s.connections slot ≡ Some k → slice_index_or s.ports.in_use slot false ≡ true
 
--- The ties are true of a target and its ports: so are the slots', and the marks are those of the connections that are known.
+-- the connections of slots are of those that there may be
+abbrev pub IsTiedWithin : List (Option ℕ) → Type 0
+IsTiedWithin connections = (slot k : ℕ) → place connections slot ≡ Some k → k < 64
+
+-- The ties are true of a target and its ports: so are the slots', and so is what a turn does not look at.
 pub record AreTies (ports : PortsState) (target : TargetState) (ties : Ties) : Type 0 where
   pub tied : AreTied (serving ports target ties)
-  pub marks : AreMarks ties.marks target
+  pub within : IsTiedWithin ties.connections
+  pub looks : AreLooks target ties
 
 -- ---- what is left to do
 

@@ -2,13 +2,13 @@
 ghost use Rattle.std.specs.Prelude.{◌≡◌, ◌<◌, length};
 ghost use Rattle.number_table.specs.Table.{place};
 ghost use Rattle.nvt_serve.specs.Asking.{EditsBy, EndsSlot, HasRooms, OpensBy, ReceivesIn, numbers_by};
-ghost use Rattle.nvt_serve.specs.Served.{AreTies, Goes, serving};
+ghost use Rattle.nvt_serve.specs.Served.{AreTies, Goes, IsTiedWithin, serving};
 
 use crate::reply::reply_to;
 use crate::ties::Ties;
 use block_store::Disk;
 use edit_lines::make_line;
-use nvt_ports::{PortEvent, Ports, SLOTS};
+use nvt_ports::{PortEvent, Ports};
 use target_core::Target;
 
 /// What is counted of what ports hand out.
@@ -30,12 +30,13 @@ pub fn ask<P: Ports, D: Disk + Drop>(
 ) -> Counted
     requires buf { length buf.old ≡ 32768 }
     requires ties { AreTies (P.state ports.old) target.old ties.old }
+    requires rooms { HasRooms ties.old.rooms target.old ties.old }
     ensures len { length buf.new ≡ length buf.old }
     ensures ties { AreTies (P.state ports.new) target.new ties.new }
     ensures goes { Goes (numbers_by result) (serving (P.state ports.old) target.old ties.old)
         (serving (P.state ports.new) target.new ties.new) }
 {
-    match ports.next(&rooms(target, ties), buf) {
+    match ports.next(ties.rooms(), buf) {
         PortEvent::Open { slot, port } => open(ports, target, ties, slot, port),
         PortEvent::Bytes { slot, n } => {
             receive(target, ties, slot, &buf[..n]);
@@ -45,26 +46,17 @@ pub fn ask<P: Ports, D: Disk + Drop>(
             end(ports, target, ties, slot);
             Counted::Nothing
         }
-        PortEvent::Line { n } => edit(ports, target, &buf[..n]),
+        PortEvent::Line { n } => {
+            ties.edited();
+            edit(ports, target, &buf[..n])
+        }
         PortEvent::Tick { ms } => {
             target.tick(ms);
+            ties.ticked();
             Counted::Nothing
         }
         PortEvent::Nothing => Counted::Nothing,
     }
-}
-
-// How many bytes the connection of each slot may receive; none where it has none.
-fn rooms<D: Disk + Drop>(target: &Target<D>, ties: &Ties) -> [usize; SLOTS]
-    ensures { HasRooms result target.now ties.now }
-{
-    let mut rooms = [0; SLOTS];
-    for slot in 0..SLOTS {
-        if let Some(k) = ties.connection(slot) {
-            rooms[slot] = target.room(k);
-        }
-    }
-    rooms
 }
 
 // Opens a connection in a slot, or closes the slot.
@@ -77,11 +69,11 @@ fn open<P: Ports, D: Disk + Drop>(
 ) -> Counted
     requires slot { slot < 64 }
     ensures { OpensBy slot port result (serving (P.state ports.old) target.old ties.old)
-        (serving (P.state ports.new) target.new ties.new) ties.old.marks ties.new.marks }
+        (serving (P.state ports.new) target.new ties.new) ties.old ties.new }
 {
     match target.open(port) {
         Ok(k) => {
-            ties.tie(slot, k);
+            ties.tie(slot, k, target.room(k));
             Counted::Opened
         }
         Err(_) => {
@@ -92,11 +84,14 @@ fn open<P: Ports, D: Disk + Drop>(
 }
 
 // The slot's connection receives bytes, for which it has room.
-fn receive<D: Disk + Drop>(target: &mut Target<D>, ties: &Ties, slot: usize, bytes: &[u8])
-    ensures { ReceivesIn (place ties.now.connections slot) bytes.now target.old target.new }
+fn receive<D: Disk + Drop>(target: &mut Target<D>, ties: &mut Ties, slot: usize, bytes: &[u8])
+    requires slot { slot < 64 }
+    requires within { IsTiedWithin ties.old.connections }
+    ensures { ReceivesIn slot (place ties.old.connections slot) bytes.now target.old target.new ties.old ties.new }
 {
     if let Some(k) = ties.connection(slot) {
         let _ = target.receive(k, bytes);
+        ties.came(slot, k, target.room(k));
     }
 }
 
@@ -110,7 +105,7 @@ fn end<P: Ports, D: Disk + Drop>(
     requires slot { slot < 64 }
     requires ties { AreTies (P.state ports.old) target.old ties.old }
     ensures { EndsSlot slot (place ties.old.connections slot) (serving (P.state ports.old) target.old ties.old)
-        (serving (P.state ports.new) target.new ties.new) ties.old.marks ties.new.marks }
+        (serving (P.state ports.new) target.new ties.new) ties.old ties.new }
 {
     if let Some(k) = ties.connection(slot) {
         target.end(k);

@@ -5,7 +5,7 @@ ghost use Rattle.nvt_serve.specs.Served.{AreTies, Goes, no_numbers, serving};
 
 use crate::ties::Ties;
 use block_store::Disk;
-use nvt_ports::{PortFault, Ports, SLOTS};
+use nvt_ports::{PortFault, Ports};
 use target_core::Target;
 
 /// Gives what each connection has to send to its slot, once. A connection whose slot fails is given up.
@@ -15,10 +15,12 @@ pub fn give_all<P: Ports, D: Disk + Drop>(ports: &mut P, target: &mut Target<D>,
     ensures goes { Goes no_numbers (serving (P.state ports.old) target.old ties.old)
         (serving (P.state ports.new) target.new ties.new) }
 {
-    for slot in 0..SLOTS {
-        if let Some(k) = ties.connection(slot) {
+    let mut least = 0;
+    while let Some(k) = ties.ready_from(least) {
+        if let Some(slot) = ties.slot_of(k) {
             give(ports, target, ties, slot, k);
         }
+        least = k + 1;
     }
 }
 
@@ -30,6 +32,7 @@ fn give<P: Ports, D: Disk + Drop>(
     k: usize,
 )
     requires slot { slot < 64 }
+    requires k { k < 64 }
     requires tied { place ties.old.connections slot ≡ Some k }
     requires ties { AreTies (P.state ports.old) target.old ties.old }
     ensures ties { AreTies (P.state ports.new) target.new ties.new }

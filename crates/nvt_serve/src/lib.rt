@@ -4,6 +4,7 @@
 
 mod asking;
 mod closing;
+mod connection_set;
 mod giving;
 pub mod laws;
 mod reply;

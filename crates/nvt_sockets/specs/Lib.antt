@@ -1,2 +1,4 @@
 pub mod HandsOut
 pub mod Host
+pub mod Piece
+pub mod Speech

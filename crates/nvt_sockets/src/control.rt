@@ -1,8 +1,9 @@
 //! The control port: its listener, the connections that lines of edits come from, and the configuration that they are shown.
 ghost use Rattle.std.specs.Prelude.{◌<◌, ◌≤◌, ◌≡◌, IfOk, IfSome, length};
 ghost use Rattle.nvt_sockets.specs.HandsOut.{FitsLine};
+ghost use Rattle.nvt_sockets.specs.Piece.{HoldsPiece};
 
-use crate::editor::{Editor, Heard, REPLY_MAX};
+use crate::editor::{Editor, Heard, make_piece};
 use crate::network::Network;
 use bytes::BytesMut;
 use config_saved::{SavedReply, is_show};
@@ -25,6 +26,7 @@ pub struct Control<L, S> {
     // Where a piece of what is shown is written before it is kept.
     piece: BytesMut,
     ghost whole: { length editors.items ≡ 16 },
+    ghost room: { HoldsPiece piece },
 }
 
 /// The address of a control port.
@@ -46,7 +48,7 @@ impl<L: Drop, S: Drop> Control<L, S> {
             seats: Seats::new(),
             asking: None,
             standing: None,
-            piece: BytesMut::with_capacity(alloc, REPLY_MAX)?,
+            piece: make_piece(alloc)?,
         })
     }
 
@@ -67,7 +69,7 @@ impl<L: Drop, S: Drop> Control<L, S> {
     ) -> bool
         requires { 1025 ≤ length buf.old }
     {
-        let Some(stream) = network.accept(&self.socket) else {
+        let Some((stream, _)) = network.accept(&self.socket) else {
             return false;
         };
         if self.free_place().is_none() {

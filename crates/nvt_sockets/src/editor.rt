@@ -1,6 +1,7 @@
 //! A connection for lines of edits.
-ghost use Rattle.std.specs.Prelude.{◌≤◌, length};
+ghost use Rattle.std.specs.Prelude.{◌≡◌, ◌≤◌, IfOk, length};
 ghost use Rattle.nvt_sockets.specs.HandsOut.{FitsLine};
+ghost use Rattle.nvt_sockets.specs.Piece.{HoldsPiece};
 
 use crate::network::{Network, Received};
 use bytes::BytesMut;
@@ -32,6 +33,19 @@ pub struct Editor<S> {
     replies: SendBuffer,
     // What is left of the reply to `show`, while it is not all in `replies`.
     shown: Option<SavedReply>,
+    ghost room: { replies.capacity ≡ 2_048 },
+}
+
+/// A buffer for pieces of replies, of which an editor keeps each byte.
+pub fn make_piece(alloc: Global) -> Result<BytesMut, AllocError>
+    ensures { IfOk result HoldsPiece }
+{
+    let mut piece = BytesMut::with_capacity(alloc, REPLY_MAX)?;
+    // It may have more room than was asked for, which is passed over.
+    let more = piece.capacity() - REPLY_MAX;
+    piece.advance_mut(more);
+    piece.advance(more);
+    Ok(piece)
 }
 
 impl<S: Drop> Editor<S> {
@@ -71,8 +85,10 @@ impl<S: Drop> Editor<S> {
         buf: &mut [u8],
         piece: &mut BytesMut,
     ) -> Heard
-        requires { 1025 ≤ length buf.old }
-        ensures { FitsLine (length buf.new) result }
+        requires buf { 1025 ≤ length buf.old }
+        requires piece { HoldsPiece piece.old }
+        ensures line { FitsLine (length buf.new) result }
+        ensures piece { HoldsPiece piece.new }
     {
         self.send(network);
         if !self.replies.is_empty() {
@@ -141,7 +157,10 @@ impl<S: Drop> Editor<S> {
         network: &mut N,
         reply: SavedReply,
         piece: &mut BytesMut,
-    ) {
+    )
+        requires { HoldsPiece piece.old }
+        ensures { HoldsPiece piece.new }
+    {
         self.shown = Some(reply);
         self.show_more(network, piece);
     }
@@ -149,8 +168,14 @@ impl<S: Drop> Editor<S> {
     // Sends the next piece of what it is shown, where nothing else is kept, and answers whether there is one. Where no memory
     // is for it, that is tried again in the next turn: whoever keeps the text would take one that ends too early for the
     // whole.
-    fn show_more<N: Network<Stream = S>>(&mut self, network: &mut N, piece: &mut BytesMut) -> bool {
-        piece.clear();
+    fn show_more<N: Network<Stream = S>>(&mut self, network: &mut N, piece: &mut BytesMut) -> bool
+        requires { HoldsPiece piece.old }
+        ensures { HoldsPiece piece.new }
+    {
+        if !self.replies.is_empty() {
+            return false;
+        }
+        piece.truncate(0);
         if let Some(reply) = &mut self.shown {
             if reply.write(piece) == PieceEnd::Whole {
                 self.shown = None;
@@ -159,9 +184,19 @@ impl<S: Drop> Editor<S> {
         if piece.is_empty() {
             return false;
         }
-        self.replies.keep(piece.as_slice());
+        self.keep_piece(piece.as_slice());
         self.send(network);
         true
+    }
+
+    // Keeps a piece, each byte of it, where nothing else is kept.
+    fn keep_piece(&mut self, piece: &[u8])
+        requires empty { length self.old.replies.waiting ≡ 0 }
+        requires fits { length piece.now ≤ 2_048 }
+        ensures { self.new.replies.waiting ≡ piece.now }
+    {
+        self.replies.clear();
+        self.replies.keep(piece);
     }
 
     // Sends what is kept, as far as it goes.

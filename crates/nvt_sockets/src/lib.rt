@@ -9,6 +9,7 @@ mod control;
 mod editor;
 mod host;
 mod hosts;
+pub mod journal;
 mod keep_alive;
 mod listeners;
 pub mod network;
@@ -18,6 +19,7 @@ mod speech;
 mod standard_streams;
 pub mod tcp;
 
+pub use journal::Log;
 pub use network::{Channel, Network, Received};
 pub use ports::{GivenUpHosts, SocketPorts};
 pub use tcp::Tcp;

@@ -20,6 +20,14 @@ struct Listener<L> {
     socket: Option<L>,
 }
 
+/// A host that connected, and the port of the configuration that it connected to.
+#[derive(Drop)]
+pub struct Accepted<S> {
+    pub stream: S,
+    pub peer: SocketAddr,
+    pub port: u16,
+}
+
 /// The listeners of the ports of a configuration, and the ports that cannot be listened to.
 #[derive(Drop)]
 pub struct Listeners<L> {
@@ -93,17 +101,21 @@ impl<L: Drop> Listeners<L> {
         let _ = self.listeners.push(listener);
     }
 
-    /// The next host that connected to the listener of this place, with the number of its port.
+    /// The next host that connected to the listener of this place.
     pub fn accept<N: Network<Listener = L>>(
         &self,
         network: &mut N,
         place: usize,
-    ) -> Option<(N::Stream, u16)> {
+    ) -> Option<Accepted<N::Stream>> {
         let listener = self.listeners.get(place)?;
         match &listener.socket {
             Some(socket) => {
-                let stream = network.accept(socket)?;
-                Some((stream, listener.port))
+                let (stream, peer) = network.accept(socket)?;
+                Some(Accepted {
+                    stream,
+                    peer,
+                    port: listener.port,
+                })
             }
             None => None,
         }

@@ -38,8 +38,8 @@ pub trait Network {
     /// Listens at this address.
     fn listen(&mut self, address: SocketAddr) -> io::Result<Self::Listener>;
 
-    /// The next connection of a listener, if one waits.
-    fn accept(&mut self, listener: &Self::Listener) -> Option<Self::Stream>;
+    /// The next connection of a listener, if one waits, and the address of its peer.
+    fn accept(&mut self, listener: &Self::Listener) -> Option<(Self::Stream, SocketAddr)>;
 
     /// Reads what is there, as far as there is room.
     fn read(&mut self, stream: &Self::Stream, piece: &mut [u8]) -> Received

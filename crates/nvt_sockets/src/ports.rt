@@ -5,10 +5,12 @@ ghost use Rattle.socket_rules.specs.Lately.{plan};
 
 use crate::control::control_address;
 use crate::hosts::Calls;
+use crate::journal::{Journal, Log, ending_of};
 use crate::network::{Channel, Network};
 use crate::sockets::{Sockets, Tried};
 use crate::speech::Speech;
 use arrayvec::ArrayString;
+use connection_log::Ending;
 use nvt_config::Config;
 use nvt_ports::{PIECE_MAX, PortEvent, PortFault, Ports, SLOTS};
 use socket_rules::{EditPace, GivenUp, Looks, Outcome, Pause, Speaker, TurnOrder};
@@ -66,7 +68,7 @@ pub struct SocketPorts<N: Network> {
     looks: Looks,
     pace: EditPace,
     pause: Pause,
-    speech: Speech,
+    journal: Journal,
     given_up: GivenUpHosts,
     // A bit for each slot whose host is given up, and was not handed out yet.
     overdue: u64,
@@ -76,22 +78,23 @@ pub struct SocketPorts<N: Network> {
 
 impl<N: Network + Drop> SocketPorts<N> {
     /// Opens the control port, at 127.0.0.1, and then the ports of this configuration, of which those that cannot be
-    /// listened to are named on standard output. Fails where the control port cannot be listened to, where what is to be
-    /// printed cannot be, and where memory is wanted.
+    /// listened to are named on standard output. Who connects and what is edited is told on standard error, or is not. Fails
+    /// where the control port cannot be listened to, where what is to be printed cannot be, and where memory is wanted.
     pub fn open(
         mut network: N,
         alloc: Global,
         control: u16,
         config: &Config,
+        log: Log,
     ) -> io::Result<SocketPorts<N>>
         ensures { IfOk result (λ ports. ports.sockets.in_use ≡ replicate 64 false) }
     {
         let mut sockets = Sockets::open(&mut network, alloc, control)?;
         let order = TurnOrder::new(alloc)?;
-        let mut speech = Speech::new(alloc)?;
-        announce(&mut speech, control);
-        sockets.refresh(&mut network, &mut speech, config);
-        speech.go_on(&mut network)?;
+        let mut journal = Journal::new(alloc, log)?;
+        announce(journal.speech(), control);
+        sockets.refresh(&mut network, journal.speech(), config);
+        journal.go_on(&mut network)?;
         Ok(SocketPorts {
             network,
             sockets,
@@ -99,7 +102,7 @@ impl<N: Network + Drop> SocketPorts<N> {
             looks: Looks::new(),
             pace: EditPace::Free,
             pause: Pause::new(),
-            speech,
+            journal,
             given_up: GivenUpHosts {
                 without_connect: 0,
                 took_nothing: 0,
@@ -120,10 +123,11 @@ impl<N: Network + Drop> SocketPorts<N> {
     /// up. Fails where something was to be printed that could not be.
     pub fn finish(&mut self) -> io::Result<GivenUpHosts> {
         let now = self.network.micros();
+        let until = now.saturating_add(END_MICROS);
         self.sockets.close_kept(now);
-        self.finish_asides(now.saturating_add(END_MICROS));
-        self.speech.go_on(&mut self.network)?;
-        if self.speech.is_whole() {
+        self.finish_asides(until);
+        self.finish_speech(until)?;
+        if self.journal.speech().is_whole() {
             Ok(GivenUpHosts {
                 gone: self.sockets.gone,
                 ..self.given_up
@@ -147,6 +151,18 @@ impl<N: Network + Drop> SocketPorts<N> {
         }
     }
 
+    // Prints what waits until this time, or nothing does.
+    fn finish_speech(&mut self, until: u64) -> io::Result<()> {
+        for _ in 0..END_MICROS / END_PAUSE_MICROS {
+            self.journal.go_on(&mut self.network)?;
+            if self.journal.speech().is_silent() || self.network.micros() >= until {
+                return Ok(());
+            }
+            self.network.sleep(END_PAUSE_MICROS);
+        }
+        Ok(())
+    }
+
     // Which hosts are given up is looked at. Answers the time, in ms.
     fn tick(&mut self, room: &[usize; SLOTS]) -> u64
         ensures in_use { self.new.sockets.in_use ≡ self.old.sockets.in_use }
@@ -158,7 +174,7 @@ impl<N: Network + Drop> SocketPorts<N> {
                 self.give_up(slot, why);
             }
         }
-        let _ = self.speech.go_on(&mut self.network);
+        let _ = self.journal.go_on(&mut self.network);
         ms
     }
 
@@ -172,6 +188,7 @@ impl<N: Network + Drop> SocketPorts<N> {
         }
         self.overdue |= 1 << slot;
         self.given_up.add(why);
+        self.journal.ends(slot, ending_of(why));
     }
 
     // The least slot whose host is given up.
@@ -215,14 +232,14 @@ impl<N: Network + Drop> SocketPorts<N> {
         let Speaker::Editor(_) = speaker else {
             return self
                 .sockets
-                .try_speaker(&mut self.network, speaker, room, buf);
+                .try_speaker(&mut self.network, &mut self.journal, speaker, room, buf);
         };
         if !self.may_take_line() {
             return Tried::Nothing;
         }
         let tried = self
             .sockets
-            .try_speaker(&mut self.network, speaker, room, buf);
+            .try_speaker(&mut self.network, &mut self.journal, speaker, room, buf);
         match tried {
             Tried::Nothing | Tried::Heard => {}
             Tried::Shown { since } => self.pace.handed_out(since),
@@ -349,11 +366,13 @@ impl<N: Network + Drop> Ports for SocketPorts<N> {
             Ok(n) => {
                 if n > 0 {
                     self.pause = Pause::new();
+                    self.journal.given(&mut self.network, slot, &bytes[..n]);
                 }
                 Ok(n)
             }
             Err(PortFault) => {
                 self.faults = self.faults.wrapping_add(1);
+                self.journal.ends(slot, Ending::Reset);
                 Err(PortFault)
             }
         }
@@ -363,16 +382,18 @@ impl<N: Network + Drop> Ports for SocketPorts<N> {
         let now = self.network.micros();
         self.overdue &= !(1 << slot);
         self.sockets.close(slot, now);
+        self.journal.closed(&mut self.network, slot);
     }
 
     fn reply(&mut self, text: &[u8]) {
         self.sockets.reply(&mut self.network, text);
+        self.journal.replied(&mut self.network, text);
     }
 
     fn refresh(&mut self, config: &Config) {
         self.sockets
-            .refresh(&mut self.network, &mut self.speech, config);
-        let _ = self.speech.go_on(&mut self.network);
+            .refresh(&mut self.network, self.journal.speech(), config);
+        let _ = self.journal.go_on(&mut self.network);
     }
 }
 

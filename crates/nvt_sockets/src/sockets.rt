@@ -6,9 +6,11 @@ use crate::aside::Asides;
 use crate::control::Control;
 use crate::editor::Heard;
 use crate::hosts::{Calls, Hosts};
-use crate::listeners::Listeners;
+use crate::journal::Journal;
+use crate::listeners::{Accepted, Listeners};
 use crate::network::{Network, Received};
 use crate::speech::Speech;
+use connection_log::Ending;
 use nvt_config::Config;
 use nvt_ports::{PortEvent, PortFault, SLOTS};
 use socket_rules::{GivenUp, Speaker};
@@ -107,10 +109,11 @@ impl<L: Drop, S: Drop> Sockets<L, S> {
         }
     }
 
-    /// Tries one socket.
+    /// Tries one socket. It is told what comes of it.
     pub fn try_speaker<N: Network<Listener = L, Stream = S>>(
         &mut self,
         network: &mut N,
+        journal: &mut Journal,
         speaker: Speaker,
         room: &[usize; SLOTS],
         buf: &mut [u8],
@@ -119,8 +122,8 @@ impl<L: Drop, S: Drop> Sockets<L, S> {
         ensures { Tries self.old.in_use room.now (length buf.old) result self.new.in_use }
     {
         match speaker {
-            Speaker::Host(slot) => self.try_host(network, slot, room, buf),
-            Speaker::Port(place) => self.try_port(network, place),
+            Speaker::Host(slot) => self.try_host(network, journal, slot, room, buf),
+            Speaker::Port(place) => self.try_port(network, journal, place),
             Speaker::Control => {
                 if self.control.accept(network, buf) {
                     Tried::Heard
@@ -132,7 +135,10 @@ impl<L: Drop, S: Drop> Sockets<L, S> {
                 Heard::Nothing => Tried::Nothing,
                 Heard::Something => Tried::Heard,
                 Heard::Shown { since } => Tried::Shown { since },
-                Heard::Line(n) => Tried::Event(PortEvent::Line { n }),
+                Heard::Line(n) => {
+                    journal.asked(&buf[..n]);
+                    Tried::Event(PortEvent::Line { n })
+                }
             },
         }
     }
@@ -140,6 +146,7 @@ impl<L: Drop, S: Drop> Sockets<L, S> {
     fn try_host<N: Network<Listener = L, Stream = S>>(
         &mut self,
         network: &mut N,
+        journal: &mut Journal,
         slot: usize,
         room: &[usize; SLOTS],
         buf: &mut [u8],
@@ -151,10 +158,21 @@ impl<L: Drop, S: Drop> Sockets<L, S> {
         }
         match self.hosts.read(network, slot, room[slot], buf) {
             Received::Nothing => Tried::Nothing,
-            Received::Bytes(n) => Tried::Event(PortEvent::Bytes { slot, n }),
-            Received::End | Received::Reset => Tried::Event(PortEvent::End { slot }),
+            Received::Bytes(n) => {
+                journal.received(slot, &buf[..n]);
+                Tried::Event(PortEvent::Bytes { slot, n })
+            }
+            Received::End => {
+                journal.ends(slot, Ending::Closed);
+                Tried::Event(PortEvent::End { slot })
+            }
+            Received::Reset => {
+                journal.ends(slot, Ending::Reset);
+                Tried::Event(PortEvent::End { slot })
+            }
             Received::Gone => {
                 self.gone = self.gone.saturating_add(1);
+                journal.ends(slot, Ending::Gone);
                 Tried::Event(PortEvent::End { slot })
             }
         }
@@ -164,16 +182,19 @@ impl<L: Drop, S: Drop> Sockets<L, S> {
     fn try_port<N: Network<Listener = L, Stream = S>>(
         &mut self,
         network: &mut N,
+        journal: &mut Journal,
         place: usize,
     ) -> Tried
         ensures { (room : List ℕ) → (len : ℕ) → Tries self.old.in_use room len result self.new.in_use }
     {
-        let Some((stream, port)) = self.listeners.accept(network, place) else {
+        let Some(Accepted { stream, peer, port }) = self.listeners.accept(network, place) else {
             return Tried::Nothing;
         };
         let Some(slot) = free_slot(&self.in_use) else {
+            journal.found_no_slot(network, peer, port);
             return Tried::Heard;
         };
+        journal.opened(network, slot, peer, port);
         self.hosts.open(slot, stream);
         self.in_use[slot] = true;
         Tried::Event(PortEvent::Open { slot, port })

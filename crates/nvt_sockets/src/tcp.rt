@@ -39,11 +39,11 @@ impl<R: Net + Clock + Drop> Network for Tcp<R> {
     }
 
     // It sends without delay, and is asked now and then whether it is still there.
-    fn accept(&mut self, listener: &TcpListener) -> Option<TcpStream> {
-        let (stream, _) = listener.accept().ok()?;
+    fn accept(&mut self, listener: &TcpListener) -> Option<(TcpStream, SocketAddr)> {
+        let (stream, peer) = listener.accept().ok()?;
         stream.set_nodelay(true).ok()?;
         keep_alive(&stream);
-        Some(stream)
+        Some((stream, peer))
     }
 
     fn read(&mut self, mut stream: &TcpStream, piece: &mut [u8]) -> Received

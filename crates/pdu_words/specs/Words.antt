@@ -129,6 +129,10 @@ connect_result_words completion =
     then codes ", at byte " ++ decimal (completion.result % 0x10000) ++ codes " of the " ++ place_words completion.result else
     result_words completion.result
 
+-- the answer of a Connect
+abbrev pub connect_answer_words : Completion → List ℕ
+connect_answer_words completion = status_words completion.status ++ connect_result_words completion
+
 abbrev pub succeeds : Status → Bool
 succeeds status = status.sct == 0 && status.sc == 0x00
 

@@ -7,9 +7,10 @@ pub mod explanation;
 mod names;
 pub mod pages;
 pub mod subject;
-mod words;
+pub mod words;
 
 pub use command::{Command, Queue};
 pub use explanation::{Completion, Explanation, explain};
 pub use pages::Described;
 pub use subject::{Subject, Which};
+pub use words::ConnectAnswer;

@@ -2,7 +2,7 @@
 ghost use Rattle.std.specs.Prelude.{◌≡◌, ◌++◌, MatchOption, None, Some};
 ghost use Rattle.std.specs.Fmt.{WritesOnOk};
 ghost use Rattle.pdu_words.specs.Words.{answer_words, byte_words, command_words, connect_words};
-ghost use Rattle.pdu_words.specs.Words.{completion_words, connect_result_words, content_words};
+ghost use Rattle.pdu_words.specs.Words.{completion_words, connect_answer_words, connect_result_words, content_words};
 ghost use Rattle.pdu_words.specs.Words.{event_name, event_words_by, feature_words, kinds_words};
 ghost use Rattle.pdu_words.specs.Words.{data_words, fatal_error_words, flag_words, ic_req_words};
 ghost use Rattle.pdu_words.specs.Words.{ic_resp_words, identify_words_by, information_words};
@@ -208,6 +208,20 @@ fn write_connect_result<W: fmt::Write>(f: &mut Formatter<W>, completion: Complet
         return write!(f, ", at byte {low} of the {place}");
     }
     write_result(f, completion.result)
+}
+
+/// The words of a Connect's answer: its status, and the identifier of the controller or what was wrong.
+#[derive(Clone, Copy)]
+pub struct ConnectAnswer(pub Completion);
+
+impl fmt::Display for ConnectAnswer {
+    ghost output = { λ answer. Some (connect_answer_words answer.0) };
+
+    fn fmt<W: fmt::Write>(&self, f: &mut Formatter<W>) -> fmt::Result {
+        let status = NamedStatus(self.0.status);
+        write!(f, "{status}")?;
+        write_connect_result(f, self.0)
+    }
 }
 
 fn succeeds(status: Status) -> bool

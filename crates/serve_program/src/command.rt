@@ -4,7 +4,7 @@ use block_store::MemoryDisk;
 use command_parts::{ReplayFault, ServeArguments, disk_sizes, read_file_into};
 use edit_lines::configure;
 use nvt_serve::serve;
-use nvt_sockets::{SocketPorts, Tcp};
+use nvt_sockets::{Log, SocketPorts, Tcp};
 use std::io::{Error, ErrorKind};
 use std::net::Net;
 use std::rt::{Clock, Files};
@@ -20,17 +20,29 @@ pub fn run<R: Files + Net + Clock + Print + Eprint + AllocGlobal>(
 ) -> Result<(), ReplayFault> {
     let mut target = configured(rt, arguments)?;
     let ports = match Tcp::new(rt) {
-        Ok(network) => {
-            SocketPorts::open(network, rt.alloc(), arguments.control, target.config())
-        }
+        Ok(network) => SocketPorts::open(
+            network,
+            rt.alloc(),
+            arguments.control,
+            target.config(),
+            log_of(arguments),
+        ),
         Err(error) => Err(error),
     };
     match ports {
         Ok(mut ports) => {
             serve(&mut ports, &mut target, arguments.turns);
-            finish(rt, &mut ports)
+            finish(rt, &mut ports, arguments)
         }
         Err(error) => Err(fault_of(&error)),
+    }
+}
+
+fn log_of(arguments: &ServeArguments) -> Log {
+    if arguments.quiet {
+        Log::Quiet
+    } else {
+        Log::Printed
     }
 }
 
@@ -38,6 +50,7 @@ pub fn run<R: Files + Net + Clock + Print + Eprint + AllocGlobal>(
 fn finish<R: Net + Clock + Eprint>(
     rt: &R,
     ports: &mut SocketPorts<Tcp<&R>>,
+    arguments: &ServeArguments,
 ) -> Result<(), ReplayFault> {
     let given_up = match ports.finish() {
         Ok(given_up) => given_up,
@@ -48,7 +61,7 @@ fn finish<R: Net + Clock + Eprint>(
         given_up.took_nothing,
         given_up.gone,
     );
-    if silent > 0 || stuck > 0 || gone > 0 {
+    if !arguments.quiet && (silent > 0 || stuck > 0 || gone > 0) {
         let _ = eprintln!(rt;
             "given up: {silent} without a Connect, {stuck} that took nothing, {gone} that were gone"
         );

@@ -86,6 +86,7 @@ fn serve_usage(alloc: Global, run: &ArgMatches<'_>) -> Result<Usage, ReplayFault
                 control,
                 turns,
                 disks,
+                quiet: run.get_flag("quiet"),
             },
         )),
         _ => Ok(Usage::Bad),

@@ -11,6 +11,10 @@ const UNITS_MAX: i64 = 1_048_576;
 
 const CONTROL_HELP: &str = "The TCP port for lines of edits, at 127.0.0.1";
 
+const EXPLAIN_HELP: &str = "Prints behind each PDU what it is, in words, after ` # `";
+
+const QUIET_HELP: &str = "Tells nothing on standard error of who connects and what is edited";
+
 const TURNS_HELP: &str = "How many turns the target is served; an idle one takes up to 1 ms";
 
 /// The program, with its commands `replay`, `run` and `check`.
@@ -33,7 +37,7 @@ fn replay<'a>(alloc: Global) -> Result<Command<'a>, AllocError> {
     let command = with(command, stream);
     let command = with(command, disks(alloc));
     let command = with(command, units(alloc));
-    with(command, explain(alloc))
+    with(command, flag(alloc, "explain", EXPLAIN_HELP))
 }
 
 fn run<'a>(alloc: Global) -> Result<Command<'a>, AllocError> {
@@ -45,7 +49,8 @@ fn run<'a>(alloc: Global) -> Result<Command<'a>, AllocError> {
     let command = with(command, control);
     let command = with(command, turns(alloc, TURNS_HELP));
     let command = with(command, disks(alloc));
-    with(command, units(alloc))
+    let command = with(command, units(alloc));
+    with(command, flag(alloc, "quiet", QUIET_HELP))
 }
 
 fn check<'a>(alloc: Global) -> Result<Command<'a>, AllocError> {
@@ -78,9 +83,9 @@ fn units<'a>(alloc: Global) -> Arg<'a> {
     option(alloc, "units", "2048", help).value_parser(value_parser!(u64).range(1..=UNITS_MAX))
 }
 
-fn explain<'a>(alloc: Global) -> Arg<'a> {
-    Arg::new(alloc, "explain")
-        .long("explain")
+fn flag<'a>(alloc: Global, name: &'a str, help: &'a str) -> Arg<'a> {
+    Arg::new(alloc, name)
+        .long(name)
         .action(ArgAction::SetTrue)
-        .help("Prints behind each PDU what it is, in words, after ` # `")
+        .help(help)
 }

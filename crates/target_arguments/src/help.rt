@@ -81,7 +81,14 @@ The line `show` is answered by the edits, one a line, that make a configuration 
 that stands, on a new target with the same disks, and then by `ok`; or by `refused Memory`. It is
 the configuration of that moment, whatever edits come while it is sent, and it changes nothing.
 
-On standard error there is a line for each listener, as `listening on 127.0.0.1:4420, port 1`.
+On standard error there is a line for each listener, as `listening on 127.0.0.1:4420, port 1`; for
+each host that connects, for its Connect as it is answered, and for the end of its connection:
+  connection 1: 127.0.0.1:50152 connected to port 1
+  connection 1: Connect of nqn.2026-01.test:h1 to nqn.2026-01.test:a, queue 0: success, CNTLID 1
+  connection 1: closed by the host
+and for each line of edits with its reply, as `edit \"port del 2\": ok`. At most 100 of these are
+printed in a second; the others are counted, as `lines left out: 12`. Standard error has to be
+read, or these are lost; it stops nobody. With --quiet nothing is printed there but an error.
 On standard output there is `port ID: cannot listen` for a port whose address cannot be listened
 to, once; it is tried again at each edit.
 

@@ -30,6 +30,8 @@ pub struct Host<'a> {
     pub slowest: u64,
     // How far its socket took what it is owed, and how much of it is not read.
     took: usize,
+    /// How often it took all, where that begins again.
+    pub rounds: u64,
     unread: usize,
     read_at: u64,
     // The first byte that it is not owed.
@@ -56,6 +58,7 @@ impl<'a> Host<'a> {
             replies: 0,
             slowest: 0,
             took: 0,
+            rounds: 0,
             unread: 0,
             read_at: manner.opens_at,
             wrong: None,
@@ -183,6 +186,7 @@ impl<'a> Host<'a> {
         self.took = self.took.saturating_add(1);
         if self.script.repeats && self.took >= self.script.owed.len() {
             self.took = self.script.opening.owed;
+            self.rounds = self.rounds.saturating_add(1);
         }
     }
 

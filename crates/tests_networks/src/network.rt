@@ -6,7 +6,7 @@ use crate::host::Host;
 use nvt_ports::PortFault;
 use nvt_sockets::{Channel, Network, Received};
 use std::io;
-use std::net::SocketAddr;
+use std::net::{IpAddr, Ipv4Addr, SocketAddr};
 use std::rc::Rc;
 
 /// The port for lines of edits.
@@ -26,22 +26,36 @@ pub struct Stream {
     held: Rc<()>,
 }
 
-/// Hosts and editors. Each read, write, accept and print takes a microsecond, and a sleep as long as it says.
+// So many bytes for an editor take a microsecond more.
+const BYTES_PER_MICRO: u64 = 16;
+
+/// Hosts and editors. Each read, write, accept and print takes a microsecond, and a sleep as long as it says. What goes to
+/// an editor takes as much longer as it is long, as what is shown to one takes long to make.
 #[derive(Drop)]
 pub struct ScriptedNetwork<'a> {
     hosts: Vec<Host<'a>>,
     editors: Vec<Host<'a>>,
     now: u64,
+    // What was printed on standard error, as far as there is room.
+    told: Vec<u8>,
 }
 
 impl<'a> ScriptedNetwork<'a> {
     /// With these hosts, and those that send lines of edits.
-    pub fn new(hosts: Vec<Host<'a>>, editors: Vec<Host<'a>>) -> ScriptedNetwork<'a> {
+    pub fn new(hosts: Vec<Host<'a>>, editors: Vec<Host<'a>>, told: Vec<u8>) -> ScriptedNetwork<'a> {
         ScriptedNetwork {
             hosts,
             editors,
             now: 0,
+            told,
         }
+    }
+
+    /// Whether this line was printed on standard error.
+    pub fn has_told(&self, line: &[u8]) -> bool {
+        self.told
+            .split(|byte| *byte == b'\n')
+            .any(|each| each == line)
     }
 
     pub fn hosts(&self) -> &[Host<'a>] {
@@ -59,6 +73,12 @@ impl<'a> ScriptedNetwork<'a> {
 
     fn count(&mut self) -> u64 {
         self.now = self.now.saturating_add(1);
+        self.now
+    }
+
+    fn count_bytes(&mut self, bytes: &[u8]) -> u64 {
+        let more = bytes.len() as u64 / BYTES_PER_MICRO;
+        self.now = self.count().saturating_add(more);
         self.now
     }
 
@@ -89,7 +109,7 @@ impl Network for ScriptedNetwork<'_> {
         })
     }
 
-    fn accept(&mut self, listener: &Listener) -> Option<Stream> {
+    fn accept(&mut self, listener: &Listener) -> Option<(Stream, SocketAddr)> {
         let now = self.count();
         let is_editor = listener.is_control;
         let opened = if is_editor {
@@ -98,11 +118,15 @@ impl Network for ScriptedNetwork<'_> {
             open_next(&mut self.hosts, now)
         };
         let (number, held) = opened?;
-        Some(Stream {
+        let stream = Stream {
             is_editor,
             number,
             held,
-        })
+        };
+        Some((
+            stream,
+            SocketAddr::new(IpAddr::V4(Ipv4Addr::LOCALHOST), 1_024),
+        ))
     }
 
     fn read(&mut self, stream: &Stream, piece: &mut [u8]) -> Received
@@ -118,7 +142,11 @@ impl Network for ScriptedNetwork<'_> {
     fn write(&mut self, stream: &Stream, bytes: &[u8]) -> Result<usize, PortFault>
         ensures { IfOk result (λ n. n ≤ length bytes.now) }
     {
-        let now = self.count();
+        let now = if stream.is_editor {
+            self.count_bytes(bytes)
+        } else {
+            self.count()
+        };
         match self.host_of(stream) {
             Some(host) => host.take(now, bytes),
             None => Err(PortFault),
@@ -137,10 +165,14 @@ impl Network for ScriptedNetwork<'_> {
         self.now = self.now.saturating_add(micros);
     }
 
-    fn print(&mut self, _channel: Channel, bytes: &[u8]) -> io::Result<usize>
+    fn print(&mut self, channel: Channel, bytes: &[u8]) -> io::Result<usize>
         ensures { IfOk result (λ n. n ≤ length bytes.now) }
     {
         self.count();
+        if channel == Channel::Error {
+            let room = self.told.capacity() - self.told.len();
+            let _ = self.told.extend_from_slice(&bytes[..bytes.len().min(room)]);
+        }
         Ok(bytes.len())
     }
 }

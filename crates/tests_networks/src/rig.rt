@@ -4,7 +4,7 @@ use crate::owed::{EDITS, UNITS};
 use block_store::MemoryDisk;
 use edit_lines::configure;
 use nvt_serve::serve;
-use nvt_sockets::SocketPorts;
+use nvt_sockets::{Log, SocketPorts};
 use std::alloc::Global;
 use target_core::Target;
 use testkit_tables::{Outcome, check};
@@ -21,7 +21,7 @@ fn serve_over<W: Wish>(
     turns: u64,
     wish: &W,
 ) -> Outcome {
-    match SocketPorts::open(network, alloc, CONTROL, target.config()) {
+    match SocketPorts::open(network, alloc, CONTROL, target.config(), Log::Printed) {
         Ok(mut ports) => {
             serve(&mut ports, target, turns);
             let outcome = wish.holds(ports.network());
@@ -33,14 +33,25 @@ fn serve_over<W: Wish>(
 }
 
 /// Serves a target over a network for so many turns, and lends the network to a wish: all is as it has to be.
-// A target is owned here alone, since each way out of a function is proved with all that is owned there.
 pub fn holds_over<W: Wish>(
     alloc: Global,
     network: ScriptedNetwork<'_>,
     turns: u64,
     wish: &W,
 ) -> Outcome {
-    match configure(alloc, EDITS, UNITS) {
+    holds_over_edits(alloc, network, EDITS, turns, wish)
+}
+
+/// The same of a target that these edits configure.
+// A target is owned here alone, since each way out of a function is proved with all that is owned there.
+pub fn holds_over_edits<W: Wish>(
+    alloc: Global,
+    network: ScriptedNetwork<'_>,
+    edits: &[u8],
+    turns: u64,
+    wish: &W,
+) -> Outcome {
+    match configure(alloc, edits, UNITS) {
         Ok(mut target) => {
             let outcome = serve_over(alloc, network, &mut target, turns, wish);
             drop(target);

@@ -1,5 +1,5 @@
 //! What hosts send, and what they are owed.
-use crate::owed::owed_for;
+use crate::owed::{EDITS, owed_for};
 use crate::pdus::{connect, enable, keep_alive, log_page};
 use std::alloc::{AllocError, Global};
 use testkit_edits::ic_req;
@@ -136,6 +136,50 @@ pub fn lines(alloc: Global) -> Result<Script, AllocError> {
         owed: Vec::from_slice(alloc, b"ok\n")?,
         opening: Span { sent: 0, owed: 0 },
         command: Span { sent: 35, owed: 3 },
+        repeats: true,
+        free: (0, 0),
+    })
+}
+
+// The lines of 12 hosts, each name as long as may be: more than one piece has room for.
+fn host_lines(alloc: Global) -> Result<Vec<u8>, AllocError> {
+    let mut lines = Vec::new(alloc);
+    for letter in *b"abcdefghijkl" {
+        lines.extend_from_slice(b"host add nqn.")?;
+        lines.extend_from_slice(&[letter; 219])?;
+        lines.push(b'\n')?;
+    }
+    Ok(lines)
+}
+
+/// The edits of a target of which much is shown.
+pub fn much(alloc: Global) -> Result<Vec<u8>, AllocError> {
+    let mut edits = Vec::from_slice(alloc, EDITS)?;
+    edits.extend_from_slice(&host_lines(alloc)?)?;
+    Ok(edits)
+}
+
+// The first lines that are shown of it: the lines of EDITS, in their order.
+const SHOWN: &[u8] = b"subsys add nqn.2026-01.test:a SN-A open
+ns add nqn.2026-01.test:a 1 0 512 512 0b5cfe8e-55b0-4f1c-9a3e-2f1d4a6b7c80 1
+port add 1 ipv4 127.0.0.1 4420
+link add 1 nqn.2026-01.test:a
+";
+
+/// A line that asks for the configuration, again and again, and what is shown of much.
+pub fn shows(alloc: Global) -> Result<Script, AllocError> {
+    let mut owed = Vec::from_slice(alloc, SHOWN)?;
+    owed.extend_from_slice(&host_lines(alloc)?)?;
+    owed.extend_from_slice(b"ok\n")?;
+    let command = Span {
+        sent: 5,
+        owed: owed.len(),
+    };
+    Ok(Script {
+        sends: Vec::from_slice(alloc, b"show\n")?,
+        owed,
+        opening: Span { sent: 0, owed: 0 },
+        command,
         repeats: true,
         free: (0, 0),
     })

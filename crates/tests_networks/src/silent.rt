@@ -21,15 +21,15 @@ const CALM: Manner = Manner {
 /// What is to become of a host.
 #[derive(Clone, Copy)]
 enum Fate {
-    /// It is given up, so long after its socket took a byte last.
-    GivenUp,
+    /// It is given up, so long after its socket took a byte last, and this is told.
+    GivenUp(&'static [u8]),
     Kept,
 }
 
 fn check_fate(fate: Fate, host: &Host<'_>, now: u64) -> Outcome {
     pass!(host.check_taken());
     match fate {
-        Fate::GivenUp => {
+        Fate::GivenUp(_) => {
             let waited = host.tried_at.saturating_sub(host.took_at) / SECOND;
             pass!(check(host.is_closed(), "it is given up"));
             check(waited >= 30 && waited < 33, "after some 30 seconds")
@@ -54,6 +54,9 @@ impl Wish for Fates<'_> {
         pass!(check_good(good, now));
         for (row, (host, fate)) in hosts.iter().zip(self.0).enumerate() {
             pass!(check_fate(*fate, host, now).in_row(row));
+            if let Fate::GivenUp(line) = fate {
+                pass!(check(network.has_told(line), "it is told").in_row(row));
+            }
         }
         Ok(())
     }
@@ -75,7 +78,7 @@ fn hosts_of<'a>(
 // The first host is the good one.
 fn check_fates(alloc: Global, scripts: &[Script], manners: &[Manner], fates: &[Fate]) -> Outcome {
     let hosts = hosts_of(alloc, scripts, manners)?;
-    let network = ScriptedNetwork::new(hosts, Vec::new(alloc));
+    let network = ScriptedNetwork::new(hosts, Vec::new(alloc), Vec::with_capacity(alloc, 16_384)?);
     holds_over(alloc, network, TURNS, &Fates(fates))
 }
 
@@ -97,7 +100,12 @@ fn a_host_that_takes_nothing_is_given_up(rt: HostRuntime) -> Outcome {
         pages(rt.alloc(), 63, 512)?,
     ];
     let manners = [CALM, deaf(0), deaf(400_000), deaf(300)];
-    check_fates(rt.alloc(), &scripts, &manners, &[Fate::GivenUp; 3])
+    let fates = [
+        Fate::GivenUp(b"connection 2: given up: the host took nothing"),
+        Fate::GivenUp(b"connection 3: given up: the host took nothing"),
+        Fate::GivenUp(b"connection 4: given up: the host took nothing"),
+    ];
+    check_fates(rt.alloc(), &scripts, &manners, &fates)
 }
 
 #[test]
@@ -120,7 +128,11 @@ fn a_host_that_does_not_connect_is_given_up(rt: HostRuntime) -> Outcome {
         unconnected(rt.alloc(), 63, false)?,
     ];
     let manners = [CALM, HASTY, HASTY];
-    check_fates(rt.alloc(), &scripts, &manners, &[Fate::GivenUp; 2])
+    let fates = [
+        Fate::GivenUp(b"connection 2: given up: no Connect succeeded in time"),
+        Fate::GivenUp(b"connection 3: given up: no Connect succeeded in time"),
+    ];
+    check_fates(rt.alloc(), &scripts, &manners, &fates)
 }
 
 #[test]

@@ -257,7 +257,7 @@ fn run(alloc: Global, number: u64, scripts: &Scripts, extent: Extent) -> Outcome
     let lent = (&scripts.good, scripts.slow.as_slice());
     let hosts = draw_hosts(alloc, &mut random, lent, extent)?;
     let editors = draw_editors(alloc, &mut random, &scripts.lines)?;
-    let network = ScriptedNetwork::new(hosts, editors);
+    let network = ScriptedNetwork::new(hosts, editors, Vec::with_capacity(alloc, 16_384)?);
     holds_over(alloc, network, extent.turns, &AllIsGiven)
 }
 

@@ -33,7 +33,7 @@ fn hosts_of<'a>(
 
 fn run(alloc: Global, good: &Script, slow: &Script, manner: Manner) -> Outcome {
     let hosts = hosts_of(alloc, good, slow, manner)?;
-    let network = ScriptedNetwork::new(hosts, Vec::new(alloc));
+    let network = ScriptedNetwork::new(hosts, Vec::new(alloc), Vec::with_capacity(alloc, 16_384)?);
     holds_over(alloc, network, TURNS, &AllIsGiven)
 }
 

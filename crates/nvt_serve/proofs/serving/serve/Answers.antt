@@ -5,7 +5,7 @@ use Rattle.number_table.proofs.Tables.{place-replicate}
 use Rattle.nvt_serve.specs.Deed.{Serving}
 use Rattle.nvt_serve.specs.Served.{serving}
 use Rattle.nvt_serve.proofs.Runs.{goes_counted}
-use Rattle.nvt_serve.proofs.Tying.{none_tied}
+use Rattle.nvt_serve.proofs.Tying.{none_tied, none_within}
 use Rattle.nvt_serve.proofs.serving.serve.Goals as goal
 
 pub loop-init : goal.loop-init
@@ -15,7 +15,9 @@ loop-init g c =
       ties = record {
         tied = none_tied (serving ports c.args.target.now c.of-ties.result)
             (λ slot. ap (λ (l : List (Option ℕ)). place l slot) c.of-ties.ensures.connections ∙ place-replicate 64 slot);
-        marks = c.of-ties.ensures.marks;
+        within = none_within c.of-ties.result.connections
+            (λ slot. ap (λ (l : List (Option ℕ)). place l slot) c.of-ties.ensures.connections ∙ place-replicate 64 slot);
+        looks = c.of-ties.ensures.looks;
       };
       goes = record {
         deeds = [];

@@ -1,4 +1,5 @@
-use Rattle.std.proofs.Common.{◌≡◌, ℕ, ◌<◌, length}
+use Rattle.std.proofs.Common.{◌≡◌, ℕ, ◌<◌, ◌-◌}
+use Rattle.nvt_serve.specs.Looks.{AreLooks}
 use Rattle.nvt_serve.specs.Served.{IsQuietAt}
 use Rattle.nvt_serve.specs.Stepping.{GoesBySteps}
 use Rattle.target_steps.specs.Marks.{SameKnown}
@@ -8,6 +9,10 @@ abbrev pub invariant-loop-k : goal.invariant-loop-k
 invariant-loop-k g l = record {
   goes : GoesBySteps l.fn.target l.target;
   known : SameKnown l.fn.target l.target;
-  most : 0 < l.k → length l.ties.marks ≡ 64;
-  quiet : l.memory ≡ 0 → (j : ℕ) → j < l.k → IsQuietAt l.target j;
+  connections : l.ties.connections ≡ l.fn.ties.connections;
+  looks : AreLooks l.target l.ties;
+  quiet : l.memory ≡ 0 → (j : ℕ) → j < l.least → IsQuietAt l.target j;
 }
+
+abbrev pub decreases-loop-k : goal.decreases-loop-k
+decreases-loop-k g l = 64 - l.least

@@ -1,3 +1,4 @@
+use Rattle.nvt_serve.proofs.Lasting.{lasts_on, lasts_stepped}
 use Rattle.nvt_serve.proofs.Quiet.{out_idle, quiet_beside}
 use Rattle.nvt_serve.proofs.Runs.{steps_go, steps_go_on}
 use Rattle.target_steps.proofs.Knowing.{known_on, stepped_known}
@@ -18,6 +19,8 @@ loop-target-preserved-in-Ok-One g c =
       goes = steps_go_on first old new c.loop-target.invariant.goes (steps_go c.args.k old new step);
       known = known_on first old new c.loop-target.invariant.known (stepped_known old new c.args.k _ _ step.transition);
       others = λ j differs quiet. quiet_beside old new c.args.k j step differs (c.loop-target.invariant.others j differs quiet);
+      lasts = λ j differs.
+          lasts_on first old new j (c.loop-target.invariant.lasts j differs) (lasts_stepped old new c.args.k _ _ step.transition j differs);
     }
 
 pub loop-target-smaller : goal.loop-target-smaller
@@ -34,9 +37,11 @@ loop-target-preserved g c =
       goes = steps_go_on first old new c.loop-target.invariant.goes (steps_go c.args.k old new step);
       known = known_on first old new c.loop-target.invariant.known (stepped_known old new c.args.k _ _ step.transition);
       others = λ j differs quiet. quiet_beside old new c.args.k j step differs (c.loop-target.invariant.others j differs quiet);
+      lasts = λ j differs.
+          lasts_on first old new j (c.loop-target.invariant.lasts j differs) (lasts_stepped old new c.args.k _ _ step.transition j differs);
     }
 
 pub returns-in-Ok-Idle : goal.returns-in-Ok-Idle
 returns-in-Ok-Idle g c =
     out_idle c.args.k c.args.target.now c.loop-target.target c.step.new.self (rw c.in-Ok-Idle.field-0-is at c.in-Ok-Idle.ensures.steps)
-    c.loop-target.invariant.goes c.loop-target.invariant.known c.loop-target.invariant.others
+    c.loop-target.invariant.goes c.loop-target.invariant.known c.loop-target.invariant.others c.loop-target.invariant.lasts

@@ -1,5 +1,6 @@
 use Rattle.std.proofs.Common.{ℕ}
 use Rattle.std.specs.Prelude.{◌≢◌}
+use Rattle.nvt_serve.specs.Looks.{LastsAt}
 use Rattle.nvt_serve.specs.Served.{IsQuietAt}
 use Rattle.nvt_serve.specs.Stepping.{GoesBySteps}
 use Rattle.target_steps.specs.Marks.{SameKnown}
@@ -11,6 +12,7 @@ invariant-loop-target g l = record {
   goes : GoesBySteps l.fn.target l.target;
   known : SameKnown l.fn.target l.target;
   others : (j : ℕ) → j ≢ l.k → IsQuietAt l.fn.target j → IsQuietAt l.target j;
+  lasts : (j : ℕ) → j ≢ l.k → LastsAt j l.fn.target l.target;
 }
 
 abbrev pub decreases-loop-target : goal.decreases-loop-target

@@ -1,0 +1,5 @@
+pub mod Conversations
+pub mod Paces
+pub mod Readings
+pub mod Turns
+pub mod Watches
