@@ -2,8 +2,8 @@
 use Rattle.std.proofs.Common.{◌≡◌, ◌==◌, ◌*◌, ◌||◌, ℕ, Bool, true, false, not, List, Option, Some, None, Result, Ok, Err, IfOk, IfSome, is_some, refl, sym, ap, ◌∙◌}
 use Rattle.std.proofs.lemmas.Bool.{eqb-true}
 use Rattle.std.specs.Prelude.{if◌then◌else◌, nat_lt, length}
-use Rattle.config_rules.specs.Configuration.{Configuration}
-use Rattle.config_rules.specs.Seen.{seen_by}
+use Rattle.nvt_config.specs.Configuration.{Configuration}
+use Rattle.nvt_config.specs.SeenBy.{seen_by}
 use Rattle.event_queue.specs.declared.completion.Completion.{Completion}
 use Rattle.event_queue.specs.declared.events.LimitExceeded.{LimitExceeded}
 use Rattle.nvt_fields.specs.Window.{window}

@@ -2,7 +2,7 @@
 use Rattle.std.proofs.Common.{◌≡◌, ◌≤◌, ◌==◌, ◌*◌, ◌+◌, ◌%◌, ◌||◌, ℕ, Bool, true, false, not, List, Option, Some, None, Result, Ok, Err, IfOk, IfSome, length, nat_lt, refl, arith}
 use Rattle.std.specs.Prelude.{if◌then◌else◌}
 use Rattle.std.proofs.lemmas.Bool.Decides.{nat_tests}
-use Rattle.config_rules.specs.Configuration.{Configuration}
+use Rattle.nvt_config.specs.Configuration.{Configuration}
 use Rattle.event_queue.specs.declared.completion.Completion.{Completion}
 use Rattle.event_queue.specs.declared.events.LimitExceeded.{LimitExceeded}
 use Rattle.nvt_fields.specs.declared.status.Status.{Status}

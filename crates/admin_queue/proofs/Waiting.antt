@@ -1,15 +1,15 @@
 -- Which event requests wait after a command.
 use Rattle.std.proofs.Common.{◌≡◌, ◌==◌, ℕ, Bool, true, false, not, ◌+◌, List, [], ◌∷◌, ◌++◌, Option, Some, None, Result, Ok, Err, IfOk, refl}
 use Rattle.std.specs.Prelude.{if◌then◌else◌}
-use Rattle.config_rules.specs.Configuration.{Configuration}
+use Rattle.nvt_config.specs.Configuration.{Configuration}
 use Rattle.event_queue.specs.declared.completion.Completion.{Completion}
 use Rattle.event_queue.specs.declared.events.LimitExceeded.{LimitExceeded}
 use Rattle.event_queue.specs.declared.kind.EventKind.{EventKind}
 use Rattle.event_queue.specs.declared.kind.EventKind.TheVariants.{Namespace, Ana, Discovery}
 use Rattle.event_queue.specs.Events.{EventState, after_read, first_pending, is_full, request_answer, requested}
-use Rattle.notices.specs.declared.update.NoticeUpdate.TheVariants as update
-use Rattle.notices.specs.Notices.{NoticeState}
-use Rattle.notices.specs.Update.{updated}
+use Rattle.admin_queue.specs.declared.update.NoticeUpdate.TheVariants as update
+use Rattle.admin_queue.specs.Notices.{NoticeState}
+use Rattle.admin_queue.specs.Update.{updated}
 use Rattle.nvt_fields.specs.declared.status.Status.{Status}
 use Rattle.nvt_fields.specs.Status.{data_sgl_length_invalid, invalid_field, sgl_type_invalid}
 use Rattle.pdu_codec.specs.declared.command.GetLogPage.{GetLogPage}

@@ -1,6 +1,6 @@
 -- The admin commands (Base 2.0, section 5), by their opcode.
 use Rattle.std.specs.Prelude.{ℕ, ◌==◌, List, Err, if◌then◌else◌}
-use Rattle.config_rules.specs.Configuration.{Configuration}
+use Rattle.nvt_config.specs.Configuration.{Configuration}
 use Rattle.nvt_fields.specs.Status.{invalid_opcode}
 use Rattle.pdu_codec.specs.Sqe.{opcode_of}
 use Rattle.admin_queue.specs.declared.outcome.Effect.TheVariants as effect

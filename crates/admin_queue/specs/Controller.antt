@@ -1,6 +1,6 @@
 -- The controller that a command was submitted to.
 use Rattle.std.specs.Prelude.{ℕ, List, Option}
-use Rattle.notices.specs.Notices.{NoticeState}
+use Rattle.admin_queue.specs.Notices.{NoticeState}
 use Rattle.admin_queue.specs.declared.controller.AdminController.{AdminController as ControllerLent}
 
 -- its identifier, the names of its host and of its subsystem, which a discovery controller has not, its port, its keep

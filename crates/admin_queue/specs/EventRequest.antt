@@ -3,7 +3,7 @@ use Rattle.std.specs.Prelude.{ℕ, List, Option, Some, None, Result, Ok, Err}
 use Rattle.event_queue.specs.declared.completion.Completion.{Completion}
 use Rattle.event_queue.specs.declared.events.LimitExceeded.{LimitExceeded}
 use Rattle.event_queue.specs.Events.{request_answer}
-use Rattle.notices.specs.declared.update.NoticeUpdate.TheVariants as update
+use Rattle.admin_queue.specs.declared.update.NoticeUpdate.TheVariants as update
 use Rattle.nvt_fields.specs.Status.{asynchronous_event_request_limit_exceeded}
 use Rattle.pdu_codec.specs.Sqe.{cid_of}
 use Rattle.admin_queue.specs.declared.outcome.Accepted.TheVariants.{Waits}

@@ -4,7 +4,7 @@ use Rattle.nvt_fields.specs.Status.{feature_not_saveable, invalid_field}
 use Rattle.pdu_codec.specs.declared.command.Feature.{Feature}
 use Rattle.pdu_codec.specs.Sqe.{feature_of}
 use Rattle.event_queue.specs.Events.{mask_in}
-use Rattle.notices.specs.declared.update.NoticeUpdate.TheVariants as update
+use Rattle.admin_queue.specs.declared.update.NoticeUpdate.TheVariants as update
 use Rattle.admin_queue.specs.declared.outcome.Effect.{Effect}
 use Rattle.admin_queue.specs.declared.outcome.Effect.TheVariants as effect
 use Rattle.admin_queue.specs.Controller.{AdminController}

@@ -1,8 +1,8 @@
 -- Identify (Base 2.0, section 5.17).
 use Rattle.std.specs.Prelude.{ℕ, ◌==◌, not, nat_lt, Bool, List, Option, Some, None, is_some, find, Result, Ok, Err, if◌then◌else◌}
 use Rattle.config_lists.specs.Namespace.{is_named, is_nsid}
-use Rattle.config_rules.specs.Configuration.{Configuration}
-use Rattle.config_rules.specs.Seen.{seen_by}
+use Rattle.nvt_config.specs.Configuration.{Configuration}
+use Rattle.nvt_config.specs.SeenBy.{seen_by}
 use Rattle.nvt_fields.specs.declared.status.Status.{Status}
 use Rattle.nvt_fields.specs.Status.{invalid_field, invalid_namespace_or_format}
 use Rattle.pdu_codec.specs.declared.command.Identify.{Identify}

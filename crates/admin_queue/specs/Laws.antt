@@ -1,11 +1,11 @@
 -- Laws of the admin commands, in the words of the subject.
 use Rattle.std.specs.Prelude.{◌≡◌, ◌≤◌, ℕ, List, [], ◌∷◌, ◌++◌, Some, is_some, IfOk, IfSome, slice_get}
-use Rattle.config_rules.specs.Configuration.{Configuration}
+use Rattle.nvt_config.specs.Configuration.{Configuration}
 use Rattle.data_transfer.specs.declared.piece.Piece.{Piece}
 use Rattle.data_transfer.specs.Pieces.{pieces}
-use Rattle.notices.specs.declared.update.NoticeUpdate.TheVariants as update
-use Rattle.notices.specs.Notices.{NoticeState}
-use Rattle.notices.specs.Update.{updated}
+use Rattle.admin_queue.specs.declared.update.NoticeUpdate.TheVariants as update
+use Rattle.admin_queue.specs.Notices.{NoticeState}
+use Rattle.admin_queue.specs.Update.{updated}
 use Rattle.pdu_codec.specs.Sqe.{cid_of, sgl1_of}
 use Rattle.admin_queue.specs.declared.log.LogPage.{LogPage}
 use Rattle.admin_queue.specs.declared.outcome.Accepted.{Accepted}

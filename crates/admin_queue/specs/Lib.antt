@@ -6,6 +6,12 @@ pub mod Identify
 pub mod Laws
 pub mod Log
 pub mod LogPage
+pub mod NoticeLaws
+pub mod Notices
 pub mod Outcome
 pub mod Pages
 pub mod Payload
+pub mod Planned
+pub mod Told
+pub mod Update
+pub mod Viewer

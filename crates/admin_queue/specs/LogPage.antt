@@ -1,7 +1,7 @@
 -- Get Log Page (Base 2.0, section 5.16).
 use Rattle.std.specs.Prelude.{ℕ, ◌+◌, ◌*◌, ◌%◌, not, ◌==◌, ◌||◌, nat_lt, List, length, Option, Some, None, Err, if◌then◌else◌}
-use Rattle.notices.specs.declared.update.NoticeUpdate.{NoticeUpdate}
-use Rattle.notices.specs.declared.update.NoticeUpdate.TheVariants as update
+use Rattle.admin_queue.specs.declared.update.NoticeUpdate.{NoticeUpdate}
+use Rattle.admin_queue.specs.declared.update.NoticeUpdate.TheVariants as update
 use Rattle.nvt_fields.specs.Status.{invalid_field, invalid_log_page}
 use Rattle.pdu_codec.specs.declared.command.GetLogPage.{GetLogPage}
 use Rattle.pdu_codec.specs.Sqe.{get_log_page_of}

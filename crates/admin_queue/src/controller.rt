@@ -1,7 +1,7 @@
 //! The controller that a command was submitted to.
 ghost use Rattle.std.specs.Prelude.{◌≡◌};
 
-use notices::Notices;
+use crate::Notices;
 use nvt_fields::Nqn;
 
 /// What commands ask of their controller.

@@ -3,10 +3,10 @@ ghost use Rattle.std.specs.Prelude.{◌≡◌};
 ghost use Rattle.admin_queue.specs.Controller.{controller_in};
 ghost use Rattle.admin_queue.specs.EventRequest.{event_request};
 
+use crate::NoticeUpdate;
 use crate::controller::AdminController;
 use crate::outcome::{Accepted, Effect, Outcome, done};
 use event_queue::LimitExceeded;
-use notices::NoticeUpdate;
 use nvt_fields::Status;
 use pdu_codec::Sqe;
 

@@ -3,9 +3,9 @@ ghost use Rattle.std.specs.Prelude.{◌≡◌};
 ghost use Rattle.admin_queue.specs.Controller.{controller_in};
 ghost use Rattle.admin_queue.specs.Features.{are_queues, configured, get_features, get_queues, set_features, set_queues};
 
+use crate::NoticeUpdate;
 use crate::controller::AdminController;
 use crate::outcome::{Effect, Outcome, done};
-use notices::NoticeUpdate;
 use nvt_fields::Status;
 use pdu_codec::{Feature, Sqe};
 

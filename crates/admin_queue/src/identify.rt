@@ -1,6 +1,6 @@
 //! Identify (Base 2.0, section 5.17).
 ghost use Rattle.std.specs.Prelude.{◌≡◌};
-ghost use Rattle.config_rules.specs.Seen.{seen_by};
+ghost use Rattle.nvt_config.specs.SeenBy.{seen_by};
 ghost use Rattle.admin_queue.specs.Controller.{controller_in};
 ghost use Rattle.admin_queue.specs.Identify.{identify, structure_asked, structure_of};
 

@@ -4,12 +4,12 @@ ghost use Rattle.admin_queue.specs.Controller.{controller_in};
 ghost use Rattle.admin_queue.specs.LogPage.{get_log_page, read_page, read_update};
 ghost use Rattle.admin_queue.specs.Pages.{log_page_bytes, pages_in};
 
+use crate::NoticeUpdate;
 use crate::controller::AdminController;
 use crate::log::LogPage;
 use crate::outcome::{Effect, Outcome, returned};
 use crate::pages::Pages;
 use crate::payload::{LogPagePart, Payload};
-use notices::NoticeUpdate;
 use nvt_fields::Status;
 use pdu_codec::{GetLogPage, Sqe};
 

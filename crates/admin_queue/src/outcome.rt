@@ -3,8 +3,8 @@ ghost use Rattle.std.specs.Prelude.{◌≡◌};
 ghost use Rattle.admin_queue.specs.Outcome.{done, returned};
 ghost use Rattle.admin_queue.specs.Payload.{payload_len};
 
+use crate::NoticeUpdate;
 use crate::payload::Payload;
-use notices::NoticeUpdate;
 use nvt_fields::Status;
 use pdu_codec::{SglType, Sqe};
 

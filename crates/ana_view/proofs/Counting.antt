@@ -5,9 +5,9 @@ use Rattle.std.proofs.lemmas.Bool.{cases_Bool}
 use Rattle.std.proofs.lemmas.Bool.Decides.{nat_tests}
 use Rattle.std.proofs.lemmas.List.{ext_get_or, get_or-set_other, get_or-set_same}
 use Rattle.std.specs.List.{filter_map, list_any}
-use Rattle.config_words.specs.Numbered.{numbers_from}
+use Rattle.config_lists.specs.Numbered.{numbers_from}
 use Rattle.ana_view.specs.Changes.{changes_since, counts_of, edited, group_changes_since, one_where}
-use Rattle.config_rules.specs.Configuration.{Configuration}
+use Rattle.nvt_config.specs.Configuration.{Configuration}
 use Rattle.ana_view.specs.Counts.{Counts, count_after, count_in, counts_after, counts_with, for_each_group}
 use Rattle.ana_view.specs.GroupChanges.{AreChanges, has_changed}
 use Rattle.ana_view.specs.Group.{Descriptor, any_group, changes_ana, changes_group, listed_by}

@@ -8,8 +8,8 @@ use Rattle.std.specs.List.{cons_option, filter_map}
 use Rattle.config_lists.specs.declared.group_state.AnaState.{AnaState}
 use Rattle.config_lists.specs.declared.group_state.AnaState.TheVariants.{Optimized}
 use Rattle.config_lists.specs.GroupState.{state_for}
-use Rattle.config_rules.specs.Configuration.{Configuration}
-use Rattle.config_words.specs.Numbered.{numbers_from}
+use Rattle.nvt_config.specs.Configuration.{Configuration}
+use Rattle.config_lists.specs.Numbered.{numbers_from}
 use Rattle.ana_view.specs.Group.{Descriptor, descriptor, descriptor_with, listed, listed_by, members}
 use Rattle.ana_view.specs.GroupChanges.{group_in}
 

@@ -14,12 +14,12 @@ use Rattle.config_lists.specs.declared.namespace.Namespace.{Namespace}
 use Rattle.config_lists.specs.GroupState.{state_for}
 use Rattle.config_lists.specs.Namespace.{is_named, nsid_max}
 use Rattle.config_lists.proofs.Names.{bytes_eq-same, same_name}
-use Rattle.config_rules.specs.Configuration.{Configuration}
-use Rattle.config_rules.specs.Seen.{seen_by}
-use Rattle.config_rules.specs.Valid.{IsNamespace, IsValid}
-use Rattle.config_rules.proofs.Seeing.{sees_what_is_shown}
-use Rattle.config_words.specs.Numbered.{nsids_where, numbers_from}
-use Rattle.config_words.proofs.Numbers.{kept_where, numbers_between}
+use Rattle.nvt_config.specs.Configuration.{Configuration}
+use Rattle.nvt_config.specs.SeenBy.{seen_by}
+use Rattle.nvt_config.specs.Valid.{IsNamespace, IsValid}
+use Rattle.nvt_config.proofs.Seeing.{sees_what_is_shown}
+use Rattle.config_lists.specs.Numbered.{nsids_where, numbers_from}
+use Rattle.config_lists.proofs.Numbers.{kept_where, numbers_between}
 use Rattle.ana_view.specs.Group.{Descriptor, descriptor, descriptor_with, is_in_group, listed, listed_by, members}
 use Rattle.ana_view.specs.Laws.{GroupsAreListed, IsInGroup as IsSeenInGroup, IsShownAs as IsShownAsSeen}
 

@@ -10,10 +10,10 @@ use Rattle.config_lists.specs.declared.group_state.AnaState.TheVariants.{Optimiz
 use Rattle.config_lists.specs.GroupState.{state_for}
 use Rattle.config_lists.specs.declared.namespace.Namespace.{Namespace}
 use Rattle.config_lists.specs.Namespace.{is_named, nsid_max}
-use Rattle.config_rules.specs.Configuration.{Configuration}
-use Rattle.config_tables.specs.Nsids.{is_taken, nsids_in}
-use Rattle.config_words.specs.Numbered.{nsids_where, numbers_from}
-use Rattle.config_words.proofs.Sets.{nsids_alike, nsids_are_few}
+use Rattle.nvt_config.specs.Configuration.{Configuration}
+use Rattle.config_lists.specs.Nsids.{is_taken, nsids_in}
+use Rattle.config_lists.specs.Numbered.{nsids_where, numbers_from}
+use Rattle.config_lists.proofs.Sets.{nsids_alike, nsids_are_few}
 use Rattle.ana_view.specs.Group.{Descriptor, are_same, are_same_numbers, descriptor, descriptor_with, is_in_group, listed_by, members, state_code}
 use Rattle.ana_view.specs.declared.groups.Groups.{Groups}
 use Rattle.ana_view.specs.Tables.{AreNamespacesOf, descriptor_of, is_member, listing_of, nsids_of, state_of, with_member}

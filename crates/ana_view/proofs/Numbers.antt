@@ -1,7 +1,7 @@
 -- Numbers in a row up to one, as a walk comes to the next.
 use Rattle.std.proofs.Common.{◌≡◌, ℕ, suc, ◌+◌, ◌-◌, ◌≤◌, [], ◌∷◌, ◌++◌, ap, ◌∙◌, arith}
-use Rattle.config_words.specs.Numbered.{numbers_from}
-use Rattle.config_words.proofs.Numbers.{numbers_next}
+use Rattle.config_lists.specs.Numbered.{numbers_from}
+use Rattle.config_lists.proofs.Numbers.{numbers_next}
 
 -- the numbers from 1 up to one that is passed
 pub up_to : (k : ℕ) → 1 ≤ k → numbers_from 1 (k + 1 - 1) ≡ numbers_from 1 (k - 1) ++ k ∷ []

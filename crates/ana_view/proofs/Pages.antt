@@ -7,7 +7,7 @@ use Rattle.std.proofs.lemmas.List.Elements.{filter_map-append}
 use Rattle.std.specs.Int.{w16, w32, w64, to_le_bytes}
 use Rattle.std.specs.List.{cons_option, filter_map, flat_map}
 use Rattle.std.specs.Prelude.{if◌then◌else◌}
-use Rattle.config_words.specs.Numbered.{numbers_from}
+use Rattle.config_lists.specs.Numbered.{numbers_from}
 use Rattle.nvt_fields.specs.Window.{window}
 use Rattle.nvt_fields.proofs.Windows.{length-window, window-zeros}
 use Rattle.ana_view.specs.Counts.{Counts, count_in}

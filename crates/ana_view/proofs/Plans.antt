@@ -6,17 +6,17 @@ use Rattle.std.proofs.lemmas.Result.{IfOk-at_ok}
 use Rattle.config_lists.specs.declared.show.Show.{Show}
 use Rattle.config_lists.specs.Show.{is_shown_of}
 use Rattle.config_lists.proofs.Names.{same_name}
-use Rattle.config_rules.specs.Accept.{accept}
-use Rattle.config_rules.specs.Configuration.{Configuration}
-use Rattle.config_rules.specs.Seen.{seen_by, seen_by_strangers}
-use Rattle.config_edits.specs.declared.edit.Edit.{Edit}
-use Rattle.config_edits.specs.declared.fault.EditFault.{EditFault}
-use Rattle.edit_reach.specs.Reach.{StaysAsItWas, host_reached, is_host_reached, is_reached, reaches, subsystem_reached}
-use Rattle.edit_reach.proofs.Others.{shown_stays, stays, strangers_stay}
-use Rattle.edit_reach.proofs.Viewers.{either_way}
+use Rattle.nvt_config.specs.Accept.{accept}
+use Rattle.nvt_config.specs.Configuration.{Configuration}
+use Rattle.nvt_config.specs.SeenBy.{seen_by, seen_by_strangers}
+use Rattle.config_lists.specs.declared.edit.Edit.{Edit}
+use Rattle.config_lists.specs.declared.fault.EditFault.{EditFault}
+use Rattle.nvt_config.specs.Reach.{StaysAsItWas, host_reached, is_host_reached, is_reached, reaches, subsystem_reached}
+use Rattle.nvt_config.proofs.Others.{shown_stays, stays, strangers_stay}
+use Rattle.nvt_config.proofs.Viewers.{either_way}
 use Rattle.nvt_config.specs.Seen.{ChangesShowsAlone}
-use Rattle.name_table.specs.Table.{value_of}
-use Rattle.name_table.specs.Variants.{variant_of}
+use Rattle.tables.specs.NameTable.{value_of}
+use Rattle.tables.specs.Variants.{variant_of}
 use Rattle.ana_view.specs.Group.{are_same, changes_group, descriptor, listed}
 use Rattle.ana_view.specs.GroupChanges.{differs_in, has_changed}
 use Rattle.ana_view.specs.Reached.{AreGroupsFor, IsOfEveryone, IsOfHost}

@@ -8,7 +8,7 @@ use Rattle.std.specs.Map.{lookup}
 use Rattle.config_lists.specs.declared.group_state.AnaState.TheVariants.{Optimized}
 use Rattle.config_lists.specs.declared.group_state.GroupState.{GroupState}
 use Rattle.config_lists.specs.GroupState.{is_state_on, state_for}
-use Rattle.config_rules.specs.Configuration.{Configuration}
+use Rattle.nvt_config.specs.Configuration.{Configuration}
 use Rattle.indexmap.specs.IndexMap.{insert_entry}
 use Rattle.ana_view.specs.Bodies.{AreListed, HasMore, HasPorts}
 use Rattle.ana_view.specs.Group.{Descriptor, descriptor, descriptor_with, listed, members}

@@ -9,15 +9,15 @@ use Rattle.config_lists.specs.GroupState.{state_for}
 use Rattle.config_lists.specs.Namespace.{is_named}
 use Rattle.config_lists.specs.Show.{is_shown_of}
 use Rattle.config_lists.proofs.Names.{bytes_eq-same, same_name}
-use Rattle.config_rules.specs.Configuration.{Configuration, has_subsystem}
-use Rattle.config_rules.specs.Seen.{seen_by, seen_by_strangers}
-use Rattle.config_rules.specs.Valid.{IsValid}
-use Rattle.config_rules.proofs.Seeing.{strangers_valid}
-use Rattle.config_words.proofs.Sets.{no_nsids}
-use Rattle.edit_reach.proofs.Found.{none_found, unshown_absent}
-use Rattle.edit_reach.proofs.Others.{unshown_sees}
-use Rattle.name_table.specs.Table.{IsPut, IsRemoved, value_of}
-use Rattle.name_table.specs.Variants.{VariantsState, common_of, own_of, variant_of}
+use Rattle.nvt_config.specs.Configuration.{Configuration, has_subsystem}
+use Rattle.nvt_config.specs.SeenBy.{seen_by, seen_by_strangers}
+use Rattle.nvt_config.specs.Valid.{IsValid}
+use Rattle.nvt_config.proofs.Seeing.{strangers_valid}
+use Rattle.config_lists.proofs.Sets.{no_nsids}
+use Rattle.nvt_config.proofs.Found.{none_found, unshown_absent}
+use Rattle.nvt_config.proofs.Others.{unshown_sees}
+use Rattle.tables.specs.NameTable.{IsPut, IsRemoved, value_of}
+use Rattle.tables.specs.Variants.{VariantsState, common_of, own_of, variant_of}
 use Rattle.ana_view.specs.Bodies.{AddsVariants, AreSet, no_variants}
 use Rattle.ana_view.specs.Group.{Descriptor, descriptor, descriptor_with, is_in_group, listed, listed_by, members}
 use Rattle.ana_view.specs.Reached.{AreGroupsFor, AreVariantsOf}

@@ -2,10 +2,10 @@
 use Rattle.std.proofs.Common.{◌≡◌, ℕ, List, find, ap, sym, ◌∙◌}
 use Rattle.config_lists.specs.GroupState.{state_for}
 use Rattle.config_lists.specs.Namespace.{is_named}
-use Rattle.config_rules.specs.Configuration.{Configuration}
-use Rattle.config_words.proofs.Sets.{nsids_alike}
-use Rattle.edit_reach.specs.Reach.{StaysAsItWas}
-use Rattle.edit_reach.proofs.Found.{same_namespace, same_state}
+use Rattle.nvt_config.specs.Configuration.{Configuration}
+use Rattle.config_lists.proofs.Sets.{nsids_alike}
+use Rattle.nvt_config.specs.Reach.{StaysAsItWas}
+use Rattle.nvt_config.proofs.Found.{same_namespace, same_state}
 use Rattle.ana_view.specs.Group.{descriptor, descriptor_with, is_in_group, listed, members}
 use Rattle.ana_view.specs.View.{AreGroupsOf, OfSubsystem}
 use Rattle.ana_view.proofs.Counting.{listed_alike}

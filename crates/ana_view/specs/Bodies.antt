@@ -5,9 +5,9 @@ use Rattle.std.specs.Map.{lookup}
 use Rattle.std.specs.Str.{bytes_eq}
 use Rattle.config_lists.specs.declared.group_state.GroupState.{GroupState}
 use Rattle.config_lists.specs.GroupState.{is_state_on}
-use Rattle.config_rules.specs.Configuration.{Configuration}
-use Rattle.name_table.specs.Table.{value_of}
-use Rattle.name_table.specs.Variants.{VariantsState}
+use Rattle.nvt_config.specs.Configuration.{Configuration}
+use Rattle.tables.specs.NameTable.{value_of}
+use Rattle.tables.specs.Variants.{VariantsState}
 use Rattle.ana_view.specs.Group.{Descriptor, listed}
 use Rattle.ana_view.specs.Reached.{AreVariantsOf}
 use Rattle.ana_view.specs.View.{OfSubsystem, Shown, groups_on, own_in, strangers_in}

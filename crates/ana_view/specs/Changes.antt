@@ -1,6 +1,6 @@
 -- The change counts of one controller, by all that happened to it since its beginning. The newest stands first.
 use Rattle.std.specs.Prelude.{ℕ, ◌+◌, ◌%◌, ◌^◌, Bool, true, false, List, [], ◌∷◌}
-use Rattle.config_rules.specs.Configuration.{Configuration}
+use Rattle.nvt_config.specs.Configuration.{Configuration}
 use Rattle.ana_view.specs.Counts.{Counts, for_each_group}
 use Rattle.ana_view.specs.Group.{changes_ana, changes_group}
 

@@ -1,7 +1,7 @@
 -- The change counts of one controller (Base 2.0, section 5.16.1.13).
 use Rattle.std.specs.Prelude.{ℕ, ◌+◌, ◌-◌, ◌%◌, ◌^◌, Bool, true, false, List, map, slice_index}
-use Rattle.config_rules.specs.Configuration.{Configuration}
-use Rattle.config_words.specs.Numbered.{numbers_from}
+use Rattle.nvt_config.specs.Configuration.{Configuration}
+use Rattle.config_lists.specs.Numbered.{numbers_from}
 use Rattle.ana_view.specs.Group.{any_group, changes_group}
 
 -- how often what is shown changed, and how often each group from 1 to 32 did

@@ -6,8 +6,8 @@ use Rattle.config_lists.specs.declared.group_state.AnaState.TheVariants.{Optimiz
 use Rattle.config_lists.specs.declared.namespace.Namespace.{Namespace}
 use Rattle.config_lists.specs.GroupState.{state_for}
 use Rattle.config_lists.specs.Namespace.{is_named}
-use Rattle.config_rules.specs.Configuration.{Configuration}
-use Rattle.config_words.specs.Numbered.{nsids_where, numbers_from}
+use Rattle.nvt_config.specs.Configuration.{Configuration}
+use Rattle.config_lists.specs.Numbered.{nsids_where, numbers_from}
 
 -- a group as a controller shows it: its state on the controller's port, and the identifiers of the namespaces of the
 -- controller's subsystem in it, rising

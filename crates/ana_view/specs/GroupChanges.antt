@@ -1,6 +1,6 @@
 -- Which ANA groups an edit changes.
 use Rattle.std.specs.Prelude.{◌≡◌, ◌≤◌, ◌==◌, ℕ, ◌-◌, Bool, false, not, List, Option, find, slice_index_or}
-use Rattle.config_rules.specs.Configuration.{Configuration}
+use Rattle.nvt_config.specs.Configuration.{Configuration}
 use Rattle.ana_view.specs.Group.{Descriptor, are_same, changes_group}
 
 -- whether a group is one of those that changed

@@ -2,9 +2,9 @@
 use Rattle.std.specs.Prelude.{◌≡◌, ◌<◌, ◌↔◌, ℕ, List, [], ◌∷◌, AllPairs, Contains}
 use Rattle.config_lists.specs.declared.namespace.Namespace.{Namespace}
 use Rattle.config_lists.specs.GroupState.{state_for}
-use Rattle.config_rules.specs.Configuration.{Configuration}
-use Rattle.config_rules.specs.Seen.{SeesNamespace, seen_by}
-use Rattle.config_rules.specs.Valid.{IsValid}
+use Rattle.nvt_config.specs.Configuration.{Configuration}
+use Rattle.nvt_config.specs.SeenBy.{SeesNamespace, seen_by}
+use Rattle.nvt_config.specs.Valid.{IsValid}
 use Rattle.ana_view.specs.Changes.{Occurrence, counts_of, edited, enabled}
 use Rattle.ana_view.specs.Counts.{counts_after, no_changes}
 use Rattle.ana_view.specs.Group.{Descriptor, listed}

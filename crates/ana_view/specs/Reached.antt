@@ -1,10 +1,10 @@
 -- What an edit makes of the groups of the subsystem that it reaches.
 use Rattle.std.specs.Prelude.{◌≡◌, ℕ, List}
 use Rattle.config_lists.specs.Show.{is_shown_of}
-use Rattle.config_rules.specs.Configuration.{Configuration}
-use Rattle.config_rules.specs.Seen.{seen_by, seen_by_strangers}
-use Rattle.edit_reach.specs.Viewers.{AreOwnOf}
-use Rattle.name_table.specs.Variants.{VariantsState}
+use Rattle.nvt_config.specs.Configuration.{Configuration}
+use Rattle.nvt_config.specs.SeenBy.{seen_by, seen_by_strangers}
+use Rattle.nvt_config.specs.Viewers.{AreOwnOf}
+use Rattle.tables.specs.Variants.{VariantsState}
 use Rattle.ana_view.specs.View.{AreGroupsOf, EveryoneReached, HostReached, OfSubsystem}
 
 -- they are the groups of what a host sees in a configuration

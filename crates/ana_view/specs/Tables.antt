@@ -6,8 +6,8 @@ use Rattle.config_lists.specs.declared.group_state.AnaState.{AnaState}
 use Rattle.config_lists.specs.declared.group_state.AnaState.TheVariants.{Optimized}
 use Rattle.config_lists.specs.declared.namespace.Namespace.{Namespace}
 use Rattle.config_lists.specs.Namespace.{is_named, nsid_max}
-use Rattle.config_rules.specs.Configuration.{Configuration}
-use Rattle.config_words.specs.Numbered.{nsids_where}
+use Rattle.nvt_config.specs.Configuration.{Configuration}
+use Rattle.config_lists.specs.Numbered.{nsids_where}
 use Rattle.ana_view.specs.declared.groups.Groups.{Groups}
 use Rattle.ana_view.specs.Group.{Descriptor, descriptor_with, is_in_group, listed_by}
 

@@ -5,10 +5,10 @@ use Rattle.std.specs.Option.{option_map}
 use Rattle.std.specs.Str.{bytes_eq}
 use Rattle.config_lists.specs.Namespace.{nsid_max}
 use Rattle.config_lists.specs.Show.{is_shown_of}
-use Rattle.config_rules.specs.Configuration.{Configuration}
-use Rattle.config_rules.specs.Seen.{seen_by, seen_by_strangers}
-use Rattle.name_table.specs.Table.{Table, value_of}
-use Rattle.name_table.specs.Variants.{VariantsState, common_at, count_at, own_at, variant_of}
+use Rattle.nvt_config.specs.Configuration.{Configuration}
+use Rattle.nvt_config.specs.SeenBy.{seen_by, seen_by_strangers}
+use Rattle.tables.specs.NameTable.{Table, value_of}
+use Rattle.tables.specs.Variants.{VariantsState, common_at, count_at, own_at, variant_of}
 use Rattle.ana_view.specs.Counts.{Counts}
 use Rattle.ana_view.specs.Group.{Descriptor, descriptor, listed}
 use Rattle.ana_view.specs.Page.{ana_page}

@@ -1,7 +1,7 @@
 //! The ANA groups of each subsystem on each port, ready for each host.
 ghost use Rattle.std.specs.Prelude.{◌≡◌, ◌≤◌, ◌<◌, [], None, IfOk, OnOk};
-ghost use Rattle.name_table.specs.Table.{value_of};
-ghost use Rattle.name_table.specs.Variants.{count_at};
+ghost use Rattle.tables.specs.NameTable.{value_of};
+ghost use Rattle.tables.specs.Variants.{count_at};
 ghost use Rattle.ana_view.specs.Bodies.{AreSet, no_variants};
 ghost use Rattle.ana_view.specs.Reached.{AreVariantsOf};
 ghost use Rattle.ana_view.specs.View.{AreFew, IsPlannedFor, IsShownAfter, ShowsAna};
@@ -10,10 +10,10 @@ ghost use Rattle.ana_view.specs.View.{everyone, groups_in, one_host};
 use crate::group_list::AnaGroup;
 use crate::plan::{EveryoneGroups, HostGroups};
 use crate::subsystem::SubsystemGroups;
-use name_table::{NameTable, VariantTable, Variants};
 use nvt_config::Config;
 use std::alloc::{AllocError, Global};
 use std::marker::Model;
+use tables::{NameTable, VariantTable, Variants};
 
 /// By a subsystem's name its groups: those that strangers see, and of each host that is shown one of
 /// its namespaces those that it sees. Hosts that are shown none share those of strangers.

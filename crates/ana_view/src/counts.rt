@@ -1,7 +1,7 @@
 //! How often edits changed what one controller shows.
 ghost use Rattle.std.specs.Prelude.{◌≡◌};
-ghost use Rattle.config_rules.specs.Configuration.{Configuration};
-ghost use Rattle.config_rules.specs.Seen.{seen_by};
+ghost use Rattle.nvt_config.specs.Configuration.{Configuration};
+ghost use Rattle.nvt_config.specs.SeenBy.{seen_by};
 ghost use Rattle.ana_view.specs.Counts.{count_after, count_in, counts_with, for_each_group};
 ghost use Rattle.ana_view.specs.Group.{any_group, changes_ana};
 ghost use Rattle.ana_view.specs.GroupChanges.{has_changed};
@@ -9,7 +9,7 @@ ghost use Rattle.ana_view.specs.View.{PlansEdit};
 
 use crate::group_changes::{GROUPS, GroupChanges};
 use crate::plan::Plan;
-use config_tables::GROUP_END;
+use config_lists::GROUP_END;
 use std::marker::Model;
 
 /// The change counts of the Asymmetric Namespace Access log page of one controller: the page's own,

@@ -1,8 +1,8 @@
 //! Which ANA groups an edit changes.
 ghost use Rattle.std.specs.Prelude.{◌≡◌, ◌≤◌, ℕ, Some};
 ghost use Rattle.std.specs.Option.{option_copied};
-ghost use Rattle.config_rules.specs.Configuration.{Configuration};
-ghost use Rattle.config_rules.specs.Seen.{seen_by};
+ghost use Rattle.nvt_config.specs.Configuration.{Configuration};
+ghost use Rattle.nvt_config.specs.SeenBy.{seen_by};
 ghost use Rattle.ana_view.specs.Group.{are_same, are_same_numbers};
 ghost use Rattle.ana_view.specs.GroupChanges.{AreChanges, differs_in, group_in, has_changed};
 ghost use Rattle.ana_view.specs.View.{PlansEdit};
@@ -10,7 +10,7 @@ ghost use Rattle.ana_view.specs.View.{PlansEdit};
 use crate::group_list::AnaGroup;
 use crate::plan::Plan;
 use crate::state::state_code;
-use config_tables::GROUP_END;
+use config_lists::GROUP_END;
 use std::marker::Model;
 
 /// How many ANA groups there may be.

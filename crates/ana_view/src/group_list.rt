@@ -4,7 +4,7 @@ ghost use Rattle.ana_view.specs.Tables.{listing_of};
 ghost use Rattle.ana_view.specs.View.{AreFew};
 
 use crate::groups::Groups;
-use config_tables::GROUP_END;
+use config_lists::GROUP_END;
 use nvt_config::AnaState;
 use std::alloc::{AllocError, Global};
 use std::marker::Model;

@@ -1,11 +1,11 @@
 //! The ANA groups that the controllers of one subsystem on one port show.
 ghost use Rattle.std.specs.Prelude.{◌≡◌, ◌<◌, ℕ, List, [], IfOk, OnOk, length, replicate};
 ghost use Rattle.config_lists.specs.declared.group_state.AnaState.TheVariants.{Optimized};
-ghost use Rattle.config_rules.specs.Configuration.{Configuration};
+ghost use Rattle.nvt_config.specs.Configuration.{Configuration};
 ghost use Rattle.ana_view.specs.Group.{descriptor, descriptor_with, members};
 ghost use Rattle.ana_view.specs.Tables.{each_of, with_member};
 
-use config_tables::{GROUP_END, NamespaceTable, StateTable};
+use config_lists::{GROUP_END, NamespaceTable, StateTable};
 use nvt_config::{AnaState, Seen};
 use std::alloc::{AllocError, Global};
 

@@ -3,8 +3,8 @@ ghost use Rattle.std.specs.Prelude.{◌≡◌};
 ghost use Rattle.ana_view.specs.View.{reached_in};
 
 use crate::subsystem::SubsystemGroups;
-use name_table::{NameTable, Variants};
 use std::marker::Model;
+use tables::{NameTable, Variants};
 
 /// What an edit will make of a view. It keeps no configuration: of the one subsystem whose groups the
 /// edit may change, those before it and those after it, for each host that sees them otherwise than

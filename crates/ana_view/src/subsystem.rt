@@ -6,7 +6,7 @@ ghost use Rattle.ana_view.specs.View.{AreFew, AreGroupsOf, groups_on};
 
 use crate::group_list::{AnaGroup, GroupList};
 use crate::groups::Groups;
-use config_tables::NamespaceTable;
+use config_lists::NamespaceTable;
 use indexmap::IndexMap;
 use nvt_config::Seen;
 use std::alloc::{AllocError, Global};

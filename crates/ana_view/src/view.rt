@@ -2,9 +2,9 @@
 //! controller, as its host sees it.
 ghost use Rattle.std.specs.Prelude.{◌≡◌, ◌<◌, [], IfOk, IsOk, Ok, Some, length, slice_get};
 ghost use Rattle.std.specs.Option.{option_copied};
-ghost use Rattle.config_rules.specs.Accept.{accept};
-ghost use Rattle.edit_reach.specs.Reach.{host_reached, subsystem_reached};
-ghost use Rattle.name_table.specs.Variants.{count_at};
+ghost use Rattle.nvt_config.specs.Accept.{accept};
+ghost use Rattle.nvt_config.specs.Reach.{host_reached, subsystem_reached};
+ghost use Rattle.tables.specs.Variants.{count_at};
 ghost use Rattle.nvt_fields.specs.Window.{window};
 ghost use Rattle.ana_view.specs.Counts.{Counts};
 ghost use Rattle.ana_view.specs.Reached.{IsOfEveryone, IsOfHost};
@@ -17,9 +17,8 @@ use crate::group_list::AnaGroup;
 use crate::page::{page_len, write_page};
 use crate::plan::{EveryoneGroups, HostGroups, Plan, Reached};
 use crate::subsystem::SubsystemGroups;
-use config_tables::Shows;
-use edit_reach::{host_reached, subsystem_reached};
-use nvt_config::{Config, Edit};
+use config_lists::Shows;
+use nvt_config::{Config, Edit, host_reached, subsystem_reached};
 use std::alloc::{AllocError, Global};
 use std::marker::Model;
 

@@ -7,12 +7,12 @@ use Rattle.std.specs.List.{list_any}
 use Rattle.std.specs.Option.{option_map}
 use Rattle.config_lists.specs.declared.namespace.Namespace.{Namespace}
 use Rattle.config_lists.specs.Namespace.{nsid_max}
-use Rattle.config_tables.specs.Nsids.{is_taken, nsids_in}
-use Rattle.config_rules.specs.Configuration.{Configuration}
-use Rattle.config_words.specs.NsidSet.{IsNsidSet, with_nsid}
-use Rattle.config_words.specs.Numbered.{nsids_where}
-use Rattle.config_words.proofs.Numbers.{kept_where}
-use Rattle.config_words.proofs.Sets.{is_where, no_nsids, nsids_alike, one_more, set_is_where}
+use Rattle.config_lists.specs.Nsids.{is_taken, nsids_in}
+use Rattle.nvt_config.specs.Configuration.{Configuration}
+use Rattle.config_lists.specs.NsidSet.{IsNsidSet, with_nsid}
+use Rattle.config_lists.specs.Numbered.{nsids_where}
+use Rattle.config_lists.proofs.Numbers.{kept_where}
+use Rattle.config_lists.proofs.Sets.{is_where, no_nsids, nsids_alike, one_more, set_is_where}
 use Rattle.nvt_fields.specs.Field.{padded}
 use Rattle.nvt_fields.specs.Window.{window}
 use Rattle.nvt_fields.proofs.Windows.{window-zeros}

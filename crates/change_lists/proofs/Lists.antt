@@ -11,13 +11,13 @@ use Rattle.std.specs.Str.{bytes_eq}
 use Rattle.config_lists.specs.declared.namespace.Namespace.{Namespace}
 use Rattle.config_lists.specs.Namespace.{is_named, nsid_max}
 use Rattle.config_lists.proofs.Names.{bytes_eq-same, same_name}
-use Rattle.config_rules.specs.Configuration.{Configuration}
-use Rattle.config_rules.specs.Valid.{IsNamespace, IsValid}
-use Rattle.config_rules.proofs.Count.{namespaces_are_few}
-use Rattle.config_words.specs.Numbered.{active_nsids, is_there, nsids_where, numbers_from}
-use Rattle.config_words.proofs.Numbers.{kept_where, none_kept, numbers_between}
-use Rattle.config_rules.specs.Seen.{seen_by}
-use Rattle.config_rules.proofs.Seeing.{sees_what_is_shown}
+use Rattle.nvt_config.specs.Configuration.{Configuration}
+use Rattle.nvt_config.specs.Valid.{IsNamespace, IsValid}
+use Rattle.nvt_config.proofs.Count.{namespaces_are_few}
+use Rattle.config_lists.specs.Numbered.{active_nsids, is_there, nsids_where, numbers_from}
+use Rattle.config_lists.proofs.Numbers.{kept_where, none_kept, numbers_between}
+use Rattle.nvt_config.specs.SeenBy.{seen_by}
+use Rattle.nvt_config.proofs.Seeing.{sees_what_is_shown}
 use Rattle.change_lists.specs.ActiveList.{IsActive, NsidsAreListed, list_page, nsids_above}
 use Rattle.change_lists.proofs.Pages.{length-kept, length-page}
 

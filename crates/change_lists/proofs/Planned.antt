@@ -8,20 +8,20 @@ use Rattle.std.specs.Prelude.{unwrap_or}
 use Rattle.config_lists.specs.declared.show.Show.{Show}
 use Rattle.config_lists.specs.Show.{is_show_in, is_shown_of}
 use Rattle.config_lists.proofs.Names.{bytes_eq-same, same_name}
-use Rattle.config_rules.specs.Accept.{accept}
-use Rattle.config_rules.specs.Configuration.{Configuration}
-use Rattle.config_rules.specs.Seen.{seen_by, seen_by_strangers}
-use Rattle.config_words.specs.Numbered.{active_nsids, nsids_where}
-use Rattle.config_words.proofs.Sets.{nsids_alike}
-use Rattle.config_edits.specs.declared.edit.Edit.{Edit}
-use Rattle.config_edits.specs.declared.fault.EditFault.{EditFault}
-use Rattle.edit_reach.specs.Reach.{StaysAsItWas, host_reached, is_host_reached, is_reached, reaches, subsystem_reached}
-use Rattle.edit_reach.proofs.Found.{same_namespace}
-use Rattle.edit_reach.proofs.Others.{shown_stays, stays, strangers_stay, unshown_sees}
-use Rattle.edit_reach.proofs.Viewers.{either_way}
+use Rattle.nvt_config.specs.Accept.{accept}
+use Rattle.nvt_config.specs.Configuration.{Configuration}
+use Rattle.nvt_config.specs.SeenBy.{seen_by, seen_by_strangers}
+use Rattle.config_lists.specs.Numbered.{active_nsids, nsids_where}
+use Rattle.config_lists.proofs.Sets.{nsids_alike}
+use Rattle.config_lists.specs.declared.edit.Edit.{Edit}
+use Rattle.config_lists.specs.declared.fault.EditFault.{EditFault}
+use Rattle.nvt_config.specs.Reach.{StaysAsItWas, host_reached, is_host_reached, is_reached, reaches, subsystem_reached}
+use Rattle.nvt_config.proofs.Found.{same_namespace}
+use Rattle.nvt_config.proofs.Others.{shown_stays, stays, strangers_stay, unshown_sees}
+use Rattle.nvt_config.proofs.Viewers.{either_way}
 use Rattle.nvt_config.specs.Seen.{ChangesShowsAlone}
-use Rattle.name_table.specs.Table.{value_of}
-use Rattle.name_table.specs.Variants.{variant_of}
+use Rattle.tables.specs.NameTable.{value_of}
+use Rattle.tables.specs.Variants.{variant_of}
 use Rattle.change_lists.specs.ActiveView.{AreThoseChanged, EveryoneReached, HostReached, LeadsTo, PlansEdit, Shown, ShowsActive, everyone, nothing, one_host, own_in}
 use Rattle.change_lists.specs.Changes.{Attributes, are_same, attributes_in, attributes_of, changes_namespace}
 use Rattle.change_lists.specs.Reached.{AreChangesFor, IsListFor, IsOfEveryone, IsOfHost}

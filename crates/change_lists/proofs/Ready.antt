@@ -9,19 +9,19 @@ use Rattle.config_lists.specs.declared.subsystem.Subsystem.{Subsystem}
 use Rattle.config_lists.specs.Namespace.{is_named, nsid_max}
 use Rattle.config_lists.specs.Show.{is_shown_of}
 use Rattle.config_lists.proofs.Names.{bytes_eq-same, same_name}
-use Rattle.config_rules.specs.Configuration.{Configuration, has_subsystem}
-use Rattle.config_rules.specs.Seen.{seen_by, seen_by_strangers}
-use Rattle.config_rules.specs.Valid.{IsValid}
-use Rattle.config_rules.proofs.Seeing.{strangers_valid}
-use Rattle.config_tables.specs.Nsids.{is_taken, nsids_in as nsids_of_table}
-use Rattle.config_words.specs.Numbered.{active_nsids, is_there}
-use Rattle.config_words.proofs.Sets.{no_nsids, nsids_alike}
-use Rattle.edit_reach.specs.Reach.{StaysAsItWas}
-use Rattle.edit_reach.specs.Viewers.{AreOwnOf}
-use Rattle.edit_reach.proofs.Found.{none_found, same_namespace, unshown_absent}
-use Rattle.edit_reach.proofs.Others.{unshown_sees}
-use Rattle.name_table.specs.Table.{IsPut, IsRemoved, value_of}
-use Rattle.name_table.specs.Variants.{VariantsState, common_of, own_of, variant_of}
+use Rattle.nvt_config.specs.Configuration.{Configuration, has_subsystem}
+use Rattle.nvt_config.specs.SeenBy.{seen_by, seen_by_strangers}
+use Rattle.nvt_config.specs.Valid.{IsValid}
+use Rattle.nvt_config.proofs.Seeing.{strangers_valid}
+use Rattle.config_lists.specs.Nsids.{is_taken, nsids_in as nsids_of_table}
+use Rattle.config_lists.specs.Numbered.{active_nsids, is_there}
+use Rattle.config_lists.proofs.Sets.{no_nsids, nsids_alike}
+use Rattle.nvt_config.specs.Reach.{StaysAsItWas}
+use Rattle.nvt_config.specs.Viewers.{AreOwnOf}
+use Rattle.nvt_config.proofs.Found.{none_found, same_namespace, unshown_absent}
+use Rattle.nvt_config.proofs.Others.{unshown_sees}
+use Rattle.tables.specs.NameTable.{IsPut, IsRemoved, value_of}
+use Rattle.tables.specs.Variants.{VariantsState, common_of, own_of, variant_of}
 use Rattle.change_lists.specs.ActiveView.{Shown, ShowsActive, nsids_in, own_in, strangers_in}
 use Rattle.change_lists.specs.Reached.{IsListFor}
 

@@ -3,10 +3,10 @@ use Rattle.std.specs.Prelude.{◌≡◌, ◌<◌, ◌≤◌, ◌↔◌, ℕ, Lis
 use Rattle.std.specs.Int.{w32, to_le_bytes}
 use Rattle.std.specs.List.{flat_map}
 use Rattle.config_lists.specs.declared.namespace.Namespace.{Namespace}
-use Rattle.config_rules.specs.Configuration.{Configuration}
-use Rattle.config_rules.specs.Seen.{SeesNamespace, seen_by}
-use Rattle.config_rules.specs.Valid.{IsValid}
-use Rattle.config_words.specs.Numbered.{active_nsids}
+use Rattle.nvt_config.specs.Configuration.{Configuration}
+use Rattle.nvt_config.specs.SeenBy.{SeesNamespace, seen_by}
+use Rattle.nvt_config.specs.Valid.{IsValid}
+use Rattle.config_lists.specs.Numbered.{active_nsids}
 
 -- those of these identifiers that are above one
 abbrev pub nsids_above : ℕ → List ℕ → List ℕ

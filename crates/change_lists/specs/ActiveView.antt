@@ -3,11 +3,11 @@
 use Rattle.std.specs.Prelude.{◌≡◌, ◌<◌, ◌≤◌, ℕ, Bool, false, ◌&&◌, List, [], Option, Some, None, ⊤, is_some, if◌then◌else◌, unwrap_or}
 use Rattle.std.specs.Str.{bytes_eq}
 use Rattle.config_lists.specs.Show.{is_shown_of}
-use Rattle.config_rules.specs.Configuration.{Configuration}
-use Rattle.config_rules.specs.Seen.{seen_by, seen_by_strangers}
-use Rattle.config_words.specs.Numbered.{active_nsids, nsids_where}
-use Rattle.name_table.specs.Table.{Table, value_of}
-use Rattle.name_table.specs.Variants.{VariantsState, common_at, count_at, own_at, variant_of}
+use Rattle.nvt_config.specs.Configuration.{Configuration}
+use Rattle.nvt_config.specs.SeenBy.{seen_by, seen_by_strangers}
+use Rattle.config_lists.specs.Numbered.{active_nsids, nsids_where}
+use Rattle.tables.specs.NameTable.{Table, value_of}
+use Rattle.tables.specs.Variants.{VariantsState, common_at, count_at, own_at, variant_of}
 use Rattle.change_lists.specs.ActiveList.{list_page, nsids_above}
 use Rattle.change_lists.specs.Changes.{changes_namespace}
 

@@ -2,8 +2,8 @@
 -- its identifiers, rising.
 use Rattle.std.specs.Prelude.{◌≡◌, ◌<◌, ◌≤◌, ℕ, ◌*◌, ◌-◌, Bool, ◌==◌, ◌&&◌, ◌||◌, List, [], ◌∷◌, ◌++◌, length, nat_eq, nat_le, nat_lt, replicate, if◌then◌else◌}
 use Rattle.std.specs.List.{list_any}
-use Rattle.config_words.specs.NsidSet.{with_nsid}
-use Rattle.config_words.specs.Numbered.{nsids_where}
+use Rattle.config_lists.specs.NsidSet.{with_nsid}
+use Rattle.config_lists.specs.Numbered.{nsids_where}
 use Rattle.nvt_fields.specs.Field.{padded}
 use Rattle.change_lists.specs.ActiveList.{list_page}
 

@@ -5,8 +5,8 @@ use Rattle.std.specs.Option.{option_map}
 use Rattle.std.specs.Str.{bytes_eq}
 use Rattle.config_lists.specs.declared.namespace.Namespace.{Namespace}
 use Rattle.config_lists.specs.Namespace.{bytes_of, is_named, nsid_max}
-use Rattle.config_rules.specs.Configuration.{Configuration}
-use Rattle.config_words.specs.Numbered.{nsids_where}
+use Rattle.nvt_config.specs.Configuration.{Configuration}
+use Rattle.config_lists.specs.Numbered.{nsids_where}
 use Rattle.change_lists.specs.ChangedSet.{with_nsids}
 
 -- what a host is told to have changed of a namespace: its size in blocks, the bytes of a block, and its UUID

@@ -1,10 +1,10 @@
 -- What an edit makes of the lists of the subsystem that it reaches.
 use Rattle.std.specs.Prelude.{◌≡◌, ℕ, List, ◌++◌}
 use Rattle.config_lists.specs.Show.{is_shown_of}
-use Rattle.config_rules.specs.Configuration.{Configuration}
-use Rattle.config_rules.specs.Seen.{seen_by, seen_by_strangers}
-use Rattle.config_words.specs.Numbered.{active_nsids, nsids_where}
-use Rattle.edit_reach.specs.Viewers.{AreOwnOf}
+use Rattle.nvt_config.specs.Configuration.{Configuration}
+use Rattle.nvt_config.specs.SeenBy.{seen_by, seen_by_strangers}
+use Rattle.config_lists.specs.Numbered.{active_nsids, nsids_where}
+use Rattle.nvt_config.specs.Viewers.{AreOwnOf}
 use Rattle.change_lists.specs.ActiveView.{EveryoneReached, HostReached}
 use Rattle.change_lists.specs.Changes.{changes_namespace}
 

@@ -1,10 +1,10 @@
 //! The identifiers of each subsystem's namespaces, ready for each host.
 ghost use Rattle.std.specs.Prelude.{◌≡◌, ◌≤◌, ◌<◌, [], IfOk, OnOk};
-ghost use Rattle.config_rules.specs.Seen.{seen_by_strangers};
-ghost use Rattle.config_words.specs.Numbered.{active_nsids};
-ghost use Rattle.edit_reach.specs.Viewers.{AreOwnOf};
-ghost use Rattle.name_table.specs.Table.{IsPut};
-ghost use Rattle.name_table.specs.Variants.{count_at};
+ghost use Rattle.nvt_config.specs.SeenBy.{seen_by_strangers};
+ghost use Rattle.config_lists.specs.Numbered.{active_nsids};
+ghost use Rattle.nvt_config.specs.Viewers.{AreOwnOf};
+ghost use Rattle.tables.specs.NameTable.{IsPut};
+ghost use Rattle.tables.specs.Variants.{count_at};
 ghost use Rattle.change_lists.specs.ActiveView.{IsPlannedFor, IsShownAfter, ShowsActive};
 ghost use Rattle.change_lists.specs.ActiveView.{nsids_in};
 ghost use Rattle.change_lists.specs.ActiveView.{everyone, one_host};
@@ -12,10 +12,10 @@ ghost use Rattle.change_lists.specs.Reached.{IsListFor};
 
 use crate::nsid_list::NsidList;
 use crate::plan::{EveryoneLists, HostLists};
-use name_table::{NameTable, VariantTable, Variants};
 use nvt_config::Config;
 use std::alloc::{AllocError, Global};
 use std::marker::Model;
+use tables::{NameTable, VariantTable, Variants};
 
 /// By a subsystem's name the identifiers of its namespaces, rising: those that strangers see, and of each
 /// host that is shown some those that it sees.

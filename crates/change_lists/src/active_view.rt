@@ -1,13 +1,13 @@
 //! A view of the active namespaces: it follows the edits of a configuration and lends each subsystem's
 //! list, as each host sees it.
 ghost use Rattle.std.specs.Prelude.{◌≡◌, IfOk, IsOk, Ok, Some, length};
-ghost use Rattle.config_rules.specs.Accept.{accept};
+ghost use Rattle.nvt_config.specs.Accept.{accept};
 ghost use Rattle.nvt_fields.specs.Window.{window};
 ghost use Rattle.change_lists.specs.ActiveView.{IsPlannedFor, IsShownAfter, LeadsTo, PlansEdit};
 ghost use Rattle.change_lists.specs.ActiveView.{ShowsActive, active_page, nsids_in};
 ghost use Rattle.change_lists.specs.Reached.{IsOfEveryone, IsOfHost};
-ghost use Rattle.edit_reach.specs.Reach.{host_reached, subsystem_reached};
-ghost use Rattle.name_table.specs.Variants.{count_at};
+ghost use Rattle.nvt_config.specs.Reach.{host_reached, subsystem_reached};
+ghost use Rattle.tables.specs.Variants.{count_at};
 ghost use Rattle.std.specs.Prelude.{◌<◌, []};
 
 use crate::active_list::write_list;
@@ -15,9 +15,8 @@ use crate::active_lists::{ActiveLists, lists_of};
 use crate::differences::{changed_nsids, changes_of};
 use crate::nsid_list::NsidList;
 use crate::plan::{EveryoneLists, HostLists, Plan, Reached};
-use config_tables::Shows;
-use edit_reach::{host_reached, subsystem_reached};
-use nvt_config::{Config, Edit};
+use config_lists::Shows;
+use nvt_config::{Config, Edit, host_reached, subsystem_reached};
 use std::alloc::{AllocError, Global};
 use std::marker::Model;
 

@@ -2,17 +2,17 @@
 //! section 5.16.1.5).
 ghost use Rattle.std.specs.Prelude.{◌≡◌, ◌≤◌, [], ◌∷◌, length, nat_lt, true};
 ghost use Rattle.std.specs.List.{list_any};
-ghost use Rattle.config_words.specs.NsidSet.{IsNsidSet, with_nsid};
+ghost use Rattle.config_lists.specs.NsidSet.{IsNsidSet, with_nsid};
 ghost use Rattle.change_lists.specs.ActiveList.{list_page};
 ghost use Rattle.change_lists.specs.ChangedSet.{ChangedIsListed, changed_page, empties, with_all};
 ghost use Rattle.change_lists.specs.ActiveView.{PlansEdit};
 ghost use Rattle.change_lists.specs.Changes.{ChangesAreNoted, changes_namespaces, with_changes};
-ghost use Rattle.config_rules.specs.Configuration.{Configuration};
-ghost use Rattle.config_rules.specs.Seen.{seen_by};
+ghost use Rattle.nvt_config.specs.Configuration.{Configuration};
+ghost use Rattle.nvt_config.specs.SeenBy.{seen_by};
 ghost use Rattle.nvt_fields.specs.Window.{window};
 
 use crate::plan::Plan;
-use config_words::{NsidSet, Nsids};
+use config_lists::{NsidSet, Nsids};
 use nvt_fields::write_part;
 use std::marker::Model;
 
@@ -37,7 +37,7 @@ pub struct ChangedSet {
 
 impl Model for ChangedSet {
     ghost use Rattle.std.specs.Prelude.{ℕ, List};
-    ghost use Rattle.config_words.specs.NsidSet.{IsNsidSet};
+    ghost use Rattle.config_lists.specs.NsidSet.{IsNsidSet};
 
     ghost Value = { List ℕ };
 

@@ -1,19 +1,18 @@
 //! What a host is told to have changed of a namespace (Base 2.0, section 5.16.1.5).
 ghost use Rattle.std.specs.Prelude.{◌≡◌, ◌++◌, List, IfOk, OnOk, Some};
 ghost use Rattle.std.specs.Option.{option_copied, option_map};
-ghost use Rattle.config_words.specs.Numbered.{nsids_where};
+ghost use Rattle.config_lists.specs.Numbered.{nsids_where};
 ghost use Rattle.config_lists.specs.declared.show.Show.{Show};
-ghost use Rattle.config_rules.specs.Seen.{seen_by_strangers};
-ghost use Rattle.edit_reach.specs.Viewers.{AreOwnOf};
+ghost use Rattle.nvt_config.specs.SeenBy.{seen_by_strangers};
+ghost use Rattle.nvt_config.specs.Viewers.{AreOwnOf};
 ghost use Rattle.change_lists.specs.Changes.{are_same, attributes_of, changes_namespace};
 ghost use Rattle.change_lists.specs.Reached.{AreChangesFor};
 ghost use Rattle.change_lists.specs.Tables.{differs, noted};
 
-use config_tables::NamespaceTable;
-use config_words::{NsidSet, Nsids};
-use name_table::Variants;
+use config_lists::{NamespaceTable, NsidSet, Nsids};
 use nvt_config::{Config, Namespace, Seen, Show};
 use std::alloc::{AllocError, Global};
+use tables::Variants;
 
 /// The identifiers of the subsystem's namespaces whose size, block size, UUID or presence an edit changes,
 /// from one configuration to the next, as a host sees both. They are compared once, as an edit is

@@ -1,8 +1,8 @@
 //! A list of namespaces' identifiers that is ready.
 ghost use Rattle.std.specs.Prelude.{◌≡◌, ◌↔◌, [], IfOk, IsTrue};
-ghost use Rattle.config_words.specs.Numbered.{active_nsids};
+ghost use Rattle.config_lists.specs.Numbered.{active_nsids};
 
-use config_words::Nsids;
+use config_lists::Nsids;
 use nvt_config::Seen;
 use std::alloc::{AllocError, Global};
 use std::marker::Model;

@@ -4,9 +4,9 @@ ghost use Rattle.std.specs.Option.{option_copied};
 ghost use Rattle.change_lists.specs.ActiveView.{changed_in};
 
 use crate::nsid_list::NsidList;
-use config_words::NsidSet;
-use name_table::{NameTable, Variants};
+use config_lists::NsidSet;
 use std::marker::Model;
+use tables::{NameTable, Variants};
 
 /// What an edit will make of a view: the lists of the subsystem that it reaches, and which of its
 /// namespaces the edit changes, for each host that sees them otherwise than strangers do; or those of the

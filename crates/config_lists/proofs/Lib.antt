@@ -1,3 +1,10 @@
+pub mod Changed
 pub mod Distinct
 pub mod Lists
+pub mod Marks
 pub mod Names
+pub mod Numbers
+pub mod Sets
+pub mod Shown
+pub mod Tables
+pub mod Taken

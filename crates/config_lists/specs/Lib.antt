@@ -1,7 +1,14 @@
+pub mod Fault
 pub mod GroupState
 pub mod Lists
 pub mod Namespace
+pub mod NsidSet
+pub mod Nsids
+pub mod Numbered
+pub mod Onlooker
 pub mod Port
 pub mod Show
+pub mod Shows
 pub mod Subsystem
+pub mod Tables
 pub mod Text

@@ -9,10 +9,10 @@ use Rattle.config_lists.specs.declared.show.Show.{Show}
 use Rattle.config_lists.specs.Namespace.{is_named}
 use Rattle.config_lists.specs.Show.{has_show, is_show_of, is_show_to}
 use Rattle.config_lists.proofs.Names.{bytes_eq-same, same_name}
-use Rattle.config_edits.specs.declared.edit.Edit.TheVariants.{AllowAdd, HostAdd, HostDel, NamespaceShow}
-use Rattle.config_rules.specs.Accept.{accept}
-use Rattle.config_rules.specs.Configuration.{Configuration, has_allow, has_host, has_live_host, has_namespace, has_subsystem, with_live, with_new_host}
-use Rattle.config_rules.specs.Valid.{AreAllows, AreHosts, AreShows, IsAllow, IsNamespace, IsShow, IsValid}
+use Rattle.config_lists.specs.declared.edit.Edit.TheVariants.{AllowAdd, HostAdd, HostDel, NamespaceShow}
+use Rattle.nvt_config.specs.Accept.{accept}
+use Rattle.nvt_config.specs.Configuration.{Configuration, has_allow, has_host, has_live_host, has_namespace, has_subsystem, with_live, with_new_host}
+use Rattle.nvt_config.specs.Valid.{AreAllows, AreHosts, AreShows, IsAllow, IsNamespace, IsShow, IsValid}
 use Rattle.config_saved.specs.Saved.{after_all, edits_of_allow, edits_of_show, edits_of_host}
 use Rattle.config_saved.proofs.Items.{changed_last, finds_last, found_sound, item_fits, item_new, item_sound}
 use Rattle.config_saved.proofs.Rebuild.{AddEach, accept_where_none, after_first, after_one}

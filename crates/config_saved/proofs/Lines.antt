@@ -16,12 +16,12 @@ use Rattle.config_lists.specs.declared.group_state.AnaState.TheVariants.{Optimiz
 use Rattle.config_lists.specs.declared.namespace.Visibility.TheVariants.{All as SeenByAll, Named}
 use Rattle.config_lists.specs.declared.port.Family.TheVariants.{Ipv4, Ipv6}
 use Rattle.config_lists.specs.declared.subsystem.Access.TheVariants.{Open, Closed}
-use Rattle.config_edits.specs.declared.edit.Edit.{Edit}
+use Rattle.config_lists.specs.declared.edit.Edit.{Edit}
 use Rattle.nvt_fields.specs.Name.{is_name}
 use Rattle.nvt_fields.specs.declared.name.NqnFault.TheVariants.{TooLong, BadNqn}
-use Rattle.line_words.specs.Lines.{lines_of}
-use Rattle.line_words.specs.Operand.{IsSaid, Value, access, family, name, number, state, text, uuid, visibility, word_of}
-use Rattle.line_words.specs.Word.{uuid_word}
+use Rattle.config_text.specs.Lines.{lines_of}
+use Rattle.config_text.specs.Operand.{IsSaid, Value, access, family, name, number, state, text, uuid, visibility, word_of}
+use Rattle.config_text.specs.Word.{uuid_word}
 use Rattle.uuid.specs.Text.{digit_place, hex_digit, is_hyphen_place, nibble}
 use Rattle.uuid.proofs.TextLemmas.{by_index_at, by_index_length}
 use Rattle.config_text.specs.EditLine.{IsLineOf, IsSayable, command_of, line_of, values_of}

@@ -9,9 +9,9 @@ use Rattle.config_lists.specs.GroupState.{is_optimized, is_state_for, is_state_o
 use Rattle.config_lists.specs.Namespace.{is_group}
 use Rattle.config_lists.specs.Port.{is_address, is_port, is_port_number}
 use Rattle.config_lists.proofs.Names.{same_name}
-use Rattle.config_edits.specs.declared.edit.Edit.TheVariants.{AnaSet, LinkAdd, PortAdd, ReferralAdd}
-use Rattle.config_rules.specs.Configuration.{Configuration, has_link, has_port, has_state, has_subsystem, with_ana_state, with_new_state, with_state_set, without_state}
-use Rattle.config_rules.specs.Valid.{AreLinks, ArePorts, AreStates, IsGroupState, IsLink, IsValid}
+use Rattle.config_lists.specs.declared.edit.Edit.TheVariants.{AnaSet, LinkAdd, PortAdd, ReferralAdd}
+use Rattle.nvt_config.specs.Configuration.{Configuration, has_link, has_port, has_state, has_subsystem, with_ana_state, with_new_state, with_state_set, without_state}
+use Rattle.nvt_config.specs.Valid.{AreLinks, ArePorts, AreStates, IsGroupState, IsLink, IsValid}
 use Rattle.config_saved.specs.Saved.{endpoint_of, edits_of_link, edits_of_port, edits_of_referral, edits_of_state}
 use Rattle.config_saved.proofs.Items.{found_sound, item_fits, item_new, item_sound}
 use Rattle.config_saved.proofs.Rebuild.{AddEach, accept_where_none, after_one}

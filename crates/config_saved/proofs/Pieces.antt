@@ -2,7 +2,7 @@
 use Rattle.std.proofs.Common.{◌≡◌, ◌+◌, ◌++◌, ◌∷◌, [], List, length, ap, sym, ◌∙◌, arith}
 use Rattle.std.proofs.lemmas.List.{append_assoc, append-nil, length-append}
 use Rattle.bytes.specs.Filled.{Filled}
-use Rattle.config_edits.specs.declared.edit.Edit.{Edit}
+use Rattle.config_lists.specs.declared.edit.Edit.{Edit}
 use Rattle.config_saved.specs.Pieces.{Appends}
 use Rattle.config_saved.specs.Text.{ended_line, text_of}
 

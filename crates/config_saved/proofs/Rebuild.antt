@@ -1,10 +1,10 @@
 -- What edits that are accepted one after another leave.
 use Rattle.std.proofs.Common.{◌≡◌, ◌++◌, ◌∷◌, [], true, false, List, flat_map, Result, Ok, Err, refl, ap, sym, ◌∙◌, subst}
 use Rattle.std.proofs.lemmas.List.{append-nil, append_assoc}
-use Rattle.config_edits.specs.declared.edit.Edit.{Edit}
-use Rattle.config_edits.specs.declared.fault.EditFault.{EditFault}
-use Rattle.config_rules.specs.Accept.{Refusal, accept, effect, refusals, unless_refused}
-use Rattle.config_rules.specs.Configuration.{Configuration}
+use Rattle.config_lists.specs.declared.edit.Edit.{Edit}
+use Rattle.config_lists.specs.declared.fault.EditFault.{EditFault}
+use Rattle.nvt_config.specs.Accept.{Refusal, accept, effect, refusals, unless_refused}
+use Rattle.nvt_config.specs.Configuration.{Configuration}
 use Rattle.config_saved.specs.Saved.{after_all, then_after}
 
 -- no test against the edit passes

@@ -16,13 +16,13 @@ use Rattle.config_lists.specs.Namespace.{is_for_all}
 use Rattle.config_lists.specs.Port.{is_address, is_port, is_port_number}
 use Rattle.config_lists.specs.Subsystem.{is_discovery, is_serial, is_subsystem}
 use Rattle.config_lists.specs.Text.{is_word}
-use Rattle.config_edits.specs.declared.edit.Edit.{Edit}
-use Rattle.config_edits.specs.declared.edit.Edit.TheVariants.{HostDel, NamespaceView}
-use Rattle.config_rules.specs.Configuration.{Configuration, disks_alone}
-use Rattle.config_rules.specs.Valid.{IsValid}
+use Rattle.config_lists.specs.declared.edit.Edit.{Edit}
+use Rattle.config_lists.specs.declared.edit.Edit.TheVariants.{HostDel, NamespaceView}
+use Rattle.nvt_config.specs.Configuration.{Configuration, disks_alone}
+use Rattle.nvt_config.specs.Valid.{IsValid}
 use Rattle.config_text.specs.EditLine.{IsSayable}
 use Rattle.config_text.proofs.EditLemmas.{one_edit}
-use Rattle.line_words.specs.Lines.{lines_of}
+use Rattle.config_text.specs.Lines.{lines_of}
 use Rattle.config_saved.specs.Saved.{after_all, edits_of_allow, edits_of_host, edits_of_link, edits_of_namespace, edits_of_port, edits_of_referral, edits_of_show, edits_of_state, edits_of_subsystem, saved_edits}
 use Rattle.config_saved.specs.Text.{AreLinesOf, saved_text}
 use Rattle.config_saved.proofs.Whole.{saved_gives_equal}

@@ -8,7 +8,7 @@ use Rattle.config_lists.specs.declared.namespace.Namespace.{Namespace}
 use Rattle.config_lists.specs.declared.port.Port.{Port}
 use Rattle.config_lists.specs.declared.show.Show.{Show}
 use Rattle.config_lists.specs.declared.subsystem.Subsystem.{Subsystem}
-use Rattle.config_rules.specs.Configuration.{Configuration, disks_alone}
+use Rattle.nvt_config.specs.Configuration.{Configuration, disks_alone}
 
 module _ (c : Configuration) where
   abbrev pub at_subsystems : List Subsystem → Configuration

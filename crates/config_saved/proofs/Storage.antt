@@ -14,10 +14,10 @@ use Rattle.config_lists.specs.declared.subsystem.Subsystem.{Subsystem}
 use Rattle.config_lists.specs.Namespace.{block_size_of, bytes_of, is_for_all, is_group, is_named, is_nsid, with_setting}
 use Rattle.config_lists.specs.Subsystem.{is_discovery, is_serial, is_subsystem}
 use Rattle.config_lists.proofs.Names.{bytes_eq-same, same_name}
-use Rattle.config_edits.specs.declared.edit.Edit.TheVariants.{NamespaceAdd, NamespaceView, SubsystemAdd}
-use Rattle.config_rules.specs.Accept.{accept, block_size_named, is_over, namespace_of}
-use Rattle.config_rules.specs.Configuration.{Configuration, has_namespace, has_subsystem}
-use Rattle.config_rules.specs.Valid.{AreNamespaces, AreSubsystems, IsNamespace, IsValid, is_size_on}
+use Rattle.config_lists.specs.declared.edit.Edit.TheVariants.{NamespaceAdd, NamespaceView, SubsystemAdd}
+use Rattle.nvt_config.specs.Accept.{accept, block_size_named, is_over, namespace_of}
+use Rattle.nvt_config.specs.Configuration.{Configuration, has_namespace, has_subsystem}
+use Rattle.nvt_config.specs.Valid.{AreNamespaces, AreSubsystems, IsNamespace, IsValid, is_size_on}
 use Rattle.config_saved.specs.Saved.{added_namespace, after_all, edits_of_subsystem, edits_of_namespace}
 use Rattle.config_saved.proofs.Items.{changed_last, finds_last, item_fits, item_new, item_sound}
 use Rattle.config_saved.proofs.Rebuild.{AddEach, accept_where_none, after_first, after_one}

@@ -1,7 +1,7 @@
 -- The saved edits of a configuration make an equal one.
 use Rattle.std.proofs.Common.{◌≡◌, flat_map, Ok}
-use Rattle.config_rules.specs.Configuration.{Configuration, disks_alone}
-use Rattle.config_rules.specs.Valid.{IsValid}
+use Rattle.nvt_config.specs.Configuration.{Configuration, disks_alone}
+use Rattle.nvt_config.specs.Valid.{IsValid}
 use Rattle.config_saved.specs.Saved.{after_all, edits_of_allow, edits_of_link, edits_of_port, edits_of_referral, edits_of_show, edits_of_state, edits_of_subsystem, edits_of_host, edits_of_namespace, saved_edits}
 use Rattle.config_saved.proofs.Guests.{allows_added, hosts_added, shows_added}
 use Rattle.config_saved.proofs.Listening.{links_added, ports_added, referrals_added, states_added}

@@ -1,8 +1,8 @@
 -- What a piece of a saved text leaves of the text and of the buffer.
 use Rattle.std.specs.Prelude.{◌≡◌, ℕ, ◌+◌, ◌<◌, ◌⊎◌, List, [], ◌∷◌, ◌++◌, codes, length, Option, Some, None}
 use Rattle.bytes.specs.Filled.{Filled}
-use Rattle.config_edits.specs.declared.edit.Edit.{Edit}
-use Rattle.config_rules.specs.Configuration.{Configuration}
+use Rattle.config_lists.specs.declared.edit.Edit.{Edit}
+use Rattle.nvt_config.specs.Configuration.{Configuration}
 use Rattle.config_saved.specs.Saved.{saved_edits}
 use Rattle.config_saved.specs.Text.{ended_line, text_of}
 use Rattle.config_saved.specs.declared.saved_text.PieceEnd.{PieceEnd}

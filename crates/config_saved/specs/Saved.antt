@@ -9,14 +9,14 @@ use Rattle.config_lists.specs.declared.port.Port.{Port}
 use Rattle.config_lists.specs.declared.show.Show.{Show}
 use Rattle.config_lists.specs.declared.subsystem.Subsystem.{Subsystem}
 use Rattle.config_lists.specs.Namespace.{bytes_of, is_for_all}
-use Rattle.config_edits.specs.declared.edit.Edit.{Edit}
-use Rattle.config_edits.specs.declared.edit.Edit.TheVariants.{SubsystemAdd, NamespaceAdd, NamespaceView, NamespaceShow, PortAdd, LinkAdd, HostAdd, HostDel, AllowAdd, AnaSet, ReferralAdd}
-use Rattle.config_edits.specs.declared.edit.Endpoint.{Endpoint}
-use Rattle.config_edits.specs.declared.edit.NewNamespace.{NewNamespace}
-use Rattle.config_edits.specs.declared.fault.EditFault.{EditFault}
-use Rattle.config_rules.specs.Accept.{accept}
-use Rattle.config_rules.specs.Configuration.{Configuration, disks_alone}
-use Rattle.config_rules.specs.Valid.{IsValid}
+use Rattle.config_lists.specs.declared.edit.Edit.{Edit}
+use Rattle.config_lists.specs.declared.edit.Edit.TheVariants.{SubsystemAdd, NamespaceAdd, NamespaceView, NamespaceShow, PortAdd, LinkAdd, HostAdd, HostDel, AllowAdd, AnaSet, ReferralAdd}
+use Rattle.config_lists.specs.declared.edit.Endpoint.{Endpoint}
+use Rattle.config_lists.specs.declared.edit.NewNamespace.{NewNamespace}
+use Rattle.config_lists.specs.declared.fault.EditFault.{EditFault}
+use Rattle.nvt_config.specs.Accept.{accept}
+use Rattle.nvt_config.specs.Configuration.{Configuration, disks_alone}
+use Rattle.nvt_config.specs.Valid.{IsValid}
 
 abbrev pub edits_of_subsystem : Subsystem → List Edit
 edits_of_subsystem s = SubsystemAdd s.nqn s.serial s.access ∷ []

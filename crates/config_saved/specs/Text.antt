@@ -2,10 +2,10 @@
 use Rattle.std.specs.Prelude.{◌≡◌, ℕ, ◌+◌, ◌<◌, ◌≤◌, List, [], ◌∷◌, ◌++◌, length, flat_map, Result, Ok, Err}
 use Rattle.std.specs.List.{AllByRecursion}
 use Rattle.bytes.specs.Filled.{Filled}
-use Rattle.line_words.specs.Lines.{lines_of}
-use Rattle.config_edits.specs.declared.edit.Edit.{Edit}
-use Rattle.config_rules.specs.Configuration.{Configuration, disks_alone}
-use Rattle.config_rules.specs.Valid.{IsValid}
+use Rattle.config_text.specs.Lines.{lines_of}
+use Rattle.config_lists.specs.declared.edit.Edit.{Edit}
+use Rattle.nvt_config.specs.Configuration.{Configuration, disks_alone}
+use Rattle.nvt_config.specs.Valid.{IsValid}
 use Rattle.config_text.specs.EditLine.{IsLineOf, IsSayable, line_of}
 use Rattle.config_saved.specs.Saved.{after_all, saved_edits}
 use Rattle.config_saved.specs.declared.write.SaveFault.{SaveFault}

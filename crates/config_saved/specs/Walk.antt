@@ -1,8 +1,8 @@
 -- What one step of a walk over edits answers and leaves.
 use Rattle.std.specs.Prelude.{◌≡◌, List, [], ◌∷◌, ◌++◌, drop, Option, Some, None, Result, Ok, Err}
 use Rattle.std.specs.declared.alloc.AllocError.{AllocError}
-use Rattle.config_edits.specs.declared.edit.Edit.{Edit}
-use Rattle.config_rules.specs.Configuration.{Configuration}
+use Rattle.config_lists.specs.declared.edit.Edit.{Edit}
+use Rattle.nvt_config.specs.Configuration.{Configuration}
 use Rattle.config_saved.specs.Saved.{saved_edits}
 use Rattle.config_saved.specs.declared.edits_left.EditsLeft.{EditsLeft}
 use Rattle.config_saved.specs.declared.item_edits.ItemEdits.{ItemEdits}

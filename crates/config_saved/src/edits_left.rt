@@ -1,11 +1,11 @@
 //! How far a walk over the saved edits of a configuration is.
 ghost use Rattle.std.specs.Prelude.{◌≡◌};
-ghost use Rattle.config_rules.specs.Configuration.{Configuration};
+ghost use Rattle.nvt_config.specs.Configuration.{Configuration};
 ghost use Rattle.config_saved.specs.Saved.{saved_edits};
 ghost use Rattle.config_saved.specs.Walk.{TakesFirst, edits_left};
 
 use crate::items_over::ItemsOver;
-use config_edits::Edit;
+use config_lists::Edit;
 use nvt_config::Config;
 use std::alloc::AllocError;
 

@@ -1,6 +1,6 @@
 //! The edits that add an item.
 
-use config_edits::Edit;
+use config_lists::Edit;
 
 /// The edits that add an item, in order.
 #[derive(Drop)]

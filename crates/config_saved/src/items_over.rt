@@ -2,7 +2,7 @@
 ghost use Rattle.std.specs.Prelude.{◌≡◌, drop};
 ghost use Rattle.std.specs.List.{flat_map};
 ghost use Rattle.config_saved.specs.Saved.{saved_edits};
-ghost use Rattle.config_rules.specs.Configuration.{Configuration};
+ghost use Rattle.nvt_config.specs.Configuration.{Configuration};
 ghost use Rattle.config_saved.specs.Walk.{TakesItem, edits_behind};
 
 use crate::item_edits::ItemEdits;

@@ -4,7 +4,7 @@ ghost use Rattle.config_saved.specs.Saved.{saved_edits};
 ghost use Rattle.config_saved.specs.Walk.{TakesFirst};
 
 use crate::edits_left::EditsLeft;
-use config_edits::Edit;
+use config_lists::Edit;
 use nvt_config::Config;
 use std::alloc::AllocError;
 use std::marker::Model;
@@ -18,7 +18,7 @@ pub struct SavedEdits<'a> {
 
 impl<'a> Model for SavedEdits<'a> {
     ghost use Rattle.std.specs.Prelude.{List};
-    ghost use Rattle.config_edits.specs.declared.edit.Edit.{Edit};
+    ghost use Rattle.config_lists.specs.declared.edit.Edit.{Edit};
     ghost use Rattle.config_saved.specs.Walk.{edits_left};
 
     ghost Value = { List Edit };

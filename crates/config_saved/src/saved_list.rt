@@ -7,14 +7,15 @@ ghost use Rattle.config_saved.specs.Saved.{edits_of_show, edits_of_state, edits_
 ghost use Rattle.config_saved.specs.Walk.{edits_in};
 
 use crate::item_edits::ItemEdits;
-use config_edits::{Edit, Endpoint, NewNamespace};
-use config_lists::{Allow, GroupState, Host, Link, Namespace, Port, Show, Subsystem};
+use config_lists::{
+    Allow, Edit, Endpoint, GroupState, Host, Link, Namespace, NewNamespace, Port, Show, Subsystem,
+};
 use std::alloc::AllocError;
 
 /// A list of a configuration, as a type.
 pub(crate) trait SavedList {
     ghost use Rattle.std.specs.Prelude.{◌≡◌, IfOk, List};
-    ghost use Rattle.config_edits.specs.declared.edit.Edit.{Edit};
+    ghost use Rattle.config_lists.specs.declared.edit.Edit.{Edit};
     ghost use Rattle.config_saved.specs.Walk.{edits_in};
 
     /// What is in the list.

@@ -7,7 +7,7 @@ ghost use Rattle.config_saved.specs.Walk.{TakesFirst, edits_due, edits_left};
 use crate::edits_left::EditsLeft;
 use crate::write::append_line;
 use bytes::BytesMut;
-use config_edits::Edit;
+use config_lists::Edit;
 use config_text::Full;
 use nvt_config::Config;
 use std::alloc::AllocError;
@@ -37,7 +37,7 @@ pub struct SavedText {
 
 impl Model for SavedText {
     ghost use Rattle.std.specs.Prelude.{◌++◌, List};
-    ghost use Rattle.config_edits.specs.declared.edit.Edit.{Edit};
+    ghost use Rattle.config_lists.specs.declared.edit.Edit.{Edit};
     ghost use Rattle.config_saved.specs.Walk.{edits_due, edits_left};
 
     ghost Value = { List Edit };

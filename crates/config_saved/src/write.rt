@@ -6,7 +6,7 @@ ghost use Rattle.config_saved.specs.Text.{AppendsOrNot, ended_line, saved_text};
 
 use crate::saved_edits::SavedEdits;
 use bytes::BytesMut;
-use config_edits::Edit;
+use config_lists::Edit;
 use config_text::{Full, write_edit};
 use nvt_config::Config;
 use std::alloc::AllocError;

@@ -7,10 +7,10 @@ use Rattle.std.proofs.lemmas.Fmt.{decimal_nonempty, digits_value-decimal}
 use Rattle.std.proofs.lemmas.Grind.{common_steps}
 use Rattle.std.proofs.lemmas.List.{get_or_default}
 use Rattle.std.proofs.lemmas.List.Splits.{join_with_byte-slice_split, slice_split_at, slice_split_none}
-use Rattle.config_edits.specs.declared.edit.Edit.{Edit}
-use Rattle.config_edits.specs.declared.edit.Edit.TheVariants as edit
-use Rattle.config_edits.specs.declared.edit.Endpoint.{Endpoint}
-use Rattle.config_edits.specs.declared.edit.NewNamespace.{NewNamespace}
+use Rattle.config_lists.specs.declared.edit.Edit.{Edit}
+use Rattle.config_lists.specs.declared.edit.Edit.TheVariants as edit
+use Rattle.config_lists.specs.declared.edit.Endpoint.{Endpoint}
+use Rattle.config_lists.specs.declared.edit.NewNamespace.{NewNamespace}
 use Rattle.config_lists.specs.declared.group_state.AnaState.{AnaState}
 use Rattle.config_lists.specs.declared.group_state.AnaState.TheVariants.{Optimized, NonOptimized, Inaccessible, PersistentLoss, Change}
 use Rattle.config_lists.specs.declared.namespace.Visibility.{Visibility}
@@ -19,20 +19,20 @@ use Rattle.config_lists.specs.declared.port.Family.{Family}
 use Rattle.config_lists.specs.declared.port.Family.TheVariants.{Ipv4, Ipv6}
 use Rattle.config_lists.specs.declared.subsystem.Access.{Access}
 use Rattle.config_lists.specs.declared.subsystem.Access.TheVariants.{Open, Closed}
-use Rattle.line_words.specs.Command.{command_from, grammar_of, is_noun}
+use Rattle.config_text.specs.Command.{command_from, grammar_of, is_noun}
 use Rattle.config_text.specs.EditLine.{IsEditOf, IsLineOf, IsSayable, command_of, line_of, values_of, words_of}
-use Rattle.line_words.specs.Said.{IsSaidBy}
-use Rattle.line_words.specs.Operand.{IsSaid, Value, access, allows, family, form_of, kind_of, name, number, state, text, uuid, visibility, word_of}
-use Rattle.line_words.specs.Words.{command_fault, forms_fault, line_fault, verb_fault, words, words_fault}
-use Rattle.line_words.specs.declared.command.Command.{Command}
-use Rattle.line_words.specs.declared.command.Command.TheVariants as command
-use Rattle.line_words.specs.declared.fault.LineFaultKind.TheVariants.{UnknownWord}
-use Rattle.line_words.specs.declared.operand.Form.{Form}
-use Rattle.line_words.specs.declared.operand.Form.TheVariants as form
-use Rattle.line_words.proofs.NumberLemmas.{is_number-decimal, no_space, own}
-use Rattle.line_words.proofs.UuidLemmas.{is_uuid_word-uuid_word, uuid_back, uuid_is_word}
-use Rattle.line_words.proofs.PlainWords.{IsWord, name_is_word, plain_word, is_plain, text_is_word}
-use Rattle.line_words.proofs.WordLemmas.{word_passes}
+use Rattle.config_text.specs.Said.{IsSaidBy}
+use Rattle.config_text.specs.Operand.{IsSaid, Value, access, allows, family, form_of, kind_of, name, number, state, text, uuid, visibility, word_of}
+use Rattle.config_text.specs.Words.{command_fault, forms_fault, line_fault, verb_fault, words, words_fault}
+use Rattle.config_text.specs.declared.command.Command.{Command}
+use Rattle.config_text.specs.declared.command.Command.TheVariants as command
+use Rattle.config_text.specs.declared.fault.LineFaultKind.TheVariants.{UnknownWord}
+use Rattle.config_text.specs.declared.operand.Form.{Form}
+use Rattle.config_text.specs.declared.operand.Form.TheVariants as form
+use Rattle.config_text.proofs.NumberLemmas.{is_number-decimal, no_space, own}
+use Rattle.config_text.proofs.UuidLemmas.{is_uuid_word-uuid_word, uuid_back, uuid_is_word}
+use Rattle.config_text.proofs.PlainWords.{IsWord, name_is_word, plain_word, is_plain, text_is_word}
+use Rattle.config_text.proofs.WordLemmas.{word_passes}
 use Rattle.uuid.specs.Text.{parsed}
 
 -- words that are joined by spaces are split there again

@@ -1,3 +1,9 @@
 pub mod EditLemmas
+pub mod LineLemmas
+pub mod NumberLemmas
+pub mod OperandLemmas
+pub mod PlainWords
+pub mod UuidLemmas
 pub mod ValueLists
+pub mod WordLemmas
 pub mod WriteLemmas

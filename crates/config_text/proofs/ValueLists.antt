@@ -1,8 +1,8 @@
 -- Lists of values, by their places.
 use Rattle.std.proofs.Common.{◌≡◌, List, [], ◌∷◌, Some, map}
 use Rattle.std.specs.Prelude.{slice_get}
-use Rattle.line_words.specs.Operand.{Value, form_of}
-use Rattle.line_words.specs.declared.operand.Form.{Form}
+use Rattle.config_text.specs.Operand.{Value, form_of}
+use Rattle.config_text.specs.declared.operand.Form.{Form}
 
 -- a list is known by its values at its places
 pub list_1 : (vs : List Value) (f0 : Form) (a0 : Value) → map form_of vs ≡ f0 ∷ [] → slice_get vs 0 ≡ Some a0 → a0 ∷ [] ≡ vs

@@ -1,10 +1,10 @@
 -- The words of a command and of values, each after a space, are a line.
 use Rattle.std.proofs.Common.{◌≡◌, ℕ, List, [], ◌∷◌, ◌++◌, map, sym, ap, ◌∙◌, append_assoc, append-nil}
 use Rattle.std.specs.List.{join_with_byte}
-use Rattle.config_edits.specs.declared.edit.Edit.{Edit}
-use Rattle.line_words.specs.Command.{grammar_of}
+use Rattle.config_lists.specs.declared.edit.Edit.{Edit}
+use Rattle.config_text.specs.Command.{grammar_of}
 use Rattle.config_text.specs.EditLine.{command_of, line_of, values_of}
-use Rattle.line_words.specs.Operand.{Value, word_of}
+use Rattle.config_text.specs.Operand.{Value, word_of}
 use Rattle.config_text.specs.Output.{head_of, spaced}
 
 join-spaced : (word : List ℕ) (vs : List Value) → join_with_byte 32 (word ∷ map word_of vs) ≡ word ++ spaced vs

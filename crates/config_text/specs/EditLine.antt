@@ -1,14 +1,14 @@
 -- The one line of each edit.
 use Rattle.std.specs.Prelude.{◌≡◌, ℕ, ◌≤◌, List, [], ◌∷◌, length}
 use Rattle.std.specs.List.{AllByRecursion, join_with_byte}
-use Rattle.config_edits.specs.declared.edit.Edit.{Edit}
-use Rattle.config_edits.specs.declared.edit.Edit.TheVariants as edit
-use Rattle.config_edits.specs.declared.edit.Endpoint.{Endpoint}
-use Rattle.config_edits.specs.declared.edit.NewNamespace.{NewNamespace}
-use Rattle.line_words.specs.Operand.{IsSaid, Value, access, family, name, number, state, text, uuid, visibility}
-use Rattle.line_words.specs.Said.{said_words}
-use Rattle.line_words.specs.declared.command.Command.{Command}
-use Rattle.line_words.specs.declared.command.Command.TheVariants.{SubsystemAdd, SubsystemSet, SubsystemDel, NamespaceAdd, NamespaceSize, NamespaceGroup, NamespaceDel, NamespaceView, NamespaceShow, NamespaceHide, PortAdd, PortSet, PortDel, LinkAdd, LinkDel, HostAdd, HostDel, AllowAdd, AllowDel, AnaSet, ReferralAdd, ReferralSet, ReferralDel}
+use Rattle.config_lists.specs.declared.edit.Edit.{Edit}
+use Rattle.config_lists.specs.declared.edit.Edit.TheVariants as edit
+use Rattle.config_lists.specs.declared.edit.Endpoint.{Endpoint}
+use Rattle.config_lists.specs.declared.edit.NewNamespace.{NewNamespace}
+use Rattle.config_text.specs.Operand.{IsSaid, Value, access, family, name, number, state, text, uuid, visibility}
+use Rattle.config_text.specs.Said.{said_words}
+use Rattle.config_text.specs.declared.command.Command.{Command}
+use Rattle.config_text.specs.declared.command.Command.TheVariants.{SubsystemAdd, SubsystemSet, SubsystemDel, NamespaceAdd, NamespaceSize, NamespaceGroup, NamespaceDel, NamespaceView, NamespaceShow, NamespaceHide, PortAdd, PortSet, PortDel, LinkAdd, LinkDel, HostAdd, HostDel, AllowAdd, AllowDel, AnaSet, ReferralAdd, ReferralSet, ReferralDel}
 
 abbrev pub command_of : Edit → Command
 command_of (edit.SubsystemAdd n s a) = SubsystemAdd

@@ -1,2 +1,11 @@
+pub mod Command
 pub mod EditLine
+pub mod Fault
+pub mod Lines
+pub mod Number
+pub mod Operand
 pub mod Output
+pub mod Said
+pub mod Word
+pub mod Words
+pub mod WordsLeft

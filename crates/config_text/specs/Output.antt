@@ -1,9 +1,9 @@
 -- What a writer leaves of the buffer that it appends to.
 use Rattle.std.specs.Prelude.{◌≡◌, ℕ, ◌+◌, ◌<◌, ◌≤◌, List, ◌∷◌, ◌++◌, length, flat_map, Result, Ok, Err}
 use Rattle.bytes.specs.Filled.{Filled}
-use Rattle.line_words.specs.Command.{grammar_of}
-use Rattle.line_words.specs.Operand.{Value, word_of}
-use Rattle.line_words.specs.declared.command.Command.{Command}
+use Rattle.config_text.specs.Command.{grammar_of}
+use Rattle.config_text.specs.Operand.{Value, word_of}
+use Rattle.config_text.specs.declared.command.Command.{Command}
 use Rattle.config_text.specs.declared.write.Full.{Full}
 
 -- the first two words, with the space between

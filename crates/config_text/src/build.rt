@@ -1,17 +1,16 @@
 //! The edit of a command and its values.
 ghost use Rattle.std.specs.Prelude.{◌≡◌, IfOk, Some, map, slice_get};
-ghost use Rattle.line_words.specs.Command.{grammar_of};
+ghost use Rattle.config_text.specs.Command.{grammar_of};
 ghost use Rattle.config_text.specs.EditLine.{IsEditOf, endpoint_values, namespace_values};
-ghost use Rattle.line_words.specs.Operand.{form_of, name, text, values};
-ghost use Rattle.line_words.specs.declared.operand.Form.TheVariants as form;
-ghost use Rattle.line_words.specs.declared.command.Command.TheVariants as command;
+ghost use Rattle.config_text.specs.Operand.{form_of, name, text, values};
+ghost use Rattle.config_text.specs.declared.operand.Form.TheVariants as form;
+ghost use Rattle.config_text.specs.declared.command.Command.TheVariants as command;
 
-use config_edits::{Edit, Endpoint, NewNamespace};
-use config_lists::Text;
-use line_words::operand::{
+use crate::operand::{
     access_at, family_at, name_at, number_at, state_at, text_at, uuid_at, visibility_at,
 };
-use line_words::{Command, Operand};
+use crate::{Command, Operand};
+use config_lists::{Edit, Endpoint, NewNamespace, Text};
 use nvt_fields::Nqn;
 use std::alloc::{AllocError, Global};
 

@@ -1,14 +1,14 @@
 //! The line of an edit: each edit has one, and a line that is none's has a first fault.
 ghost use Rattle.std.specs.Prelude.{◌≡◌, ◌≤◌, Err, IfOk, IsOkUnless, MatchOption, None, Ok};
 ghost use Rattle.std.specs.Prelude.{List, ℕ, length, ◌⊎◌};
-ghost use Rattle.config_edits.specs.declared.edit.Edit.{Edit};
+ghost use Rattle.config_lists.specs.declared.edit.Edit.{Edit};
 ghost use Rattle.config_text.specs.EditLine.{IsLineOf, IsSayable, line_of};
-ghost use Rattle.line_words.specs.Fault.{memory_fault};
-ghost use Rattle.line_words.specs.Words.{line_fault};
+ghost use Rattle.config_text.specs.Fault.{memory_fault};
+ghost use Rattle.config_text.specs.Words.{line_fault};
 
 use crate::build::build;
-use config_edits::Edit;
-use line_words::{LineFault, LineFaultKind, read_words};
+use crate::{LineFault, LineFaultKind, read_words};
+use config_lists::Edit;
 use std::alloc::{AllocError, Global};
 
 /// The edit whose line this is, or the line's first fault. Want of memory comes last.

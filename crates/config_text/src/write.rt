@@ -2,14 +2,13 @@
 ghost use Rattle.std.specs.Prelude.{◌≡◌, ◌+◌, ◌≤◌, [], ◌∷◌, ◌++◌, Some, codes, length, nat_le};
 ghost use Rattle.config_text.specs.EditLine.{command_of, endpoint_values, line_of, namespace_values};
 ghost use Rattle.config_text.specs.EditLine.{values_of};
-ghost use Rattle.line_words.specs.Operand.{access, name, number, state, text, values, visibility};
+ghost use Rattle.config_text.specs.Operand.{access, name, number, state, text, values, visibility};
 ghost use Rattle.config_text.specs.Output.{AppendsOrFull, head_of, spaced};
 
+use crate::{Command, Operand, Operands, Scratch};
 use arrayvec::ArrayVec;
 use bytes::BytesMut;
-use config_edits::{Edit, Endpoint, NewNamespace};
-use config_lists::{Access, AnaState, Text, Visibility};
-use line_words::{Command, Operand, Operands, Scratch};
+use config_lists::{Access, AnaState, Edit, Endpoint, NewNamespace, Text, Visibility};
 use nvt_fields::Nqn;
 use std::error::Error;
 use std::fmt;

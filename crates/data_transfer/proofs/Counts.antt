@@ -5,8 +5,8 @@ use Rattle.std.proofs.lemmas.Bool.{cases_lt}
 use Rattle.std.proofs.lemmas.List.{ext_get_or}
 use Rattle.std.proofs.lemmas.List.FromFn.{get_or-map-range_with_len, length-map-range_with_len}
 use Rattle.std.proofs.lemmas.List.Sums.{sum_by-cons, sum_by-set}
-use Rattle.number_table.specs.Table.{place}
-use Rattle.number_table.proofs.Tables.{place_past, place_within, same_tables}
+use Rattle.tables.specs.NumberTable.{place}
+use Rattle.tables.proofs.NumberTables.{place_past, place_within, same_tables}
 use Rattle.data_transfer.specs.Part.{Part}
 use Rattle.data_transfer.specs.Parts.{count_of}
 use Rattle.data_transfer.specs.Queue.{IsQueue, no_tags, tags_in}

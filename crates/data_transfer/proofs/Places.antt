@@ -4,8 +4,8 @@ use Rattle.std.proofs.lemmas.Bool.{cases_eq, cases_lt}
 use Rattle.std.proofs.lemmas.Bool.Decides.{nat_tests}
 use Rattle.std.proofs.lemmas.List.{get_or_past, get_or-set_same, get_or-set_other, get_or-replicate, length-replicate}
 use Rattle.std.proofs.lemmas.Option.{none-some}
-use Rattle.number_table.specs.Table.{place}
-use Rattle.number_table.proofs.Tables.{place-with_value, place-without, place_past}
+use Rattle.tables.specs.NumberTable.{place}
+use Rattle.tables.proofs.NumberTables.{place-with_value, place-without, place_past}
 use Rattle.data_transfer.specs.Part.{H2cData, Part, data_after, left_in}
 use Rattle.data_transfer.specs.Parts.{Stand, no_parts, part_at, with_part, without_queue}
 use Rattle.data_transfer.specs.Queue.{no_tags}

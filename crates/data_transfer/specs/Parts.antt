@@ -1,7 +1,7 @@
 -- The transfers of all connections: what stands at each connection under each tag (TTAG), from 0 on.
 use Rattle.std.specs.Prelude.{◌≡◌, ℕ, ◌==◌, ◌&&◌, Bool, false, List, [], slice_index_or, Option, Some, None, is_none, is_some, count_by, if◌then◌else◌}
 use Rattle.std.specs.List.{list_any, position_or_len, range_with_len}
-use Rattle.number_table.specs.Table.{place}
+use Rattle.tables.specs.NumberTable.{place}
 use Rattle.data_transfer.specs.Part.{Part}
 
 module _ {C : Type 0} where

@@ -1,7 +1,7 @@
 //! The transfers of one connection.
 ghost use Rattle.std.specs.Prelude.{◌≡◌, ◌<◌, ◌+◌, IfOk, IfNone, OnErr, OnSome, Some, length, option_copied, slice_set};
 ghost use Rattle.std.specs.Option.{option_map};
-ghost use Rattle.number_table.specs.Table.{place, with_value};
+ghost use Rattle.tables.specs.NumberTable.{place, with_value};
 ghost use Rattle.data_transfer.specs.Part.{begun, data_after, data_answer, h2c_data, left_in, whole_in};
 ghost use Rattle.data_transfer.specs.Parts.{count_of, free_tag, has_command, is_of};
 ghost use Rattle.data_transfer.specs.Queue.{no_tags};
@@ -9,9 +9,9 @@ ghost use Rattle.data_transfer.specs.Whole.{part_of};
 
 use crate::fault::DataFault;
 use crate::transfer::{Progress, Transfer, Whole};
-use number_table::NumberTable;
 use std::alloc::{AllocError, Global};
 use std::marker::Model;
+use tables::NumberTable;
 
 /// How many transfers a connection may have at a time: as many as its queue may have commands.
 pub(crate) const TAGS: usize = 63;

@@ -6,9 +6,9 @@ use Rattle.std.proofs.lemmas.Bool.{cases_Bool}
 use Rattle.std.proofs.lemmas.List.{length-map}
 use Rattle.config_lists.specs.declared.port.Port.{Port}
 use Rattle.config_lists.specs.declared.subsystem.Subsystem.{Subsystem}
-use Rattle.config_rules.specs.Configuration.{Configuration}
-use Rattle.config_rules.specs.Permission.{may_use}
-use Rattle.config_rules.specs.Valid.{IsValid}
+use Rattle.nvt_config.specs.Configuration.{Configuration}
+use Rattle.nvt_config.specs.Permission.{may_use}
+use Rattle.nvt_config.specs.Valid.{IsValid}
 use Rattle.discovery_view.specs.Order.{name_below}
 use Rattle.discovery_view.specs.Record.{record_of}
 use Rattle.discovery_view.specs.Records.{parts_of, ports_in_order, records_of, records_on, referral_of, referrals_in_order, subsystems_in_order}

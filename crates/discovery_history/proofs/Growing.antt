@@ -6,7 +6,7 @@ use Rattle.std.proofs.lemmas.Bool.{cases_Bool, cases_lt, false≢true}
 use Rattle.std.proofs.lemmas.List.{drop_more, length-map}
 use Rattle.std.proofs.lemmas.List.Concat.{flat_map-cons}
 use Rattle.std.proofs.lemmas.List.Elements.{All-map}
-use Rattle.config_rules.specs.Configuration.{Configuration}
+use Rattle.nvt_config.specs.Configuration.{Configuration}
 use Rattle.discovery_view.specs.Page.{discovery_page}
 use Rattle.discovery_view.specs.Record.{Parts, record_of, same_records}
 use Rattle.discovery_view.specs.Records.{records_of}
@@ -14,7 +14,7 @@ use Rattle.discovery_view.specs.Told.{IsSound}
 use Rattle.discovery_view.specs.View.{changes_records}
 use Rattle.discovery_view.proofs.Told.{records_differ_with_their_parts}
 use Rattle.host_pages.specs.Laws.{joined}
-use Rattle.host_discovery.specs.Moments.{AreMoments, Follows, IsPage, Page, bytes_of}
+use Rattle.host_pages.specs.Moments.{AreMoments, Follows, IsPage, Page, bytes_of}
 use Rattle.target_history.specs.Event.{Event, edited, given_up, opened, stepped, ticked}
 use Rattle.target_history.specs.History.{Opening, config_of, generation_of, happened, page_of}
 use Rattle.target_history.specs.Occurrence.{config_after}

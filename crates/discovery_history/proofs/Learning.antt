@@ -1,6 +1,6 @@
 -- The page that a host has is the one that the target owed it at each read of its last try.
 use Rattle.std.proofs.Common.{◌∙◌}
-use Rattle.host_discovery.proofs.OneMoment.{pages_are_of_one_moment}
+use Rattle.host_pages.proofs.OneMoment.{pages_are_of_one_moment}
 use Rattle.discovery_history.specs.Growing.{changes_at, page_at}
 use Rattle.discovery_history.specs.Laws.{HostsLearnOneMoment}
 use Rattle.discovery_history.proofs.Growing.{bytes_are, discovery_pages_are_moments}

@@ -5,16 +5,16 @@ use Rattle.std.specs.Str.{bytes_eq}
 use Rattle.std.proofs.lemmas.List.Elements.{All-drop, All-filter, All-nil, All-push, All-tail}
 use Rattle.nvt_fields.specs.Name.{IsName}
 use Rattle.config_lists.proofs.Lists.{All-changed_where}
-use Rattle.config_edits.specs.declared.edit.Edit.{Edit}
-use Rattle.config_edits.specs.declared.edit.Edit.TheVariants.{SubsystemAdd, SubsystemSet, SubsystemDel, HostAdd, AnaSet}
-use Rattle.config_edits.specs.declared.fault.EditFault.{EditFault}
-use Rattle.config_rules.specs.Accept.{accept, effect}
-use Rattle.config_rules.specs.Configuration.{Configuration, are_disks, disks_alone}
-use Rattle.config_rules.specs.Valid.{IsValid}
-use Rattle.config_rules.proofs.Hosts.{hosts_alone}
-use Rattle.config_rules.proofs.Refusals.{IfOk-effect}
-use Rattle.config_rules.proofs.States.{states_alone}
-use Rattle.config_rules.proofs.Valid.{IsValid-accept}
+use Rattle.config_lists.specs.declared.edit.Edit.{Edit}
+use Rattle.config_lists.specs.declared.edit.Edit.TheVariants.{SubsystemAdd, SubsystemSet, SubsystemDel, HostAdd, AnaSet}
+use Rattle.config_lists.specs.declared.fault.EditFault.{EditFault}
+use Rattle.nvt_config.specs.Accept.{accept, effect}
+use Rattle.nvt_config.specs.Configuration.{Configuration, are_disks, disks_alone}
+use Rattle.nvt_config.specs.Valid.{IsValid}
+use Rattle.nvt_config.proofs.Hosts.{hosts_alone}
+use Rattle.nvt_config.proofs.Refusals.{IfOk-effect}
+use Rattle.nvt_config.proofs.States.{states_alone}
+use Rattle.nvt_config.proofs.Valid.{IsValid-accept}
 use Rattle.discovery_view.specs.Told.{IsSound}
 use Rattle.target_history.specs.Event.{Event, edited, given_up, opened, stepped, ticked}
 use Rattle.target_history.specs.History.{Opening, config_of, happened}

@@ -1,12 +1,12 @@
 -- The discovery log page of a host, after each event of a target's history.
 use Rattle.std.specs.Prelude.{ℕ, ◌-◌, ◌%◌, ◌^◌, List, All, IsTrue, length, drop, map}
 use Rattle.nvt_fields.specs.Name.{IsName}
-use Rattle.config_edits.specs.declared.edit.Edit.{Edit}
-use Rattle.config_edits.specs.declared.edit.Edit.TheVariants.{SubsystemAdd}
-use Rattle.config_rules.specs.Configuration.{are_disks}
+use Rattle.config_lists.specs.declared.edit.Edit.{Edit}
+use Rattle.config_lists.specs.declared.edit.Edit.TheVariants.{SubsystemAdd}
+use Rattle.nvt_config.specs.Configuration.{are_disks}
 use Rattle.discovery_view.specs.Record.{record_of}
 use Rattle.discovery_view.specs.Records.{records_of}
-use Rattle.host_discovery.specs.Moments.{Page}
+use Rattle.host_pages.specs.Moments.{Page}
 use Rattle.target_history.specs.Event.{Event, edited}
 use Rattle.target_history.specs.History.{Opening, config_of, generation_of, happened}
 use Rattle.target_history.specs.Occurrence.{Occurrence}

@@ -1,9 +1,9 @@
 -- What a host learns of a target.
 use Rattle.std.specs.Prelude.{◌≡◌, ℕ, List}
-use Rattle.host_discovery.specs.Discover.{Answered, HadPage}
-use Rattle.host_discovery.specs.Laws.{HasFewChanges, IsOfLastTry}
-use Rattle.host_discovery.specs.Moments.{AreMoments, AreShown, bytes_of}
-use Rattle.host_discovery.specs.Verdict.{Given}
+use Rattle.host_pages.specs.Discover.{Answered, HadPage}
+use Rattle.host_pages.specs.DiscoveryLaws.{HasFewChanges, IsOfLastTry}
+use Rattle.host_pages.specs.Moments.{AreMoments, AreShown, bytes_of}
+use Rattle.host_pages.specs.Verdict.{Given}
 use Rattle.target_history.specs.Event.{Event}
 use Rattle.target_history.specs.History.{Opening, page_of}
 use Rattle.discovery_history.specs.Growing.{AreOfATarget, changes_at, happened_by, page_at}

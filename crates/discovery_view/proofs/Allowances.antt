@@ -3,7 +3,7 @@ use Rattle.std.proofs.Common.{◌≡◌, ℕ, Bool, true, false, ◌&&◌, ◌||
 use Rattle.std.proofs.Math.Path.{fun_ext}
 use Rattle.std.proofs.lemmas.List.Folds.{list_any-append}
 use Rattle.config_lists.specs.declared.allow.Allow.{Allow}
-use Rattle.config_rules.specs.Configuration.{Configuration, has_allow}
+use Rattle.nvt_config.specs.Configuration.{Configuration, has_allow}
 use Rattle.discovery_view.specs.Allowed.{is_named}
 use Rattle.discovery_view.specs.Catalog.{places_by, places_of}
 use Rattle.discovery_view.proofs.Rows.{own_name}

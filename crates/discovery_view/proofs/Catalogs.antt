@@ -8,8 +8,8 @@ use Rattle.std.specs.List.{AllByRecursion, flat_map, list_any}
 use Rattle.config_lists.specs.declared.allow.Allow.{Allow}
 use Rattle.config_lists.specs.declared.port.Port.{Port}
 use Rattle.config_lists.specs.declared.subsystem.Subsystem.{Subsystem}
-use Rattle.config_rules.specs.Configuration.{Configuration, has_allow, has_link}
-use Rattle.config_rules.specs.Permission.{is_open_subsystem}
+use Rattle.nvt_config.specs.Configuration.{Configuration, has_allow, has_link}
+use Rattle.nvt_config.specs.Permission.{is_open_subsystem}
 use Rattle.discovery_view.specs.Catalog.{catalog_of, is_referral, is_shown, linked_among, no_parts, places_from, places_of, records_at}
 use Rattle.discovery_view.specs.Plan.{common_first, spliced}
 use Rattle.discovery_view.specs.Ready.{AreReady, IsWithin, Places}

@@ -2,7 +2,7 @@
 use Rattle.std.proofs.Common.{◌≡◌, ◌≢◌, ℕ, zero, suc, ◌<◌, ◌+◌, ◌%◌, ◌^◌, ◌==◌, Bool, true, false, not, List, [], ◌∷◌, bytes_eq, refl, ap, sym, ◌∙◌, arith, inl, inr}
 use Rattle.std.proofs.lemmas.Bool.{cases_Bool, eq-eqb, ne_eqb}
 use Rattle.std.specs.Prelude.{if◌then◌else◌}
-use Rattle.config_rules.specs.Configuration.{Configuration}
+use Rattle.nvt_config.specs.Configuration.{Configuration}
 use Rattle.discovery_view.specs.Catalog.{records_at}
 use Rattle.discovery_view.specs.Plan.{IsPlaceOf, LeadsTo, Planned, row_set, rows_after, shown_after, slots_after}
 use Rattle.discovery_view.specs.Ready.{AreOf, Places, has_row, row_at, shown_by}

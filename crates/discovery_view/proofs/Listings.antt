@@ -7,9 +7,9 @@ use Rattle.std.proofs.lemmas.List.Kept.{AllPairs-cons, AllPairs-filter}
 use Rattle.std.specs.List.{flat_map}
 use Rattle.config_lists.specs.declared.port.Port.{Port}
 use Rattle.config_lists.specs.declared.subsystem.Subsystem.{Subsystem}
-use Rattle.config_rules.specs.Configuration.{Configuration}
-use Rattle.config_rules.specs.Valid.{ArePorts, IsValid}
-use Rattle.config_rules.specs.Permission.{may_use}
+use Rattle.nvt_config.specs.Configuration.{Configuration}
+use Rattle.nvt_config.specs.Valid.{ArePorts, IsValid}
+use Rattle.nvt_config.specs.Permission.{may_use}
 use Rattle.discovery_view.specs.declared.record.Subtype.TheVariants.{Referral, NvmSubsystem}
 use Rattle.discovery_view.specs.Listing.{IsBefore, IsListing, IsReferral, IsServed, IsShown}
 use Rattle.discovery_view.specs.Order.{in_order, name_below, put_in_order}

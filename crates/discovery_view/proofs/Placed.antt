@@ -3,16 +3,16 @@ use Rattle.std.proofs.Common.{◌≡◌, ℕ, ◌+◌, ◌==◌, ◌⊎◌, List
 use Rattle.std.proofs.lemmas.Bool.{cases_Bool, eqb-true}
 use Rattle.std.specs.Prelude.{if◌then◌else◌}
 use Rattle.std.specs.List.{flat_map}
-use Rattle.config_edits.specs.declared.edit.Edit.{Edit}
-use Rattle.config_edits.specs.declared.edit.Edit.TheVariants.{PortSet, ReferralSet, HostAdd}
-use Rattle.config_edits.specs.declared.edit.Endpoint.{Endpoint}
+use Rattle.config_lists.specs.declared.edit.Edit.{Edit}
+use Rattle.config_lists.specs.declared.edit.Edit.TheVariants.{PortSet, ReferralSet, HostAdd}
+use Rattle.config_lists.specs.declared.edit.Endpoint.{Endpoint}
 use Rattle.config_lists.specs.declared.host.Host.{Host}
 use Rattle.config_lists.specs.declared.port.Port.{Port}
 use Rattle.config_lists.specs.declared.subsystem.Subsystem.{Subsystem}
-use Rattle.config_rules.specs.Accept.{accept, effect, port_of}
-use Rattle.config_rules.specs.Configuration.{Configuration, has_link, with_host, with_port_set, with_referral_set}
-use Rattle.config_rules.proofs.Hosts.{hosts_alone}
-use Rattle.config_rules.proofs.Refusals.{is_effect}
+use Rattle.nvt_config.specs.Accept.{accept, effect, port_of}
+use Rattle.nvt_config.specs.Configuration.{Configuration, has_link, with_host, with_port_set, with_referral_set}
+use Rattle.nvt_config.proofs.Hosts.{hosts_alone}
+use Rattle.nvt_config.proofs.Refusals.{is_effect}
 use Rattle.discovery_view.specs.Catalog.{is_shown, linked_among, places_from, places_of}
 use Rattle.discovery_view.specs.Order.{in_order, put_in_order}
 use Rattle.discovery_view.specs.Record.{Parts}

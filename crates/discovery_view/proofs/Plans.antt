@@ -8,7 +8,7 @@ use Rattle.std.specs.Prelude.{MatchOption, if◌then◌else◌, position}
 use Rattle.std.specs.List.{position_or_len}
 use Rattle.std.specs.Map.{keys_of}
 use Rattle.indexmap.specs.IndexMap.{set_value_at}
-use Rattle.config_rules.specs.Configuration.{Configuration}
+use Rattle.nvt_config.specs.Configuration.{Configuration}
 use Rattle.discovery_view.specs.declared.rows_plan.RowsPlan.{RowsPlan}
 use Rattle.discovery_view.specs.declared.rows_plan.RowsPlan.TheVariants.{Stay, One}
 use Rattle.discovery_view.specs.Catalog.{catalog_of, places_of, records_at}

@@ -3,9 +3,9 @@ use Rattle.std.proofs.Common.{◌≡◌, ℕ, Bool, true, false, ◌&&◌, ◌||
 use Rattle.std.proofs.Math.Path.{fun_ext}
 use Rattle.std.proofs.lemmas.Bool.{cases_Bool, both_ways, false_from_ne_true}
 use Rattle.std.proofs.lemmas.List.Folds.{list_any-append}
-use Rattle.config_edits.specs.declared.edit.Edit.{Edit}
-use Rattle.config_edits.specs.declared.edit.Edit.TheVariants.{NamespaceAdd, NamespaceSize, NamespaceGroup, NamespaceDel, NamespaceView, NamespaceShow, NamespaceHide, HostDel, AllowAdd, AllowDel, AnaSet}
-use Rattle.config_edits.specs.declared.edit.NewNamespace.{NewNamespace}
+use Rattle.config_lists.specs.declared.edit.Edit.{Edit}
+use Rattle.config_lists.specs.declared.edit.Edit.TheVariants.{NamespaceAdd, NamespaceSize, NamespaceGroup, NamespaceDel, NamespaceView, NamespaceShow, NamespaceHide, HostDel, AllowAdd, AllowDel, AnaSet}
+use Rattle.config_lists.specs.declared.edit.NewNamespace.{NewNamespace}
 use Rattle.config_lists.specs.declared.allow.Allow.{Allow}
 use Rattle.config_lists.specs.declared.group_state.AnaState.{AnaState}
 use Rattle.config_lists.specs.declared.group_state.GroupState.{GroupState}
@@ -14,10 +14,10 @@ use Rattle.config_lists.specs.declared.namespace.Namespace.{Namespace}
 use Rattle.config_lists.specs.declared.namespace.Visibility.{Visibility}
 use Rattle.config_lists.specs.declared.show.Show.{Show}
 use Rattle.config_lists.specs.Lists.{without}
-use Rattle.config_rules.specs.Accept.{accept, effect}
-use Rattle.config_rules.specs.Configuration.{Configuration, has_allow, with_allow, without_allow}
-use Rattle.config_rules.proofs.Refusals.{is_effect}
-use Rattle.config_rules.proofs.States.{states_alone}
+use Rattle.nvt_config.specs.Accept.{accept, effect}
+use Rattle.nvt_config.specs.Configuration.{Configuration, has_allow, with_allow, without_allow}
+use Rattle.nvt_config.proofs.Refusals.{is_effect}
+use Rattle.nvt_config.proofs.States.{states_alone}
 use Rattle.discovery_view.specs.declared.allowed.Allowance.{Allowance}
 use Rattle.discovery_view.specs.declared.allowed.Allowance.TheVariants.{Given, Taken}
 use Rattle.discovery_view.specs.Allowed.{allows_after, edit_of, host_of}

@@ -1,20 +1,20 @@
 -- An edit forms no more records than it reaches.
 use Rattle.std.proofs.Common.{◌≡◌, ℕ, ◌≤◌, ◌+◌, Bool, true, false, List, [], ◌∷◌, ◌++◌, length, filter, Result, Ok, Err, IfOk, IsOk, refl, sym, ap, subst, ◌∙◌, arith, append-nil}
 use Rattle.std.proofs.lemmas.Bool.{eq-eqb, eqb-true, not-false}
-use Rattle.config_edits.specs.declared.edit.Edit.{Edit}
-use Rattle.config_edits.specs.declared.edit.Edit.TheVariants.{SubsystemAdd, SubsystemSet, SubsystemDel, PortAdd, PortSet, PortDel, LinkAdd, LinkDel, HostAdd, AnaSet, ReferralAdd, ReferralSet, ReferralDel}
-use Rattle.config_edits.specs.declared.fault.EditFault.{EditFault}
+use Rattle.config_lists.specs.declared.edit.Edit.{Edit}
+use Rattle.config_lists.specs.declared.edit.Edit.TheVariants.{SubsystemAdd, SubsystemSet, SubsystemDel, PortAdd, PortSet, PortDel, LinkAdd, LinkDel, HostAdd, AnaSet, ReferralAdd, ReferralSet, ReferralDel}
+use Rattle.config_lists.specs.declared.fault.EditFault.{EditFault}
 use Rattle.config_lists.specs.declared.link.Link.{Link}
 use Rattle.config_lists.specs.declared.port.Port.{Port}
 use Rattle.config_lists.specs.declared.subsystem.Access.{Access}
 use Rattle.config_lists.specs.declared.subsystem.Subsystem.{Subsystem}
 use Rattle.config_lists.specs.Lists.{without}
-use Rattle.config_rules.specs.Accept.{accept, effect, port_of, refusals}
-use Rattle.config_rules.specs.Configuration.{Configuration, has_link, has_port, has_subsystem, is_subsystem_linked, with_access, with_link, with_port, with_port_set, with_referral, with_referral_set, with_subsystem, without_link, without_port, without_referral, without_subsystem}
-use Rattle.config_rules.specs.Valid.{IsValid}
-use Rattle.config_rules.proofs.Hosts.{hosts_alone}
-use Rattle.config_rules.proofs.Refusals.{Unless, accepted, whatever}
-use Rattle.config_rules.proofs.States.{states_alone}
+use Rattle.nvt_config.specs.Accept.{accept, effect, port_of, refusals}
+use Rattle.nvt_config.specs.Configuration.{Configuration, has_link, has_port, has_subsystem, is_subsystem_linked, with_access, with_link, with_port, with_port_set, with_referral, with_referral_set, with_subsystem, without_link, without_port, without_referral, without_subsystem}
+use Rattle.nvt_config.specs.Valid.{IsValid}
+use Rattle.nvt_config.proofs.Hosts.{hosts_alone}
+use Rattle.nvt_config.proofs.Refusals.{Unless, accepted, whatever}
+use Rattle.nvt_config.proofs.States.{states_alone}
 use Rattle.discovery_view.specs.Catalog.{catalog_of}
 use Rattle.discovery_view.specs.Order.{in_order}
 use Rattle.discovery_view.specs.Plan.{IsLeast, LeadsTo, Planned}

@@ -14,8 +14,8 @@ use Rattle.config_lists.specs.declared.link.Link.{Link}
 use Rattle.config_lists.specs.declared.port.Port.{Port}
 use Rattle.config_lists.specs.declared.subsystem.Subsystem.{Subsystem}
 use Rattle.config_lists.specs.Lists.{without}
-use Rattle.config_rules.specs.Configuration.{Configuration, has_link, has_port, has_subsystem, is_port_linked, is_subsystem_linked}
-use Rattle.config_rules.specs.Valid.{ArePorts, AreSubsystems, IsLink}
+use Rattle.nvt_config.specs.Configuration.{Configuration, has_link, has_port, has_subsystem, is_port_linked, is_subsystem_linked}
+use Rattle.nvt_config.specs.Valid.{ArePorts, AreSubsystems, IsLink}
 use Rattle.discovery_view.specs.Order.{in_order, name_below}
 use Rattle.discovery_view.specs.Record.{Parts}
 use Rattle.discovery_view.specs.Records.{parts_of, referral_of}

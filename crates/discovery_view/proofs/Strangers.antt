@@ -7,9 +7,9 @@ use Rattle.std.specs.List.{flat_map, list_any}
 use Rattle.config_lists.specs.declared.allow.Allow.{Allow}
 use Rattle.config_lists.specs.declared.host.Host.{Host}
 use Rattle.config_lists.specs.declared.subsystem.Subsystem.{Subsystem}
-use Rattle.config_rules.specs.Configuration.{Configuration, has_allow, has_host, has_live_host}
-use Rattle.config_rules.specs.Permission.{is_open_subsystem, may_use}
-use Rattle.config_rules.specs.Valid.{IsAllow, IsValid}
+use Rattle.nvt_config.specs.Configuration.{Configuration, has_allow, has_host, has_live_host}
+use Rattle.nvt_config.specs.Permission.{is_open_subsystem, may_use}
+use Rattle.nvt_config.specs.Valid.{IsAllow, IsValid}
 use Rattle.discovery_view.specs.Catalog.{catalog_of, is_referral, places_from, places_of}
 use Rattle.discovery_view.specs.Ready.{AreReady, AreWithin, Follows, Places, count_from, names_before, names_in, next_places, places_after, row_at, row_before, shown_by, stranger, strangers_before, with_rows}
 use Rattle.discovery_view.specs.Record.{Parts}

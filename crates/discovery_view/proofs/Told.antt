@@ -19,7 +19,7 @@ use Rattle.config_lists.specs.declared.port.Family.TheVariants.{Ipv4, Ipv6}
 use Rattle.config_lists.specs.declared.port.Port.{Port}
 use Rattle.config_lists.specs.declared.subsystem.Subsystem.{Subsystem}
 use Rattle.config_lists.specs.Port.{is_port}
-use Rattle.config_rules.specs.Configuration.{Configuration}
+use Rattle.nvt_config.specs.Configuration.{Configuration}
 use Rattle.nvt_fields.specs.Field.{padded}
 use Rattle.nvt_fields.specs.Name.{IsName, discovery_nqn}
 use Rattle.discovery_view.specs.declared.record.Subtype.{Subtype}

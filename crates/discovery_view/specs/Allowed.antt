@@ -5,8 +5,8 @@ use Rattle.std.specs.List.{list_any}
 use Rattle.std.specs.Str.{bytes_eq}
 use Rattle.config_lists.specs.declared.allow.Allow.{Allow}
 use Rattle.config_lists.specs.Lists.{without}
-use Rattle.config_edits.specs.declared.edit.Edit.{Edit}
-use Rattle.config_edits.specs.declared.edit.Edit.TheVariants.{AllowAdd, AllowDel}
+use Rattle.config_lists.specs.declared.edit.Edit.{Edit}
+use Rattle.config_lists.specs.declared.edit.Edit.TheVariants.{AllowAdd, AllowDel}
 use Rattle.discovery_view.specs.declared.allowed.Allowance.{Allowance}
 use Rattle.discovery_view.specs.declared.allowed.Allowance.TheVariants.{Given, Taken}
 

@@ -5,8 +5,8 @@ use Rattle.std.specs.List.{flat_map}
 use Rattle.config_lists.specs.declared.port.Port.{Port}
 use Rattle.config_lists.specs.declared.port.Family.TheVariants.{Ipv4}
 use Rattle.config_lists.specs.declared.subsystem.Subsystem.{Subsystem}
-use Rattle.config_rules.specs.Configuration.{Configuration, has_allow, has_link}
-use Rattle.config_rules.specs.Permission.{is_open_subsystem}
+use Rattle.nvt_config.specs.Configuration.{Configuration, has_allow, has_link}
+use Rattle.nvt_config.specs.Permission.{is_open_subsystem}
 use Rattle.discovery_view.specs.Allowed.{is_named}
 use Rattle.discovery_view.specs.declared.record.Subtype.{Subtype}
 use Rattle.discovery_view.specs.declared.record.Subtype.TheVariants.{Referral, NvmSubsystem}

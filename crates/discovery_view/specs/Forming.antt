@@ -1,11 +1,11 @@
 -- How many records an edit may form anew: its reach.
 use Rattle.std.specs.Prelude.{◌≡◌, ◌≤◌, ◌==◌, ℕ, List, Ok, filter, length}
 use Rattle.std.specs.Str.{bytes_eq}
-use Rattle.config_edits.specs.declared.edit.Edit.{Edit}
-use Rattle.config_edits.specs.declared.edit.Edit.TheVariants.{SubsystemSet, PortSet, LinkAdd, AllowAdd, ReferralAdd, ReferralSet}
-use Rattle.config_rules.specs.Accept.{accept}
-use Rattle.config_rules.specs.Configuration.{Configuration}
-use Rattle.config_rules.specs.Valid.{IsValid}
+use Rattle.config_lists.specs.declared.edit.Edit.{Edit}
+use Rattle.config_lists.specs.declared.edit.Edit.TheVariants.{SubsystemSet, PortSet, LinkAdd, AllowAdd, ReferralAdd, ReferralSet}
+use Rattle.nvt_config.specs.Accept.{accept}
+use Rattle.nvt_config.specs.Configuration.{Configuration}
+use Rattle.nvt_config.specs.Valid.{IsValid}
 use Rattle.discovery_view.specs.Catalog.{catalog_of}
 use Rattle.discovery_view.specs.Plan.{IsLeast, Planned}
 

@@ -2,9 +2,9 @@
 use Rattle.std.specs.Prelude.{◌≡◌, ◌<◌, ◌⊎◌, ◌↔◌, ℕ, List, AllPairs, Contains, IsTrue}
 use Rattle.config_lists.specs.declared.port.Port.{Port}
 use Rattle.config_lists.specs.declared.subsystem.Subsystem.{Subsystem}
-use Rattle.config_rules.specs.Configuration.{Configuration}
-use Rattle.config_rules.specs.Valid.{IsValid}
-use Rattle.config_rules.specs.Permission.{may_use}
+use Rattle.nvt_config.specs.Configuration.{Configuration}
+use Rattle.nvt_config.specs.Valid.{IsValid}
+use Rattle.nvt_config.specs.Permission.{may_use}
 use Rattle.discovery_view.specs.declared.record.Subtype.TheVariants.{Referral, NvmSubsystem}
 use Rattle.discovery_view.specs.Order.{name_below}
 use Rattle.discovery_view.specs.Record.{Parts}

@@ -3,7 +3,7 @@ use Rattle.std.specs.Prelude.{◌≡◌, ◌≤◌, ◌+◌, ◌-◌, ℕ, zero,
 use Rattle.std.specs.Str.{bytes_eq}
 use Rattle.discovery_view.specs.declared.rows_plan.RowsPlan.{RowsPlan}
 use Rattle.discovery_view.specs.declared.rows_plan.RowsPlan.TheVariants.{Stay, One, All}
-use Rattle.config_rules.specs.Configuration.{Configuration}
+use Rattle.nvt_config.specs.Configuration.{Configuration}
 use Rattle.discovery_view.specs.Catalog.{catalog_of}
 use Rattle.discovery_view.specs.Ready.{AreOf, AreWithin, Places, shown_by}
 use Rattle.discovery_view.specs.Record.{Parts, same_parts}

@@ -1,8 +1,8 @@
 -- Whose records an edit can change.
 use Rattle.std.specs.Prelude.{◌≡◌, ℕ, Bool, false, List, Ok}
-use Rattle.config_edits.specs.declared.edit.Edit.{Edit}
-use Rattle.config_rules.specs.Accept.{accept}
-use Rattle.config_rules.specs.Configuration.{Configuration}
+use Rattle.config_lists.specs.declared.edit.Edit.{Edit}
+use Rattle.nvt_config.specs.Accept.{accept}
+use Rattle.nvt_config.specs.Configuration.{Configuration}
 use Rattle.discovery_view.specs.Allowed.{edit_of}
 use Rattle.discovery_view.specs.declared.reach.Reach.{Reach}
 use Rattle.discovery_view.specs.declared.reach.Reach.TheVariants.{Nobody, Host, Records, Anybody}

@@ -2,7 +2,7 @@
 use Rattle.std.specs.Prelude.{◌≡◌, ◌≤◌, ◌<◌, ℕ, Bool, List, [], ◌∷◌, ◌++◌, All, length, map, fold, replicate, Option, None, Some, if◌then◌else◌}
 use Rattle.std.specs.List.{list_any}
 use Rattle.std.specs.Str.{bytes_eq}
-use Rattle.config_rules.specs.Configuration.{Configuration}
+use Rattle.nvt_config.specs.Configuration.{Configuration}
 use Rattle.discovery_view.specs.declared.finding.Finding.{Finding}
 use Rattle.discovery_view.specs.declared.finding.Finding.TheVariants.{Sought, Kept}
 use Rattle.discovery_view.specs.Catalog.{catalog_of, places_of, records_at}

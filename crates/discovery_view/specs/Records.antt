@@ -5,8 +5,8 @@ use Rattle.std.specs.Prelude.{ℕ, nat_lt, List, ◌++◌, map, filter}
 use Rattle.std.specs.List.{flat_map}
 use Rattle.config_lists.specs.declared.port.Port.{Port}
 use Rattle.config_lists.specs.declared.subsystem.Subsystem.{Subsystem}
-use Rattle.config_rules.specs.Configuration.{Configuration}
-use Rattle.config_rules.specs.Permission.{may_use}
+use Rattle.nvt_config.specs.Configuration.{Configuration}
+use Rattle.nvt_config.specs.Permission.{may_use}
 use Rattle.nvt_fields.specs.Name.{discovery_nqn}
 use Rattle.discovery_view.specs.declared.record.Subtype.{Subtype}
 use Rattle.discovery_view.specs.declared.record.Subtype.TheVariants.{Referral, NvmSubsystem}

@@ -1,8 +1,8 @@
 -- What records tell, and their bytes.
 use Rattle.std.specs.Prelude.{◌≡◌, ◌≢◌, ◌↔◌, ℕ, true, List, All, length, map}
 use Rattle.std.specs.List.{flat_map}
-use Rattle.config_rules.specs.Configuration.{Configuration}
-use Rattle.config_rules.specs.Valid.{IsValid}
+use Rattle.nvt_config.specs.Configuration.{Configuration}
+use Rattle.nvt_config.specs.Valid.{IsValid}
 use Rattle.nvt_fields.specs.Name.{IsName}
 use Rattle.discovery_view.specs.Record.{Parts, record_of, same_records}
 use Rattle.discovery_view.specs.Records.{records_of}

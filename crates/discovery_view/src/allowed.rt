@@ -1,7 +1,7 @@
 //! The subsystems that allow a host.
 ghost use Rattle.std.specs.Prelude.{◌≡◌, ℕ, IfOk, List};
 ghost use Rattle.config_lists.specs.Lists.{without};
-ghost use Rattle.config_rules.specs.Configuration.{has_allow};
+ghost use Rattle.nvt_config.specs.Configuration.{has_allow};
 ghost use Rattle.discovery_view.specs.Allowed.{allows_after, host_of, is_allow_of, is_named};
 
 use nvt_config::Config;

@@ -31,7 +31,7 @@ pub(crate) struct Catalog<'a> {
 
 impl<'a> Model for Catalog<'a> {
     ghost use Rattle.std.specs.Prelude.{◌≡◌, map};
-    ghost use Rattle.config_rules.specs.Configuration.{Configuration};
+    ghost use Rattle.nvt_config.specs.Configuration.{Configuration};
     ghost use Rattle.discovery_view.specs.Catalog.{catalog_of, is_for_all};
     ghost use Rattle.discovery_view.specs.Ready.{AreReady};
 

@@ -1,7 +1,7 @@
 //! A table of records, and for each host the places of its records in it.
 ghost use Rattle.std.specs.Prelude.{◌≡◌, IfOk, IsOk, Some};
-ghost use Rattle.config_rules.specs.Accept.{accept};
-ghost use Rattle.config_rules.specs.Configuration.{Configuration};
+ghost use Rattle.nvt_config.specs.Accept.{accept};
+ghost use Rattle.nvt_config.specs.Configuration.{Configuration};
 ghost use Rattle.discovery_view.specs.Allowed.{allows_after, edit_of, host_of};
 ghost use Rattle.discovery_view.specs.Catalog.{catalog_of};
 ghost use Rattle.discovery_view.specs.Plan.{IsPlannedFor, LeadsTo, rows_after, shown_after};

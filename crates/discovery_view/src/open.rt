@@ -1,6 +1,6 @@
 //! The open subsystems of a configuration.
 ghost use Rattle.std.specs.Prelude.{◌≡◌, ℕ, IfOk, List};
-ghost use Rattle.config_rules.specs.Permission.{is_open_subsystem};
+ghost use Rattle.nvt_config.specs.Permission.{is_open_subsystem};
 ghost use Rattle.discovery_view.specs.Allowed.{is_named};
 
 use crate::allowed::is_among;
@@ -18,8 +18,8 @@ pub(crate) struct OpenSubsystems<'a> {
 
 impl<'a> Model for OpenSubsystems<'a> {
     ghost use Rattle.std.specs.Prelude.{◌≡◌, ℕ, List};
-    ghost use Rattle.config_rules.specs.Configuration.{Configuration};
-    ghost use Rattle.config_rules.specs.Permission.{is_open_subsystem};
+    ghost use Rattle.nvt_config.specs.Configuration.{Configuration};
+    ghost use Rattle.nvt_config.specs.Permission.{is_open_subsystem};
     ghost use Rattle.discovery_view.specs.Allowed.{is_named};
 
     ghost Value = { Configuration };

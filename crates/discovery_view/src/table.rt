@@ -2,8 +2,8 @@
 ghost use Rattle.std.specs.Prelude.{◌≡◌, ◌∷◌, ◌++◌, [], false, IfOk, IsFalse, MatchOption, OnOk};
 ghost use Rattle.std.specs.Prelude.{map};
 ghost use Rattle.std.specs.Option.{option_copied};
-ghost use Rattle.config_rules.specs.Configuration.{has_host};
-ghost use Rattle.config_rules.specs.Valid.{IsValid};
+ghost use Rattle.nvt_config.specs.Configuration.{has_host};
+ghost use Rattle.nvt_config.specs.Valid.{IsValid};
 ghost use Rattle.discovery_view.specs.Plan.{IsPlaceOf, row_set, rows_after};
 ghost use Rattle.discovery_view.specs.Ready.{AreFound, Follows, has_row, names_before, next_places};
 ghost use Rattle.discovery_view.specs.Ready.{places_after};

@@ -1,8 +1,8 @@
 //! A discovery view: it follows the edits of a configuration and lends each host its page.
 ghost use Rattle.std.specs.Prelude.{◌≡◌, ◌≤◌, ◌+◌, IsOk, IfOk, MatchOption, OnErr, length, nat_lt};
 ghost use Rattle.std.specs.Prelude.{slice_index_or};
-ghost use Rattle.config_rules.specs.Accept.{accept};
-ghost use Rattle.config_rules.specs.Configuration.{Configuration};
+ghost use Rattle.nvt_config.specs.Accept.{accept};
+ghost use Rattle.nvt_config.specs.Configuration.{Configuration};
 ghost use Rattle.nvt_fields.specs.Window.{window};
 ghost use Rattle.discovery_view.specs.Plan.{IsPlannedFor, LeadsTo, rows_after, shown_after};
 ghost use Rattle.discovery_view.specs.Plan.{slots_after};

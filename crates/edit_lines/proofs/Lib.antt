@@ -1,2 +1,5 @@
+pub mod Fronts
+pub mod PduLemmas
 pub mod Refused
+pub mod Splits
 pub mod Taking

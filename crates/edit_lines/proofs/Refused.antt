@@ -1,12 +1,12 @@
 -- Why a line that is not read is refused.
 use Rattle.std.proofs.Common.{◌≡◌, ℕ, List, MatchOption, IsOkUnless, Option, Some, None, Result, Err, refl, sym, ap, ◌∙◌, subst}
-use Rattle.config_edits.specs.declared.edit.Edit.{Edit}
-use Rattle.config_rules.specs.Configuration.{Configuration}
-use Rattle.line_words.specs.declared.fault.LineFault.{LineFault}
-use Rattle.line_words.specs.declared.fault.LineFaultKind.{LineFaultKind}
-use Rattle.line_words.specs.declared.fault.LineFaultKind.TheVariants.{TooLong, Empty, UnknownWord, Missing, BadNumber, BadNqn, BadUuid, BadWord, Extra, Memory}
-use Rattle.line_words.specs.Fault.{memory_fault}
-use Rattle.line_words.specs.Words.{line_fault}
+use Rattle.config_lists.specs.declared.edit.Edit.{Edit}
+use Rattle.nvt_config.specs.Configuration.{Configuration}
+use Rattle.config_text.specs.declared.fault.LineFault.{LineFault}
+use Rattle.config_text.specs.declared.fault.LineFaultKind.{LineFaultKind}
+use Rattle.config_text.specs.declared.fault.LineFaultKind.TheVariants.{TooLong, Empty, UnknownWord, Missing, BadNumber, BadNqn, BadUuid, BadWord, Extra, Memory}
+use Rattle.config_text.specs.Fault.{memory_fault}
+use Rattle.config_text.specs.Words.{line_fault}
 use Rattle.edit_lines.specs.Line.{IsRefused, not_read, not_read_by}
 
 -- a line that is not read

@@ -2,15 +2,15 @@
 use Rattle.std.proofs.Common.{◌≡◌, ℕ, ◌+◌, ◌-◌, ◌<◌, List, [], ◌∷◌, ◌++◌, length, suc, map, get_or, get_or-drop, take, drop, length-drop, refl, sym, ap, subst, ◌∙◌, arith, true, Ok}
 use Rattle.std.proofs.lemmas.List.{drop-drop, length-replicate, take_all, take_more}
 use Rattle.block_store.specs.Unit.{zero_unit}
-use Rattle.config_edits.specs.declared.edit.Edit.{Edit}
-use Rattle.config_rules.specs.Accept.{accept}
-use Rattle.config_rules.specs.Configuration.{Configuration, are_disks, disks_alone}
+use Rattle.config_lists.specs.declared.edit.Edit.{Edit}
+use Rattle.nvt_config.specs.Accept.{accept}
+use Rattle.nvt_config.specs.Configuration.{Configuration, are_disks, disks_alone}
 use Rattle.config_text.specs.EditLine.{IsLineOf}
 use Rattle.edit_lines.specs.Configured.{Configures, RefusesDisks, RefusesEdits, RefusesLine, RefusesLines, TransitionByLine, TransitionsByLines, zeroed}
 use Rattle.edit_lines.specs.Line.{Refuses}
-use Rattle.line_words.specs.Lines.{lines_of}
-use Rattle.replay_lines.specs.declared.fault.ReplayFault.{ReplayFault}
-use Rattle.replay_lines.specs.declared.fault.ReplayFault.TheVariants as fault
+use Rattle.config_text.specs.Lines.{lines_of}
+use Rattle.edit_lines.specs.declared.fault.ReplayFault.{ReplayFault}
+use Rattle.edit_lines.specs.declared.fault.ReplayFault.TheVariants as fault
 use Rattle.target_core.specs.Target.{IsNewTarget, TargetState}
 
 -- where a line is left, it is the next

@@ -1,15 +1,15 @@
 -- A target that lines of edits configured, and what is said of lines that are refused.
 use Rattle.std.specs.Prelude.{◌≡◌, ℕ, ◌-◌, ◌≤◌, true, false, List, [], ◌∷◌, length, map, replicate, take, slice_index_or, Result, Ok, Err}
 use Rattle.block_store.specs.Unit.{zero_unit}
-use Rattle.config_edits.specs.declared.edit.Edit.{Edit}
-use Rattle.config_rules.specs.Accept.{accept}
-use Rattle.config_rules.specs.Configuration.{Configuration, are_disks, disks_alone}
+use Rattle.config_lists.specs.declared.edit.Edit.{Edit}
+use Rattle.nvt_config.specs.Accept.{accept}
+use Rattle.nvt_config.specs.Configuration.{Configuration, are_disks, disks_alone}
 use Rattle.config_text.specs.EditLine.{IsLineOf}
 use Rattle.edit_lines.specs.Line.{Refuses}
-use Rattle.line_words.specs.Lines.{lines_of}
-use Rattle.replay_lines.specs.declared.fault.ReplayFault.{ReplayFault}
-use Rattle.replay_lines.specs.declared.fault.ReplayFault.TheVariants.{EditLine, StreamLine, Memory, Io, Disks}
-use Rattle.replay_lines.specs.declared.reply.Reply.{Reply}
+use Rattle.config_text.specs.Lines.{lines_of}
+use Rattle.edit_lines.specs.declared.fault.ReplayFault.{ReplayFault}
+use Rattle.edit_lines.specs.declared.fault.ReplayFault.TheVariants.{EditLine, StreamLine, Memory, Io, Disks}
+use Rattle.edit_lines.specs.declared.reply.Reply.{Reply}
 use Rattle.target_core.specs.Transition.{Transition}
 use Rattle.target_core.specs.Target.{IsNewTarget, TargetState}
 use Rattle.target_history.specs.Event.{edited}

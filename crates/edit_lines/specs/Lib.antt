@@ -1,2 +1,7 @@
 pub mod Configured
+pub mod Fault
 pub mod Line
+pub mod Printed
+pub mod Reply
+pub mod StreamLine
+pub mod Writing

@@ -1,22 +1,22 @@
 -- Lines of edits that are made on a target, and those that are refused.
 use Rattle.std.specs.Prelude.{◌≡◌, ℕ, List, Some, Ok, Err}
-use Rattle.config_edits.specs.declared.edit.Edit.{Edit}
-use Rattle.config_edits.specs.declared.fault.EditFault.{EditFault}
-use Rattle.config_edits.specs.declared.fault.EditFault.TheVariants as why
-use Rattle.config_rules.specs.Accept.{accept}
-use Rattle.config_rules.specs.Configuration.{Configuration}
-use Rattle.line_words.specs.declared.fault.LineFault.{LineFault}
-use Rattle.line_words.specs.declared.fault.LineFaultKind.{LineFaultKind}
-use Rattle.line_words.specs.declared.fault.LineFaultKind.TheVariants as kind
+use Rattle.config_lists.specs.declared.edit.Edit.{Edit}
+use Rattle.config_lists.specs.declared.fault.EditFault.{EditFault}
+use Rattle.config_lists.specs.declared.fault.EditFault.TheVariants as why
+use Rattle.nvt_config.specs.Accept.{accept}
+use Rattle.nvt_config.specs.Configuration.{Configuration}
+use Rattle.config_text.specs.declared.fault.LineFault.{LineFault}
+use Rattle.config_text.specs.declared.fault.LineFaultKind.{LineFaultKind}
+use Rattle.config_text.specs.declared.fault.LineFaultKind.TheVariants as kind
 use Rattle.config_text.specs.EditLine.{IsLineOf}
-use Rattle.line_words.specs.Words.{line_fault}
+use Rattle.config_text.specs.Words.{line_fault}
 use Rattle.target_core.specs.Transition.{Transition}
 use Rattle.target_core.specs.Target.{TargetState}
 use Rattle.target_history.specs.Event.{edited}
 use Rattle.edit_lines.specs.declared.line.NotMade.{NotMade}
 use Rattle.edit_lines.specs.declared.line.NotMade.TheVariants.{Refused, Memory}
-use Rattle.replay_lines.specs.declared.reply.Reply.{Reply}
-use Rattle.replay_lines.specs.declared.reply.Reply.TheVariants as reply
+use Rattle.edit_lines.specs.declared.reply.Reply.{Reply}
+use Rattle.edit_lines.specs.declared.reply.Reply.TheVariants as reply
 
 -- the reply to a line: its fault, or why the configuration refuses its edit
 abbrev pub Refuses : Configuration → List ℕ → Reply → Type 0

@@ -2,17 +2,17 @@
 
 ghost use Rattle.std.specs.Prelude.{◌≡◌, IfErr, IfOk, Ok, OnOk, true};
 ghost use Rattle.std.specs.Bool.{OnFalse};
-ghost use Rattle.config_rules.specs.Accept.{accept};
-ghost use Rattle.config_rules.specs.Configuration.{are_disks, disks_alone};
+ghost use Rattle.nvt_config.specs.Accept.{accept};
+ghost use Rattle.nvt_config.specs.Configuration.{are_disks, disks_alone};
 ghost use Rattle.edit_lines.specs.Configured.{Configures, RefusesDisks, RefusesEdits, RefusesLines};
 ghost use Rattle.edit_lines.specs.Configured.{TakesLine};
 ghost use Rattle.edit_lines.specs.Line.{AppliesLine, IsEditRefused, IsRefused};
-ghost use Rattle.line_words.specs.Lines.{lines_of};
+ghost use Rattle.config_text.specs.Lines.{lines_of};
 
+use crate::ReplayFault;
 use crate::line::{NotMade, not_made, not_read};
 use config_text::{Lines, read_edit};
 use nvt_config::{Config, Edit, NewFault};
-use replay_lines::ReplayFault;
 use std::alloc::Global;
 
 /// The configuration that lines of edits make of disks of these sizes, in units of 512 bytes. It answers as

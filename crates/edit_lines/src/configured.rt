@@ -2,19 +2,19 @@
 
 ghost use Rattle.std.specs.Prelude.{◌≡◌, IfErr, IfOk, OnOk, true};
 ghost use Rattle.std.specs.Bool.{OnFalse};
-ghost use Rattle.config_rules.specs.Configuration.{are_disks, disks_alone};
+ghost use Rattle.nvt_config.specs.Configuration.{are_disks, disks_alone};
 ghost use Rattle.edit_lines.specs.Configured.{Configures, IsConfigured, RefusesDisks, RefusesEdits};
 ghost use Rattle.edit_lines.specs.Configured.{RefusesLines, TakesLine, TransitionByLine};
 ghost use Rattle.edit_lines.specs.Configured.{TransitionsByLines, zeroed};
-ghost use Rattle.line_words.specs.Lines.{lines_of};
+ghost use Rattle.config_text.specs.Lines.{lines_of};
 ghost use Rattle.target_core.specs.Target.{IsNewTarget};
 
+use crate::ReplayFault;
 use crate::disks::memory_disks;
 use crate::line::{NotMade, make_line};
 use block_store::MemoryDisk;
-use config_rules::are_disks;
 use config_text::Lines;
-use replay_lines::ReplayFault;
+use nvt_config::are_disks;
 use std::alloc::Global;
 use target_core::Target;
 

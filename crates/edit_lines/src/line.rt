@@ -1,15 +1,15 @@
 //! Lines of edits that are made on a target.
 
 ghost use Rattle.std.specs.Prelude.{◌≡◌, IfErr, Ok, OnErr, OnOk};
-ghost use Rattle.config_rules.specs.Accept.{accept};
+ghost use Rattle.nvt_config.specs.Accept.{accept};
 ghost use Rattle.target_core.specs.Transition.{Transition};
 ghost use Rattle.target_history.specs.Event.{edited};
 ghost use Rattle.edit_lines.specs.Line.{IsEditRefused, IsRefused, MakesLine, not_made, not_read};
 
+use crate::Reply;
 use block_store::Disk;
 use config_text::{LineFault, LineFaultKind, read_edit};
 use nvt_config::{Edit, EditFault};
-use replay_lines::Reply;
 use std::alloc::Global;
 use target_core::Target;
 

@@ -4,8 +4,8 @@ use Rattle.std.specs.Prelude.{is_ok}
 use Rattle.std.proofs.lemmas.Bool.Decides.{nat_tests}
 use Rattle.nvt_fields.specs.Name.{IsName}
 use Rattle.config_lists.specs.Subsystem.{is_discovery}
-use Rattle.config_rules.specs.Configuration.{Configuration}
-use Rattle.config_rules.specs.Permission.{may_use}
+use Rattle.nvt_config.specs.Configuration.{Configuration}
+use Rattle.nvt_config.specs.Permission.{may_use}
 use Rattle.fabrics_connect.specs.declared.decision.AdmitAs.{AdmitAs}
 use Rattle.property_regs.specs.declared.kind.ControllerKind.{ControllerKind}
 use Rattle.fabrics_connect.specs.declared.decision.Refusal.{Refusal}

@@ -7,7 +7,7 @@ use Rattle.std.proofs.lemmas.Slice.Eq.{bytes_eq-Decides}
 use Rattle.nvt_fields.specs.declared.name.NqnFault.{NqnFault}
 use Rattle.nvt_fields.specs.Name.{IsName, fault_of}
 use Rattle.pdu_codec.specs.ConnectData.{cntlid_at}
-use Rattle.config_rules.specs.Configuration.{Configuration}
+use Rattle.nvt_config.specs.Configuration.{Configuration}
 use Rattle.fabrics_connect.specs.declared.decision.AdmitAs.{AdmitAs}
 use Rattle.fabrics_connect.specs.declared.decision.AdmitAs.TheVariants.{Controller, Queue}
 use Rattle.property_regs.specs.declared.kind.ControllerKind.{ControllerKind}

@@ -4,8 +4,8 @@ use Rattle.std.proofs.lemmas.List.{drop_all, drop_more}
 use Rattle.std.proofs.lemmas.List.Elements.{All-cons, All-contains, All-nil, All-weaker}
 use Rattle.std.proofs.lemmas.List.Kept.{AllPairs-cons}
 use Rattle.std.specs.List.{cons_option}
-use Rattle.number_table.specs.Table.{place}
-use Rattle.number_table.proofs.Tables.{place_within}
+use Rattle.tables.specs.NumberTable.{place}
+use Rattle.tables.proofs.NumberTables.{place_within}
 use Rattle.fabrics_connect.specs.declared.row.Row.{Row}
 use Rattle.fabrics_connect.specs.Controllers.{AreControllers, live_from, live_rows}
 use Rattle.fabrics_connect.specs.Laws.{IsWalk, LiveAreWalked}

@@ -3,8 +3,8 @@ use Rattle.std.proofs.Common.{◌≡◌, ℕ, ◌<◌, ◌≤◌, ◌==◌, true
 use Rattle.std.proofs.lemmas.Bool.{cases_eq}
 use Rattle.std.proofs.lemmas.Bool.Decides.{nat_tests}
 use Rattle.std.proofs.lemmas.List.{get_or-set_same, get_or-set_other}
-use Rattle.number_table.specs.Table.{place, with_value, without}
-use Rattle.number_table.proofs.Tables.{length-with_value, length-without, place_within, place-replicate, place-without}
+use Rattle.tables.specs.NumberTable.{place, with_value, without}
+use Rattle.tables.proofs.NumberTables.{length-with_value, length-without, place_within, place-replicate, place-without}
 use Rattle.fabrics_connect.specs.declared.row.Row.{Row}
 use Rattle.fabrics_connect.specs.Controllers.{AreControllers, CanBegin, ChangedAt, no_controllers}
 

@@ -4,12 +4,12 @@ use Rattle.std.specs.Prelude.{◌≡◌, ℕ, ◌≤◌, Bool, false, not, ◌==
 use Rattle.std.specs.Str.{bytes_eq}
 use Rattle.nvt_fields.specs.Name.{fault_of}
 use Rattle.nvt_fields.specs.Status.{command_sequence_error, connect_controller_busy, connect_invalid_host, incompatible_format}
-use Rattle.number_table.specs.Table.{place}
+use Rattle.tables.specs.NumberTable.{place}
 use Rattle.pdu_codec.specs.ConnectData.{cntlid_at, hostid_at, hostnqn_at, subnqn_at}
 use Rattle.pdu_codec.specs.Sqe.{qid_at, sgl1_of, sqsize_at}
 use Rattle.config_lists.specs.Subsystem.{is_discovery}
-use Rattle.config_rules.specs.Configuration.{Configuration, has_link}
-use Rattle.config_rules.specs.Permission.{may_use}
+use Rattle.nvt_config.specs.Configuration.{Configuration, has_link}
+use Rattle.nvt_config.specs.Permission.{may_use}
 use Rattle.fabrics_connect.specs.declared.decision.AdmitAs.{AdmitAs}
 use Rattle.fabrics_connect.specs.declared.decision.AdmitAs.TheVariants.{Controller, Queue}
 use Rattle.fabrics_connect.specs.declared.decision.Decision.{Decision}

@@ -1,7 +1,7 @@
 -- The controllers that live, by their identifiers (CNTLID).
 use Rattle.std.specs.Prelude.{◌≡◌, ℕ, ◌≤◌, List, drop, length, replicate, find, Option, Some, None, is_none}
 use Rattle.std.specs.List.{filter_map, range_with_len}
-use Rattle.number_table.specs.Table.{place, with_value}
+use Rattle.tables.specs.NumberTable.{place, with_value}
 use Rattle.fabrics_connect.specs.declared.row.Row.{Row}
 
 -- the most controllers at a time

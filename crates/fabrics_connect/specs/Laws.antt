@@ -1,11 +1,11 @@
 -- Laws of the answer to a Connect, and of the controllers that live.
 use Rattle.std.specs.Prelude.{◌≡◌, ◌⊎◌, ◌↔◌, ℕ, ◌≤◌, ◌<◌, false, true, List, All, AllPairs, Contains, Option, Some, None, IsSome, IsSomeAnd}
 use Rattle.nvt_fields.specs.Name.{IsName}
-use Rattle.number_table.specs.Table.{place}
+use Rattle.tables.specs.NumberTable.{place}
 use Rattle.pdu_codec.specs.Sqe.{sgl1_of}
 use Rattle.config_lists.specs.Subsystem.{is_discovery}
-use Rattle.config_rules.specs.Configuration.{Configuration}
-use Rattle.config_rules.specs.Permission.{may_use}
+use Rattle.nvt_config.specs.Configuration.{Configuration}
+use Rattle.nvt_config.specs.Permission.{may_use}
 use Rattle.fabrics_connect.specs.declared.decision.AdmitAs.TheVariants.{Controller, Queue}
 use Rattle.fabrics_connect.specs.declared.decision.Decision.{Decision}
 use Rattle.fabrics_connect.specs.declared.decision.Decision.TheVariants.{Admit, Deny}

@@ -1,7 +1,7 @@
 -- Whether the host of a controller may use its subsystem.
 use Rattle.std.specs.Prelude.{ℕ, Bool, true, List, Option, Some, None}
-use Rattle.config_rules.specs.Configuration.{Configuration}
-use Rattle.config_rules.specs.Permission.{may_use}
+use Rattle.nvt_config.specs.Configuration.{Configuration}
+use Rattle.nvt_config.specs.Permission.{may_use}
 use Rattle.fabrics_connect.specs.declared.row.Row.{Row}
 
 -- any host may use a discovery controller, which is of no subsystem

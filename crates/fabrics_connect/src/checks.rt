@@ -1,7 +1,7 @@
 //! The checks of a Connect whose data is there, in their order.
 ghost use Rattle.std.specs.Prelude.{◌≡◌, Some};
 ghost use Rattle.nvt_fields.specs.Name.{up_to_zero};
-ghost use Rattle.number_table.specs.Table.{place};
+ghost use Rattle.tables.specs.NumberTable.{place};
 ghost use Rattle.config_lists.specs.Subsystem.{is_discovery};
 ghost use Rattle.fabrics_connect.specs.Connect.{begun, format_verdict, is_controller_of};
 ghost use Rattle.fabrics_connect.specs.Connect.{is_served, is_well_formed, join_verdict};

@@ -2,7 +2,7 @@
 ghost use Rattle.std.specs.Prelude.{◌≡◌, ◌+◌, ◌<◌, ◌∷◌, [], IfOk, IfSome, MatchOption, is_none};
 ghost use Rattle.std.specs.Prelude.{length};
 ghost use Rattle.std.specs.Option.{option_copied};
-ghost use Rattle.number_table.specs.Table.{place, with_value, without};
+ghost use Rattle.tables.specs.NumberTable.{place, with_value, without};
 ghost use Rattle.fabrics_connect.specs.Controllers.{CanBegin, ChangedAt, free_cntlid};
 ghost use Rattle.fabrics_connect.specs.Controllers.{live_from, live_rows, no_controllers};
 ghost use Rattle.fabrics_connect.specs.Row.{joined, left, left_all, with_ready};
@@ -10,9 +10,9 @@ ghost use Rattle.fabrics_connect.specs.Row.{joined, left, left_all, with_ready};
 use crate::queue_ids::QueueIds;
 use crate::row::Row;
 use crate::walk::Walk;
-use number_table::NumberTable;
 use std::alloc::{AllocError, Global};
 use std::marker::Model;
+use tables::NumberTable;
 
 /// The most controllers at a time.
 pub const CONTROLLERS_MAX: u16 = 32;

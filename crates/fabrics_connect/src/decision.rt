@@ -1,6 +1,6 @@
 //! What a target answers to a Connect, as a value.
 ghost use Rattle.std.specs.Prelude.{◌≡◌, ℕ};
-ghost use Rattle.number_table.specs.Table.{place};
+ghost use Rattle.tables.specs.NumberTable.{place};
 ghost use Rattle.fabrics_connect.specs.Command.{HasNames};
 ghost use Rattle.fabrics_connect.specs.Connect.{answer_to, connect};
 ghost use Rattle.fabrics_connect.specs.Connect.{CanJoin, IfController, IfQueue};

@@ -3,12 +3,12 @@ use Rattle.std.proofs.Common.{◌≡◌, ℕ, List, [], ◌∷◌, ◌++◌, Res
 use Rattle.std.specs.Prelude.{IfOk}
 use Rattle.host_driver.specs.declared.fault.HostFault.{HostFault}
 use Rattle.pdu_cut.specs.Front.{Front}
-use Rattle.host_wire.specs.declared.params.HostParams.{HostParams}
-use Rattle.host_wire.specs.Command.{Command}
-use Rattle.host_history.specs.Event.{Event, consumed_at, submitted, taken}
-use Rattle.host_history.specs.History.{sent_after, taken_after, took}
-use Rattle.host_history.specs.State.{after_event, state_after}
-use Rattle.host_history.specs.Told.{sends}
+use Rattle.host_driver.specs.declared.params.HostParams.{HostParams}
+use Rattle.host_driver.specs.Command.{Command}
+use Rattle.host_driver.specs.Event.{Event, consumed_at, submitted, taken}
+use Rattle.host_driver.specs.History.{sent_after, taken_after, took}
+use Rattle.host_driver.specs.State.{after_event, state_after}
+use Rattle.host_driver.specs.Told.{sends}
 use Rattle.host_driver.specs.Queue.{AgreesAfter, AgreesAfterAll, IsOpened, QueueState, SubmitsOn, with_taken}
 use Rattle.host_driver.specs.Session.{IsFirst, SessionState, Submits, after}
 

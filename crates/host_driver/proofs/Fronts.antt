@@ -10,8 +10,8 @@ use Rattle.pdu_cut.specs.Front.{BeginsWithPdu, Front, faulty, front, incomplete,
 use Rattle.pdu_cut.specs.Pdu.{Pdu}
 use Rattle.pdu_cut.proofs.Fronts.{front_whole}
 use Rattle.pdu_cut.proofs.Headers.{eight_within}
-use Rattle.pdu_stream.specs.Short.{IsShort}
-use Rattle.host_history.specs.Event.{consumed_at, head_at}
+use Rattle.pdu_cut.specs.Short.{IsShort}
+use Rattle.host_driver.specs.Event.{consumed_at, head_at}
 
 -- a PDU is where the bytes begin
 begins_with : (side : Side) (held : List ℕ) (pdu : Pdu) → BeginsWithPdu side held pdu → held ≡ pdu.bytes ++ drop (length pdu.bytes) held

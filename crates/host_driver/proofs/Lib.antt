@@ -1,5 +1,14 @@
 pub mod Agreeing
+pub mod Behaving
+pub mod Deciding
+pub mod Fitting
 pub mod Fronts
+pub mod Keeping
+pub mod Latest
 pub mod Looping
+pub mod Pieces
+pub mod Placing
 pub mod Safe
+pub mod Sending
 pub mod Taking
+pub mod Whole

@@ -2,8 +2,8 @@
 use Rattle.std.proofs.Common.{◌≡◌, ◌≢◌, List, [], ◌∷◌, ◌++◌, length, Bool, true, false, Result, Ok, Err, refl, sym, ap, subst, inl, inr, arith}
 use Rattle.std.specs.Prelude.{Some, None}
 use Rattle.pdu_cut.specs.Front.{Front, incomplete}
-use Rattle.host_history.specs.Event.{consumed_at}
-use Rattle.host_history.specs.Told.{Told, quiet}
+use Rattle.host_driver.specs.Event.{consumed_at}
+use Rattle.host_driver.specs.Told.{Told, quiet}
 use Rattle.host_driver.specs.declared.answer.HostStep.{HostStep}
 use Rattle.host_driver.specs.declared.answer.HostStep.TheVariants as step
 use Rattle.host_driver.specs.declared.fault.HostFault.{HostFault}

@@ -3,13 +3,13 @@ use Rattle.std.proofs.Common.{length, arith}
 use Rattle.pdu_cut.specs.Pdu.{Pdu, data_part}
 use Rattle.pdu_cut.specs.Front.{whole}
 use Rattle.std.specs.Prelude.{Option, Some, None}
-use Rattle.host_decision.specs.declared.outstanding.Outstanding.{Outstanding}
-use Rattle.host_decision.specs.declared.decision.Decision.{Decision}
-use Rattle.host_decision.specs.declared.decision.Decision.TheVariants as decision
-use Rattle.host_decision.specs.Decision.{cid_named}
-use Rattle.host_decision.specs.Within.{Fills, Fits, IsWithin, Names}
-use Rattle.host_history.specs.Pending.{outstanding_at}
-use Rattle.host_history.specs.State.{HostState}
+use Rattle.host_driver.specs.declared.outstanding.Outstanding.{Outstanding}
+use Rattle.host_driver.specs.declared.decision.Decision.{Decision}
+use Rattle.host_driver.specs.declared.decision.Decision.TheVariants as decision
+use Rattle.host_driver.specs.Decision.{cid_named}
+use Rattle.host_driver.specs.Within.{Fills, Fits, IsWithin, Names}
+use Rattle.host_driver.specs.Pending.{outstanding_at}
+use Rattle.host_driver.specs.State.{HostState}
 use Rattle.host_driver.specs.Session.{IsSafe}
 
 pub is_safe : (s : HostState) (pdu : Pdu) (d : Decision) → IsWithin (outstanding_at s.commands (cid_named pdu)) (length (data_part pdu)) d

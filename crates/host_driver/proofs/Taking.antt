@@ -3,8 +3,8 @@ use Rattle.std.proofs.Common.{◌≡◌, ◌≢◌, ℕ, ◌≤◌, ◌<◌, ◌
 use Rattle.std.specs.Prelude.{Option, Some}
 use Rattle.pdu_cut.specs.declared.side.Side.TheVariants.{Host}
 use Rattle.pdu_cut.specs.Front.{Front, incomplete, whole, faulty}
-use Rattle.host_history.specs.Event.{consumed_at, taken}
-use Rattle.host_history.specs.Told.{quiet}
+use Rattle.host_driver.specs.Event.{consumed_at, taken}
+use Rattle.host_driver.specs.Told.{quiet}
 use Rattle.host_driver.specs.declared.answer.HostStep.{HostStep}
 use Rattle.host_driver.specs.declared.fault.HostFault.{HostFault}
 use Rattle.host_driver.specs.Queue.{QueueState, TakesOne, at_front, moved, tells_at}

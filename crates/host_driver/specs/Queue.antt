@@ -2,12 +2,12 @@
 use Rattle.std.specs.Prelude.{◌≡◌, ◌≢◌, ◌⊎◌, ℕ, ◌≤◌, ◌<◌, List, [], ◌∷◌, ◌++◌, length, drop, Option, Some, Result, Ok, Err, Bool, true, false}
 use Rattle.pdu_cut.specs.declared.side.Side.TheVariants.{Host}
 use Rattle.pdu_cut.specs.Front.{Front, front, incomplete}
-use Rattle.host_wire.specs.declared.params.HostParams.{HostParams}
-use Rattle.host_wire.specs.Command.{Command}
-use Rattle.host_history.specs.Event.{Event, History, consumed_at, submitted, taken}
-use Rattle.host_history.specs.History.{sent_after, taken_after}
-use Rattle.host_history.specs.State.{state_after}
-use Rattle.host_history.specs.Told.{Told, quiet, tells}
+use Rattle.host_driver.specs.declared.params.HostParams.{HostParams}
+use Rattle.host_driver.specs.Command.{Command}
+use Rattle.host_driver.specs.Event.{Event, History, consumed_at, submitted, taken}
+use Rattle.host_driver.specs.History.{sent_after, taken_after}
+use Rattle.host_driver.specs.State.{state_after}
+use Rattle.host_driver.specs.Told.{Told, quiet, tells}
 use Rattle.host_driver.specs.declared.answer.HostStep.{HostStep}
 use Rattle.host_driver.specs.declared.answer.HostStep.TheVariants as step
 use Rattle.host_driver.specs.declared.fault.HostFault.{HostFault}

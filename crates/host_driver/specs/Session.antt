@@ -1,20 +1,20 @@
 -- A queue without what came, and what its calls make of it.
 use Rattle.std.specs.Prelude.{◌≡◌, ℕ, ◌≤◌, nat_lt, ◌||◌, Bool, true, false, List, ◌++◌, length, Option, Some, None, Result, Ok, Err, is_none, position, if◌then◌else◌}
 use Rattle.pdu_cut.specs.Front.{Front}
-use Rattle.host_decision.specs.declared.decision.Decision.{Decision}
-use Rattle.host_decision.specs.declared.decision.Decision.TheVariants as decision
-use Rattle.host_decision.specs.declared.phase.Phase.{Phase}
-use Rattle.host_decision.specs.declared.phase.Phase.TheVariants.{Opened, Initialized, Connected, Failed}
-use Rattle.host_decision.specs.declared.phase.TransportLimits.{TransportLimits}
-use Rattle.host_decision.specs.Within.{AreLimits, Fits, IsNext}
-use Rattle.host_wire.specs.declared.params.HostParams.{HostParams}
-use Rattle.host_wire.specs.Command.{Command}
-use Rattle.host_wire.specs.Requested.{requested_room}
-use Rattle.host_history.specs.Event.{Event, data_at, submitted, taken}
-use Rattle.host_history.specs.History.{request}
-use Rattle.host_history.specs.Pending.{Commands, outstanding_at}
-use Rattle.host_history.specs.State.{HostState, after_event, opened, owed}
-use Rattle.host_history.specs.Told.{Told, answers, closes, connects, quiet, refuses, sends, tells, terminates}
+use Rattle.host_driver.specs.declared.decision.Decision.{Decision}
+use Rattle.host_driver.specs.declared.decision.Decision.TheVariants as decision
+use Rattle.host_driver.specs.declared.phase.Phase.{Phase}
+use Rattle.host_driver.specs.declared.phase.Phase.TheVariants.{Opened, Initialized, Connected, Failed}
+use Rattle.host_driver.specs.declared.phase.TransportLimits.{TransportLimits}
+use Rattle.host_driver.specs.Within.{AreLimits, Fits, IsNext}
+use Rattle.host_driver.specs.declared.params.HostParams.{HostParams}
+use Rattle.host_driver.specs.Command.{Command}
+use Rattle.host_driver.specs.Requested.{requested_room}
+use Rattle.host_driver.specs.Event.{Event, data_at, submitted, taken}
+use Rattle.host_driver.specs.History.{request}
+use Rattle.host_driver.specs.Pending.{Commands, outstanding_at}
+use Rattle.host_driver.specs.State.{HostState, after_event, opened, owed}
+use Rattle.host_driver.specs.Told.{Told, answers, closes, connects, quiet, refuses, sends, tells, terminates}
 use Rattle.pdu_codec.specs.Initialize.{ic_req}
 use Rattle.host_driver.specs.declared.answer.HostStep.{HostStep}
 use Rattle.host_driver.specs.declared.answer.HostStep.TheVariants as step

@@ -1,18 +1,20 @@
 //! What is owed to the front of what came, and doing it.
 ghost use Rattle.std.specs.Prelude.{◌≡◌, ◌≤◌, ◌++◌, Some, length};
 ghost use Rattle.pdu_cut.specs.Cut.{front_shown};
-ghost use Rattle.host_decision.specs.Within.{AreLimits};
-ghost use Rattle.host_history.specs.Event.{data_at, head_at};
-ghost use Rattle.host_history.specs.State.{after_decision, owed};
-ghost use Rattle.host_history.specs.Told.{sends_by, success, told_by};
+ghost use Rattle.host_driver.specs.Within.{AreLimits};
+ghost use Rattle.host_driver.specs.Event.{data_at, head_at};
+ghost use Rattle.host_driver.specs.State.{after_decision, owed};
+ghost use Rattle.host_driver.specs.Told.{sends_by, success, told_by};
 ghost use Rattle.host_driver.specs.Session.{IsSafe, decision_room, told_of};
 
 use crate::answer::{Answer, HostStep, Told};
 use crate::fault::HostFault;
 use crate::state::State;
+use crate::{
+    CONNECT_ROOM, Decision, HostParams, Termination, cid_named, decide, requested_room,
+    write_connect,
+};
 use bytes::BytesMut;
-use host_decision::{Decision, Termination, cid_named, decide};
-use host_wire::{CONNECT_ROOM, HostParams, requested_room, write_connect};
 use nvt_fields::Status;
 use pdu_codec::TermReq;
 use pdu_cut::Cut;

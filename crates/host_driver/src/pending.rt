@@ -1,9 +1,8 @@
 //! A command that is outstanding.
 ghost use Rattle.std.specs.Prelude.{◌≡◌, ◌≤◌, ◌<◌, ◌+◌, ◌^◌, ◌++◌, IfOk, length, vec_capacity};
-ghost use Rattle.host_history.specs.Pending.{begun, connect_begun, outstanding_of, with_data, with_request};
+ghost use Rattle.host_driver.specs.Pending.{begun, connect_begun, outstanding_of, with_data, with_request};
 
-use host_decision::Outstanding;
-use host_wire::{Data, HostCommand};
+use crate::{Data, HostCommand, Outstanding};
 use std::alloc::{AllocError, Global};
 use std::marker::Model;
 
@@ -20,7 +19,7 @@ pub(crate) struct Pending {
 
 impl Model for Pending {
     ghost use Rattle.std.specs.Prelude.{◌≤◌, vec_capacity, vec_len};
-    ghost use Rattle.host_history.specs.Pending.{Pending};
+    ghost use Rattle.host_driver.specs.Pending.{Pending};
 
     ghost Value = { Pending };
 

@@ -6,9 +6,8 @@ ghost use Rattle.host_driver.specs.Queue.{IsOpened, ReceiveAgrees, StepsBy, Step
 use crate::answer::{HostStep, Told};
 use crate::fault::HostFault;
 use crate::session::Session;
-use host_wire::{HostCommand, HostParams};
-use pdu_cut::Cut;
-use pdu_stream::{OfHost, Stream};
+use crate::{HostCommand, HostParams};
+use pdu_cut::{Cut, OfHost, Stream};
 use std::alloc::{AllocError, Global};
 use std::marker::Model;
 

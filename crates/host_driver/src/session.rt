@@ -1,9 +1,9 @@
 //! A queue without what came.
 ghost use Rattle.std.specs.Prelude.{◌≡◌, ◌≤◌, ◌<◌, IfOk, IsOkUnless, MatchOption, Err, None, OnErr, OnOk, drop, length};
-ghost use Rattle.number_table.specs.Table.{place};
+ghost use Rattle.tables.specs.NumberTable.{place};
 ghost use Rattle.pdu_cut.specs.Cut.{front_shown};
-ghost use Rattle.host_decision.specs.Within.{AreLimits};
-ghost use Rattle.host_history.specs.Event.{head_at, submitted};
+ghost use Rattle.host_driver.specs.Within.{AreLimits};
+ghost use Rattle.host_driver.specs.Event.{head_at, submitted};
 ghost use Rattle.host_driver.specs.Session.{AreParams, IsFirst, NeedsRoom, Submits, Tells, after, is_failed, submit_fault};
 
 use crate::act::{act, owed, room_of};
@@ -12,9 +12,8 @@ use crate::fault::HostFault;
 use crate::output::{make_room, take_away};
 use crate::pending::Pending;
 use crate::state::State;
+use crate::{HostCommand, HostParams, Phase, TransportLimits, capsule_room, write_capsule};
 use bytes::BytesMut;
-use host_decision::{Phase, TransportLimits};
-use host_wire::{HostCommand, HostParams, capsule_room, write_capsule};
 use pdu_codec::IcReq;
 use pdu_cut::Cut;
 use std::alloc::{AllocError, Global};

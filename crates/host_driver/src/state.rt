@@ -1,22 +1,21 @@
 //! How far a queue has come, and its outstanding commands.
 ghost use Rattle.std.specs.Prelude.{◌≡◌, ◌≤◌, ◌<◌, ◌+◌, ◌++◌, IfOk, IfSome, Some, None, length, is_none, position};
-ghost use Rattle.number_table.specs.Table.{place, with_value, without};
-ghost use Rattle.host_decision.specs.Within.{AreLimits, Fits, IsNext};
-ghost use Rattle.host_history.specs.Pending.{changed, connect_begun, first_commands, outstanding_at, with_data, with_request};
-ghost use Rattle.host_history.specs.State.{connected_from, in_phase, with_commands};
-ghost use Rattle.host_history.specs.Told.{came_by, requested_in};
-ghost use Rattle.host_wire.specs.Requested.{requested_room};
+ghost use Rattle.tables.specs.NumberTable.{place, with_value, without};
+ghost use Rattle.host_driver.specs.Within.{AreLimits, Fits, IsNext};
+ghost use Rattle.host_driver.specs.Pending.{changed, connect_begun, first_commands, outstanding_at, with_data, with_request};
+ghost use Rattle.host_driver.specs.State.{connected_from, in_phase, with_commands};
+ghost use Rattle.host_driver.specs.Told.{came_by, requested_in};
+ghost use Rattle.host_driver.specs.Requested.{requested_room};
 ghost use Rattle.host_driver.specs.Session.{is_failed, limits_in};
 
 use crate::fault::HostFault;
 use crate::pending::Pending;
+use crate::{Outstanding, Phase, TransportLimits, write_requested};
 use bytes::BytesMut;
-use host_decision::{Outstanding, Phase, TransportLimits};
-use host_wire::write_requested;
-use number_table::NumberTable;
 use pdu_codec::R2t;
 use std::alloc::{AllocError, Global};
 use std::marker::Model;
+use tables::NumberTable;
 
 /// How far a queue has come, and its outstanding commands, by their identifiers.
 #[derive(Debug, Drop)]
@@ -28,7 +27,7 @@ pub(crate) struct State {
 
 impl Model for State {
     ghost use Rattle.std.specs.Prelude.{◌≤◌, length};
-    ghost use Rattle.host_history.specs.State.{HostState};
+    ghost use Rattle.host_driver.specs.State.{HostState};
     ghost use Rattle.host_driver.specs.Session.{HasLimits};
 
     ghost Value = { HostState };
@@ -79,7 +78,7 @@ impl State {
     }
 
     /// The least identifier that is free.
-    #[tactic(auto, using(number_table::proofs::Tables::laws))]
+    #[tactic(auto, using(tables::proofs::NumberTables::laws))]
     pub(crate) fn least_free(&self) -> Option<usize>
         ensures value { result ≡ position is_none self.now.commands }
         ensures within { IfSome result (λ cid. cid < length self.now.commands) }

@@ -1,6 +1,6 @@
 -- The commands of a host, as its queue takes them.
 use Rattle.std.specs.Prelude.{ℕ, ◌+◌, ◌-◌, ◌*◌, ◌/◌, ◌%◌, ◌^◌, List, [], ◌∷◌}
-use Rattle.host_wire.specs.Command.{Command}
+use Rattle.host_driver.specs.Command.{Command}
 use Rattle.host_link.specs.declared.blocks.Blocks.{Blocks}
 use Rattle.host_link.specs.declared.commands.Property.{Property}
 use Rattle.host_link.specs.declared.commands.Property.TheVariants.{ControllerConfiguration, ControllerStatus}

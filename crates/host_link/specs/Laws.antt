@@ -1,8 +1,8 @@
 -- Laws of conversations: what a host's queue received and gave is what its link handed out and took.
 use Rattle.std.specs.Prelude.{◌≡◌, ℕ, List, [], ◌∷◌, ◌++◌, Option, Some, None}
-use Rattle.host_wire.specs.declared.params.HostParams.{HostParams}
-use Rattle.host_wire.specs.Command.{Command}
-use Rattle.host_history.specs.Event.{History, submitted}
+use Rattle.host_driver.specs.declared.params.HostParams.{HostParams}
+use Rattle.host_driver.specs.Command.{Command}
+use Rattle.host_driver.specs.Event.{History, submitted}
 use Rattle.host_driver.specs.Queue.{Agrees, with_taken}
 use Rattle.host_link.specs.Conversation.{Conversation, Receiving, Sending, Step, came, failed, not_asked, sent, unsent}
 use Rattle.host_link.specs.Link.{LinkState, Told}

@@ -1,7 +1,7 @@
 -- What the calls of a session do.
 use Rattle.std.specs.Prelude.{◌≡◌, ◌≢◌, ◌⊎◌, ◌==◌, ◌&&◌, ℕ, ◌%◌, false, List, [], ◌∷◌, Option, Some, None, Result, Ok, Err, if◌then◌else◌}
-use Rattle.host_wire.specs.declared.params.HostParams.{HostParams}
-use Rattle.host_wire.specs.Command.{Command}
+use Rattle.host_driver.specs.declared.params.HostParams.{HostParams}
+use Rattle.host_driver.specs.Command.{Command}
 use Rattle.host_driver.specs.declared.answer.Answer.{Answer}
 use Rattle.host_driver.specs.declared.answer.HostStep.{HostStep}
 use Rattle.host_driver.specs.declared.answer.HostStep.TheVariants as step

@@ -1,5 +1,11 @@
 pub mod GroupLists
+pub mod Holding
 pub mod Lists
+pub mod Moving
+pub mod OneMoment
+pub mod Ordered
 pub mod ReadBack
 pub mod RecordLists
 pub mod Splits
+pub mod Trying
+pub mod Verdicts

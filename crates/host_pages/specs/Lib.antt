@@ -1,7 +1,13 @@
 pub mod AnaLog
+pub mod Discover
+pub mod DiscoveryLaws
 pub mod DiscoveryPage
 pub mod Group
 pub mod Groups
 pub mod Laws
+pub mod Moments
 pub mod NsList
 pub mod Numbers
+pub mod Reads
+pub mod Tries
+pub mod Verdict

@@ -1,6 +1,6 @@
 -- What commands ask controllers for, and over which queues.
 use Rattle.std.specs.Prelude.{◌≡◌, ℕ, List, Option, Some, None, Result, Ok, Err}
-use Rattle.host_wire.specs.Command.{Command}
+use Rattle.host_driver.specs.Command.{Command}
 use Rattle.host_driver.specs.declared.answer.Answer.{Answer}
 use Rattle.host_link.specs.declared.fault.SessionFault.{SessionFault}
 use Rattle.host_link.specs.declared.fault.SessionFault.TheVariants.{BadPage}

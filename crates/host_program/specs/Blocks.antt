@@ -3,7 +3,7 @@ use Rattle.std.specs.Prelude.{◌≡◌, ◌⊎◌, ℕ, ◌*◌, List, replicat
 use Rattle.host_link.specs.declared.blocks.Blocks.{Blocks}
 use Rattle.host_link.specs.declared.fault.SessionFault.{SessionFault}
 use Rattle.host_link.specs.declared.fault.SessionFault.TheVariants.{Memory}
-use Rattle.host_wire.specs.Command.{Command}
+use Rattle.host_driver.specs.Command.{Command}
 use Rattle.host_link.specs.Commands.{read, write}
 use Rattle.host_link.specs.Conversation.{Conversation}
 use Rattle.host_link.specs.Link.{LinkState}

@@ -1,12 +1,12 @@
 -- What the command `discover` does.
 use Rattle.std.specs.Prelude.{◌≡◌, ◌⊎◌, ℕ, zero, suc, List, [], ◌++◌, Option, Result, Ok, Err, codes, flat_map}
-use Rattle.host_discovery.specs.declared.fault.DiscoverFault.{DiscoverFault}
-use Rattle.host_discovery.specs.declared.get_log.GetLog.{GetLog}
-use Rattle.host_discovery.specs.declared.progress.Progress.{Progress}
-use Rattle.host_discovery.specs.declared.progress.Progress.TheVariants.{Asking, Done}
-use Rattle.host_discovery.specs.Discover.{Answers, DiscoverState, asked, asks, settled}
+use Rattle.host_pages.specs.declared.fault.DiscoverFault.{DiscoverFault}
+use Rattle.host_pages.specs.declared.get_log.GetLog.{GetLog}
+use Rattle.host_pages.specs.declared.progress.Progress.{Progress}
+use Rattle.host_pages.specs.declared.progress.Progress.TheVariants.{Asking, Done}
+use Rattle.host_pages.specs.Discover.{Answers, DiscoverState, asked, asks, settled}
 use Rattle.host_pages.specs.DiscoveryPage.{genctr_of, record_count, records_of}
-use Rattle.host_wire.specs.Command.{Command}
+use Rattle.host_driver.specs.Command.{Command}
 use Rattle.host_link.specs.declared.fault.SessionFault.{SessionFault}
 use Rattle.host_link.specs.declared.fault.SessionFault.TheVariants.{Memory, Status}
 use Rattle.host_link.specs.Commands.{get_log_page}

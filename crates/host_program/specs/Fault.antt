@@ -1,7 +1,7 @@
 -- Why a command ends before its end.
 use Rattle.std.specs.Prelude.{Result, Ok, Err}
-use Rattle.host_discovery.specs.declared.fault.DiscoverFault.{DiscoverFault}
-use Rattle.host_discovery.specs.declared.fault.DiscoverFault.TheVariants as discover
+use Rattle.host_pages.specs.declared.fault.DiscoverFault.{DiscoverFault}
+use Rattle.host_pages.specs.declared.fault.DiscoverFault.TheVariants as discover
 use Rattle.host_link.specs.declared.fault.SessionFault.{SessionFault}
 use Rattle.host_link.specs.declared.fault.SessionFault.TheVariants as session
 use Rattle.host_program.specs.declared.fault.CommandFault.{CommandFault}

@@ -1,6 +1,6 @@
 -- What the queues of the program are opened with.
 use Rattle.std.specs.Prelude.{ℕ, replicate}
-use Rattle.host_wire.specs.declared.params.HostParams.{HostParams}
+use Rattle.host_driver.specs.declared.params.HostParams.{HostParams}
 use Rattle.host_program.specs.declared.peers.Peers.{Peers}
 
 -- a queue of these peers, without a keep alive timeout

@@ -1,7 +1,7 @@
 //! The command `discover`.
 ghost use Rattle.std.specs.Prelude.{◌≡◌, ◌<◌, [], Ok, flat_map};
-ghost use Rattle.host_discovery.specs.declared.progress.Progress.TheVariants.{Asking};
-ghost use Rattle.host_discovery.specs.Discover.{answers_left, asks};
+ghost use Rattle.host_pages.specs.declared.progress.Progress.TheVariants.{Asking};
+ghost use Rattle.host_pages.specs.Discover.{answers_left, asks};
 ghost use Rattle.host_program.specs.Discovering.{Discovers, PrintsAll, ReadsPage, ReadsPart, ShowsRecords, TellsRecords, page_text};
 ghost use Rattle.host_program.specs.Lines.{genctr_line, record_line};
 ghost use Rattle.host_program.specs.Printed.{Prints};
@@ -12,10 +12,9 @@ use crate::lines::{push_genctr, push_record};
 use crate::opened::open_admin;
 use crate::peers::Peers;
 use crate::printed::print;
-use host_discovery::{Discover, Progress};
 use host_link::commands::get_log_page;
 use host_link::{Link, Session, SessionFault};
-use host_pages::{DiscoveryPage, DiscoveryRecord, Records};
+use host_pages::{Discover, DiscoveryPage, DiscoveryRecord, Progress, Records};
 use nvt_fields::Nqn;
 use std::alloc::Global;
 use std::io::Write;

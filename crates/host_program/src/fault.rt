@@ -1,8 +1,8 @@
 //! Why a command ends before its end.
 ghost use Rattle.std.specs.Prelude.{◌≡◌};
 
-use host_discovery::DiscoverFault;
 use host_link::SessionFault;
+use host_pages::DiscoverFault;
 use std::alloc::AllocError;
 use thiserror::Error;
 

@@ -10,10 +10,10 @@ use Rattle.config_lists.specs.declared.namespace.BlockSize.TheVariants.{Bytes512
 use Rattle.config_lists.specs.declared.namespace.Namespace.{Namespace}
 use Rattle.config_lists.specs.Namespace.{bytes_of, is_named}
 use Rattle.config_lists.proofs.Lists.{found_holds}
-use Rattle.config_rules.specs.Configuration.{Configuration, are_disks}
-use Rattle.config_rules.specs.Seen.{seen_by}
-use Rattle.config_rules.specs.Valid.{IsNamespace, IsValid, is_size_on}
-use Rattle.config_rules.proofs.Seeing.{sees_what_is_shown}
+use Rattle.nvt_config.specs.Configuration.{Configuration, are_disks}
+use Rattle.nvt_config.specs.SeenBy.{seen_by}
+use Rattle.nvt_config.specs.Valid.{IsNamespace, IsValid, is_size_on}
+use Rattle.nvt_config.proofs.Seeing.{sees_what_is_shown}
 use Rattle.nvt_fields.specs.declared.status.Status.{Status}
 use Rattle.nvt_fields.specs.Status.{data_sgl_length_invalid, invalid_field, lba_out_of_range, sgl_offset_invalid, sgl_type_invalid}
 use Rattle.pdu_codec.specs.declared.command.BlockCommand.{BlockCommand}

@@ -1,7 +1,7 @@
 -- The checks of an I/O command at its capsule, in their order (NVM Command Set 1.0, section 3).
 use Rattle.std.specs.Prelude.{◌≤◌, ℕ, ◌+◌, ◌==◌, not, ◌||◌, nat_lt, Bool, true, false, List, Option, Some, None, Result, Ok, Err, if◌then◌else◌}
 use Rattle.config_lists.specs.declared.namespace.Namespace.{Namespace}
-use Rattle.config_rules.specs.Configuration.{Configuration}
+use Rattle.nvt_config.specs.Configuration.{Configuration}
 use Rattle.nvt_fields.specs.declared.status.Status.{Status}
 use Rattle.nvt_fields.specs.Status.{data_sgl_length_invalid, invalid_opcode, sgl_offset_invalid, sgl_type_invalid}
 use Rattle.pdu_codec.specs.declared.command.BlockCommand.{BlockCommand}

@@ -2,8 +2,8 @@
 use Rattle.std.specs.Prelude.{◌≡◌, ◌≤◌, ◌⊎◌, ℕ, ◌+◌, ◌*◌, Bool, List, Option, Some, find, length, replicate}
 use Rattle.config_lists.specs.GroupState.{state_for}
 use Rattle.config_lists.specs.Namespace.{is_named}
-use Rattle.config_rules.specs.Configuration.{Configuration}
-use Rattle.config_rules.specs.Seen.{seen_by}
+use Rattle.nvt_config.specs.Configuration.{Configuration}
+use Rattle.nvt_config.specs.SeenBy.{seen_by}
 use Rattle.io_queue.specs.declared.operation.Action.{Action}
 use Rattle.io_queue.specs.declared.operation.Action.TheVariants as action
 use Rattle.io_queue.specs.declared.operation.Extent.{Extent}

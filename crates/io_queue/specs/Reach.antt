@@ -5,8 +5,8 @@ use Rattle.config_lists.specs.declared.group_state.AnaState.TheVariants.{Optimiz
 use Rattle.config_lists.specs.declared.namespace.Namespace.{Namespace}
 use Rattle.config_lists.specs.GroupState.{state_for}
 use Rattle.config_lists.specs.Namespace.{bytes_of, is_named}
-use Rattle.config_rules.specs.Configuration.{Configuration}
-use Rattle.config_rules.specs.Seen.{seen_by}
+use Rattle.nvt_config.specs.Configuration.{Configuration}
+use Rattle.nvt_config.specs.SeenBy.{seen_by}
 use Rattle.nvt_fields.specs.declared.status.Status.{Status}
 use Rattle.nvt_fields.specs.Status.{ana_inaccessible, ana_persistent_loss, ana_transition, invalid_namespace_or_format}
 use Rattle.pdu_codec.specs.Sqe.{nsid_of}

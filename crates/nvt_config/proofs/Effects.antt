@@ -9,14 +9,14 @@ use Rattle.config_lists.specs.GroupState.{is_optimized}
 use Rattle.config_lists.specs.declared.namespace.Namespace.{Namespace}
 use Rattle.config_lists.specs.Namespace.{is_group, is_named, is_nsid, nsid_max}
 use Rattle.config_lists.specs.Port.{is_port, is_port_number, is_address}
-use Rattle.config_edits.specs.declared.edit.Edit.{Edit}
-use Rattle.config_edits.specs.declared.edit.Edit.TheVariants.{NamespaceAdd, NamespaceGroup, NamespaceShow, LinkAdd, AnaSet}
-use Rattle.config_edits.specs.declared.edit.NewNamespace.{NewNamespace}
-use Rattle.config_rules.specs.Configuration.{Configuration, has_namespace, has_port, has_host, with_live, with_new_host, with_host, has_state, with_new_state, with_state_set, without_state, with_ana_state}
-use Rattle.config_rules.specs.Accept.{accept, effect}
-use Rattle.config_rules.specs.Valid.{IsValid}
-use Rattle.config_rules.proofs.Refusals.{accept-effect, passed_all}
-use Rattle.config_rules.proofs.Valid.{IsValid-accept}
+use Rattle.config_lists.specs.declared.edit.Edit.{Edit}
+use Rattle.config_lists.specs.declared.edit.Edit.TheVariants.{NamespaceAdd, NamespaceGroup, NamespaceShow, LinkAdd, AnaSet}
+use Rattle.config_lists.specs.declared.edit.NewNamespace.{NewNamespace}
+use Rattle.nvt_config.specs.Configuration.{Configuration, has_namespace, has_port, has_host, with_live, with_new_host, with_host, has_state, with_new_state, with_state_set, without_state, with_ana_state}
+use Rattle.nvt_config.specs.Accept.{accept, effect}
+use Rattle.nvt_config.specs.Valid.{IsValid}
+use Rattle.nvt_config.proofs.Refusals.{accept-effect, passed_all}
+use Rattle.nvt_config.proofs.Valid.{IsValid-accept}
 use Rattle.nvt_config.specs.declared.plan.Change.{Change}
 use Rattle.nvt_config.specs.declared.plan.Plan.{Plan}
 use Rattle.nvt_config.specs.Plan.{HasRoom, IsPlanOf, changed_by, made}

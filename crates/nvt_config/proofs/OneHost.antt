@@ -1,11 +1,11 @@
 -- What an edit that reaches one host changes.
 use Rattle.std.proofs.Common.{◌≡◌, List, ℕ, Some, refl}
-use Rattle.config_edits.specs.declared.edit.Edit.{Edit}
-use Rattle.config_edits.specs.declared.edit.Edit.TheVariants.{SubsystemAdd, SubsystemSet, SubsystemDel, NamespaceAdd, NamespaceSize, NamespaceGroup, NamespaceDel, NamespaceView, NamespaceShow, NamespaceHide, PortAdd, PortSet, PortDel, LinkAdd, LinkDel, HostAdd, HostDel, AllowAdd, AllowDel, AnaSet, ReferralAdd, ReferralSet, ReferralDel}
-use Rattle.config_rules.specs.Accept.{effect}
-use Rattle.config_rules.specs.Configuration.{Configuration}
-use Rattle.config_rules.proofs.Refusals.{IfOk-effect}
-use Rattle.edit_reach.specs.Reach.{host_reached}
+use Rattle.config_lists.specs.declared.edit.Edit.{Edit}
+use Rattle.config_lists.specs.declared.edit.Edit.TheVariants.{SubsystemAdd, SubsystemSet, SubsystemDel, NamespaceAdd, NamespaceSize, NamespaceGroup, NamespaceDel, NamespaceView, NamespaceShow, NamespaceHide, PortAdd, PortSet, PortDel, LinkAdd, LinkDel, HostAdd, HostDel, AllowAdd, AllowDel, AnaSet, ReferralAdd, ReferralSet, ReferralDel}
+use Rattle.nvt_config.specs.Accept.{effect}
+use Rattle.nvt_config.specs.Configuration.{Configuration}
+use Rattle.nvt_config.proofs.Refusals.{IfOk-effect}
+use Rattle.nvt_config.specs.Reach.{host_reached}
 use Rattle.nvt_config.specs.Seen.{ChangesShowsAlone, shows_made}
 
 makes : (c : Configuration) (edit : Edit) (host : List ℕ) → host_reached edit ≡ Some host → effect c edit ≡ record c { shows = shows_made c edit }

@@ -1,2 +1,9 @@
+pub mod Accept
+pub mod Configuration
+pub mod Permission
 pub mod Plan
+pub mod Reach
 pub mod Seen
+pub mod SeenBy
+pub mod Valid
+pub mod Viewers

@@ -1,9 +1,9 @@
 -- What a plan makes of a configuration.
 use Rattle.std.specs.Prelude.{◌≡◌, ◌<◌, length, vec_capacity, Ok}
-use Rattle.config_edits.specs.declared.edit.Edit.{Edit}
-use Rattle.config_rules.specs.Accept.{accept}
-use Rattle.config_rules.specs.Configuration.{Configuration, with_subsystem, with_access, without_subsystem, with_namespace, with_namespace_set, without_namespace, with_port, with_port_set, without_port, with_link, without_link, with_live, with_new_host, with_allow, without_allow, with_new_state, with_state_set, without_state, with_referral, with_referral_set, without_referral, with_show, without_show}
-use Rattle.config_rules.specs.Valid.{IsValid}
+use Rattle.config_lists.specs.declared.edit.Edit.{Edit}
+use Rattle.nvt_config.specs.Accept.{accept}
+use Rattle.nvt_config.specs.Configuration.{Configuration, with_subsystem, with_access, without_subsystem, with_namespace, with_namespace_set, without_namespace, with_port, with_port_set, without_port, with_link, without_link, with_live, with_new_host, with_allow, without_allow, with_new_state, with_state_set, without_state, with_referral, with_referral_set, without_referral, with_show, without_show}
+use Rattle.nvt_config.specs.Valid.{IsValid}
 use Rattle.nvt_config.specs.declared.plan.Change.{Change}
 use Rattle.nvt_config.specs.declared.plan.Change.TheVariants.{AddSubsystem, SetAccess, RemoveSubsystem, AddNamespace, SetNamespace, RemoveNamespace, AddPort, ReplacePort, RemovePort, AddLink, RemoveLink, AddHost, SetLive, AddAllow, RemoveAllow, AddState, ReplaceState, RemoveState, AddReferral, ReplaceReferral, RemoveReferral, AddShow, RemoveShow}
 use Rattle.nvt_config.specs.declared.plan.Plan.{Plan}

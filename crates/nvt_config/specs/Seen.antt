@@ -3,11 +3,11 @@ use Rattle.std.specs.Prelude.{◌≡◌, List, [], ◌∷◌, ◌++◌, Some, If
 use Rattle.config_lists.specs.declared.show.Show.{Show}
 use Rattle.config_lists.specs.Lists.{without}
 use Rattle.config_lists.specs.Show.{is_show_to}
-use Rattle.config_edits.specs.declared.edit.Edit.{Edit}
-use Rattle.config_edits.specs.declared.edit.Edit.TheVariants.{NamespaceHide, NamespaceShow}
-use Rattle.config_rules.specs.Accept.{accept}
-use Rattle.config_rules.specs.Configuration.{Configuration}
-use Rattle.edit_reach.specs.Reach.{host_reached}
+use Rattle.config_lists.specs.declared.edit.Edit.{Edit}
+use Rattle.config_lists.specs.declared.edit.Edit.TheVariants.{NamespaceHide, NamespaceShow}
+use Rattle.nvt_config.specs.Accept.{accept}
+use Rattle.nvt_config.specs.Configuration.{Configuration}
+use Rattle.nvt_config.specs.Reach.{host_reached}
 
 -- the shows after an edit that shows a namespace or hides one; those that are there, for each other edit
 abbrev pub shows_made : Configuration → Edit → List Show

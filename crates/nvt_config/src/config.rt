@@ -4,9 +4,9 @@ ghost use Rattle.std.specs.Prelude.{find};
 ghost use Rattle.std.specs.Bool.{OnFalse, OnTrue};
 ghost use Rattle.std.specs.Option.{option_copied};
 ghost use Rattle.std.specs.Str.{bytes_eq};
-ghost use Rattle.config_rules.specs.Accept.{accept, verdict};
-ghost use Rattle.config_rules.specs.Configuration.{are_disks, disks_alone};
-ghost use Rattle.config_rules.specs.Valid.{IsValid};
+ghost use Rattle.nvt_config.specs.Accept.{accept, verdict};
+ghost use Rattle.nvt_config.specs.Configuration.{are_disks, disks_alone};
+ghost use Rattle.nvt_config.specs.Valid.{IsValid};
 ghost use Rattle.nvt_config.specs.Plan.{IsPlanOf, IsReady, made};
 
 mod changes;
@@ -15,7 +15,7 @@ mod plans;
 
 use crate::fault::NewFault;
 use crate::plan::{Change, Plan};
-use config_edits::{Edit, EditFault};
+use crate::{Lists, are_disks};
 use config_lists::allow::Allow;
 use config_lists::group_state::GroupState;
 use config_lists::host::Host;
@@ -24,7 +24,7 @@ use config_lists::namespace::{Namespace, Setting};
 use config_lists::port::Port;
 use config_lists::show::Show;
 use config_lists::subsystem::Subsystem;
-use config_rules::{Lists, are_disks};
+use config_lists::{Edit, EditFault};
 use std::alloc::{AllocError, Global};
 use std::marker::Model;
 
@@ -75,8 +75,8 @@ impl Drop for Config {
 }
 
 impl Model for Config {
-    ghost use Rattle.config_rules.specs.Configuration.{Configuration};
-    ghost use Rattle.config_rules.specs.Valid.{IsValid};
+    ghost use Rattle.nvt_config.specs.Configuration.{Configuration};
+    ghost use Rattle.nvt_config.specs.Valid.{IsValid};
 
     ghost Value = { Configuration };
 

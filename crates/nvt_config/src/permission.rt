@@ -1,7 +1,7 @@
 //! Which subsystem a host may use.
 ghost use Rattle.std.specs.Prelude.{◌≡◌, ◌||◌};
-ghost use Rattle.config_rules.specs.Configuration.{has_allow};
-ghost use Rattle.config_rules.specs.Permission.{is_open_subsystem, may_use};
+ghost use Rattle.nvt_config.specs.Configuration.{has_allow};
+ghost use Rattle.nvt_config.specs.Permission.{is_open_subsystem, may_use};
 
 use crate::config::Config;
 use config_lists::allow::has_allow;

@@ -1,14 +1,13 @@
 //! What a host sees of a configuration.
 ghost use Rattle.std.specs.Prelude.{◌≡◌, ◌≤◌, ◌+◌, ℕ, None, find, length, slice_index_or};
 ghost use Rattle.config_lists.specs.Namespace.{is_named, nsid_max};
-ghost use Rattle.config_rules.specs.Seen.{seen_by, seen_by_strangers};
+ghost use Rattle.nvt_config.specs.SeenBy.{seen_by, seen_by_strangers};
 ghost use Rattle.nvt_config.specs.Seen.{ChangesShowsAlone, shows_made};
 
+use crate::Lists;
 use crate::config::Config;
-use config_edits::Edit;
 use config_lists::group_state::GroupState;
-use config_rules::Lists;
-use config_tables::{NamespaceTable, Shows};
+use config_lists::{Edit, NamespaceTable, Shows};
 use std::marker::Model;
 
 /// A configuration as a host sees it, lent: with the namespaces that the host sees alone. A contract
@@ -22,8 +21,8 @@ pub struct Seen<'a> {
 }
 
 impl<'a> Model for Seen<'a> {
-    ghost use Rattle.config_rules.specs.Configuration.{Configuration};
-    ghost use Rattle.config_rules.specs.Seen.{seen_by};
+    ghost use Rattle.nvt_config.specs.Configuration.{Configuration};
+    ghost use Rattle.nvt_config.specs.SeenBy.{seen_by};
 
     ghost Value = { Configuration };
 

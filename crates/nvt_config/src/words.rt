@@ -3,8 +3,8 @@ ghost use Rattle.std.specs.Prelude.{◌≡◌, find};
 ghost use Rattle.std.specs.Option.{option_copied};
 ghost use Rattle.config_lists.specs.GroupState.{state_for};
 ghost use Rattle.config_lists.specs.Namespace.{is_named};
-ghost use Rattle.config_rules.specs.Seen.{seen_by};
-ghost use Rattle.config_rules.specs.Valid.{IsValid};
+ghost use Rattle.nvt_config.specs.SeenBy.{seen_by};
+ghost use Rattle.nvt_config.specs.Valid.{IsValid};
 
 use crate::config::Config;
 use config_lists::group_state::{AnaState, ana_state};

@@ -1,9 +1,9 @@
 //! The commands, over sockets.
 use crate::arguments::{HostArguments, Verb};
+use host_parts::TcpLink;
 use host_program::{
     CommandFault, Links, SessionFault, ana, changed, discover, list, read, write, write_held,
 };
-use host_sockets::TcpLink;
 use std::io::{self, BufWriter, ErrorKind, Write};
 use std::net::{Net, SocketAddr};
 use std::rt::Clock;

@@ -8,7 +8,7 @@ mod command_line;
 mod help;
 
 use arguments::{LabArguments, Usage};
-use host_lab::{Plan, lab};
+use host_parts::{Plan, lab};
 use std::fmt::Display;
 use std::net::Net;
 use std::process::{ExitCode, Processes};

@@ -6,9 +6,9 @@ use Rattle.std.proofs.lemmas.Bool.{eqb-true}
 use Rattle.std.proofs.lemmas.Bool.Decides.{nat_tests}
 use Rattle.io_queue.specs.Execution.{contents_at}
 use Rattle.data_transfer.specs.Parts.{part_at}
-use Rattle.number_table.specs.Table.{place}
-use Rattle.number_table.proofs.Tables.{place-with_value_held}
-use Rattle.controller_tables.proofs.Staying.{nothing_goes, nothing_gone, nothing_leaves}
+use Rattle.tables.specs.NumberTable.{place}
+use Rattle.tables.proofs.NumberTables.{place-with_value_held}
+use Rattle.target_state.proofs.Staying.{nothing_goes, nothing_gone, nothing_leaves}
 use Rattle.target_core.specs.Connection.{KnownConnection, ends_known, settled}
 use Rattle.target_core.specs.Transition.{Transition, known_moved}
 use Rattle.target_core.specs.Target.{TargetState, is_ended_at, meets, with_connection}

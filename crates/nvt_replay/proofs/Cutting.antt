@@ -6,19 +6,19 @@ use Rattle.std.specs.Io.{StartsWith}
 use Rattle.std.specs.Io.KnownBytes.{Appends}
 use Rattle.std.proofs.KnownBytes.{Appends-nil, Appends-trans}
 use Rattle.hex.specs.Hex.{decode_of}
-use Rattle.number_table.specs.Table.{place}
+use Rattle.tables.specs.NumberTable.{place}
 use Rattle.target_core.specs.declared.fault.OpenFault.{OpenFault}
 use Rattle.target_core.specs.Connection.{KnownConnection}
 use Rattle.target_core.specs.Transition.{Transition}
 use Rattle.target_core.specs.Target.{TargetState, free_number, is_ended_at, open_fault, output_at}
 use Rattle.target_decision.specs.World.{connections_max}
 use Rattle.target_history.specs.Event.{given_up, opened, ticked}
-use Rattle.replay_lines.specs.declared.reply.Reply.{Reply}
-use Rattle.replay_lines.specs.declared.stream_line.StreamLine.{StreamLine}
-use Rattle.replay_lines.specs.Printed.{edit_made_line, event_line, output_lines, reply_line}
-use Rattle.replay_lines.specs.StreamLine.{Says}
-use Rattle.replay_lines.specs.Writing.{AppendsFront}
-use Rattle.replay_lines.proofs.Fronts.{begins_left, front_behind, front_left}
+use Rattle.edit_lines.specs.declared.reply.Reply.{Reply}
+use Rattle.edit_lines.specs.declared.stream_line.StreamLine.{StreamLine}
+use Rattle.edit_lines.specs.Printed.{edit_made_line, event_line, output_lines, reply_line}
+use Rattle.edit_lines.specs.StreamLine.{Says}
+use Rattle.edit_lines.specs.Writing.{AppendsFront}
+use Rattle.edit_lines.proofs.Fronts.{begins_left, front_behind, front_left}
 use Rattle.nvt_replay.specs.CutOff.{EditsInPart, EndsInPart, HandsOutInPart, IsCutOff, OpensInPart, PlaysInPart, ReceivesInPart, DrainsInPart, TicksInPart}
 use Rattle.nvt_replay.specs.Played.{ArePrinted, PlaysAll, PlaysOpen, Prints, Receives, Drains, StepBelow, connection_lines, lines_below, number_taken}
 use Rattle.edit_lines.specs.Line.{MakesLine, Refuses}

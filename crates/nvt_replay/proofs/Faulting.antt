@@ -1,13 +1,13 @@
 -- What each fault says of a line, of a script and of a replay.
 use Rattle.std.proofs.Common.{ℕ, Bool, List, Option, Result, Ok, Err, refl, inl, inr}
 use Rattle.std.specs.Prelude.{IfErr, OnErr}
-use Rattle.line_words.specs.Lines.{lines_of}
+use Rattle.config_text.specs.Lines.{lines_of}
 use Rattle.target_core.specs.Target.{TargetState}
-use Rattle.replay_lines.specs.declared.fault.ReplayFault.{ReplayFault}
-use Rattle.replay_lines.specs.declared.fault.ReplayFault.TheVariants as fault
-use Rattle.replay_lines.specs.declared.stream_line.StreamLine.{StreamLine}
-use Rattle.replay_lines.specs.Fault.{EndsRun}
-use Rattle.replay_lines.specs.StreamLine.{Says}
+use Rattle.edit_lines.specs.declared.fault.ReplayFault.{ReplayFault}
+use Rattle.edit_lines.specs.declared.fault.ReplayFault.TheVariants as fault
+use Rattle.edit_lines.specs.declared.stream_line.StreamLine.{StreamLine}
+use Rattle.edit_lines.specs.Fault.{EndsRun}
+use Rattle.edit_lines.specs.StreamLine.{Says}
 use Rattle.nvt_replay.specs.CutOff.{IsCutOff, PlaysInPart}
 use Rattle.nvt_replay.specs.Played.{Prints}
 use Rattle.edit_lines.specs.Configured.{AcceptsAll, IsConfigured, RefusesEdits}

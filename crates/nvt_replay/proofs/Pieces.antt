@@ -1,7 +1,7 @@
 -- The bytes of an `rx`, piece by piece.
 use Rattle.std.proofs.Common.{◌≡◌, ℕ, suc, ◌<◌, List, [], ◌++◌, take, drop, Option, Some, None, refl, sym, ap, ◌∙◌, subst, append-nil}
-use Rattle.number_table.specs.Table.{place}
-use Rattle.number_table.proofs.Tables.{with_value_same}
+use Rattle.tables.specs.NumberTable.{place}
+use Rattle.tables.proofs.NumberTables.{with_value_same}
 use Rattle.target_core.specs.Connection.{KnownConnection}
 use Rattle.target_core.specs.Target.{TargetState, with_stream}
 use Rattle.nvt_replay.specs.Played.{HandsOut, Receives, Drains, given, number_taken}

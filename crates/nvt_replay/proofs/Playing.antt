@@ -2,9 +2,9 @@
 use Rattle.std.proofs.Common.{◌≡◌, ℕ, ◌+◌, ◌-◌, arith, List, [], ◌∷◌, ◌++◌, length, map, take, drop, Option, refl, sym, ap, ◌∙◌, subst, append_assoc, append-nil}
 use Rattle.std.proofs.KnownBytes.{Appends-trans}
 use Rattle.target_core.specs.Target.{TargetState}
-use Rattle.replay_lines.specs.declared.stream_line.StreamLine.{StreamLine}
+use Rattle.edit_lines.specs.declared.stream_line.StreamLine.{StreamLine}
 use Rattle.nvt_replay.specs.Played.{Plays, PlaysAll, Prints}
-use Rattle.replay_lines.specs.StreamLine.{Says}
+use Rattle.edit_lines.specs.StreamLine.{Says}
 use Rattle.edit_lines.proofs.Taking.{next_line}
 
 -- ---- lines

@@ -6,14 +6,14 @@ use Rattle.std.proofs.KnownBytes.{Appends-nil, Appends-trans}
 use Rattle.std.proofs.lemmas.Bool.{cases_eq, cases_lt, eqb-true}
 use Rattle.std.proofs.lemmas.Bool.Decides.{nat_tests}
 use Rattle.data_transfer.specs.Parts.{part_at}
-use Rattle.number_table.specs.Table.{place}
-use Rattle.number_table.proofs.Tables.{place-with_value_held}
+use Rattle.tables.specs.NumberTable.{place}
+use Rattle.tables.proofs.NumberTables.{place-with_value_held}
 use Rattle.target_core.specs.Connection.{KnownConnection}
 use Rattle.target_core.specs.Target.{TargetState, is_ended_at, output_at}
 use Rattle.target_decision.specs.Session.{is_ended}
 use Rattle.nvt_replay.specs.Played.{ArePrinted, TakesOutput, connection_lines, lines_below, printed_out}
-use Rattle.replay_lines.specs.Printed.{event_line, output_lines}
-use Rattle.replay_lines.proofs.PduLemmas.{output_lines-nil}
+use Rattle.edit_lines.specs.Printed.{event_line, output_lines}
+use Rattle.edit_lines.proofs.PduLemmas.{output_lines-nil}
 
 -- the lines of a connection, by its output and whether it is ended
 pub lines_are : (k : ℕ) (o : Option KnownConnection)

@@ -7,15 +7,15 @@ use Rattle.hex.specs.declared.error.FromHexError.{FromHexError}
 use Rattle.hex.proofs.HexLemmas.{IsOk-decode_sized}
 use Rattle.std.proofs.lemmas.List.{drop-drop, take_all, take_more}
 use Rattle.std.proofs.lemmas.List.Elements.{All-push}
-use Rattle.line_words.specs.Lines.{lines_of}
+use Rattle.config_text.specs.Lines.{lines_of}
 use Rattle.edit_lines.specs.Configured.{AcceptsAll, RefusesEdits}
 use Rattle.edit_lines.proofs.Taking.{next_line}
 use Rattle.nvt_replay.specs.Replay.{EndsScript, Explains, IsFirstMalformed}
-use Rattle.replay_lines.specs.StreamLine.{IsStreamLine, Says}
-use Rattle.replay_lines.specs.declared.stream_line.StreamLine.{StreamLine}
-use Rattle.replay_lines.specs.declared.stream_line.StreamLine.TheVariants as stream
-use Rattle.replay_lines.specs.declared.fault.ReplayFault.{ReplayFault}
-use Rattle.replay_lines.specs.declared.fault.ReplayFault.TheVariants as fault
+use Rattle.edit_lines.specs.StreamLine.{IsStreamLine, Says}
+use Rattle.edit_lines.specs.declared.stream_line.StreamLine.{StreamLine}
+use Rattle.edit_lines.specs.declared.stream_line.StreamLine.TheVariants as stream
+use Rattle.edit_lines.specs.declared.fault.ReplayFault.{ReplayFault}
+use Rattle.edit_lines.specs.declared.fault.ReplayFault.TheVariants as fault
 
 -- a fault of the script explains itself to the whole replay, once all edits are accepted
 pub ended : (f : ReplayFault) (has_failed : Bool) (edits stream units : List ℕ) → AcceptsAll edits units → EndsScript has_failed f (lines_of stream)

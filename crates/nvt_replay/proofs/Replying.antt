@@ -4,8 +4,8 @@ use Rattle.std.specs.Io.KnownBytes.{Appends}
 use Rattle.std.proofs.KnownBytes.{Appends-trans}
 use Rattle.target_core.specs.Target.{TargetState}
 use Rattle.nvt_replay.specs.Played.{PlaysEdit, Prints, Drains}
-use Rattle.replay_lines.specs.declared.reply.Reply.{Reply}
-use Rattle.replay_lines.specs.Printed.{edit_made_line, reply_line}
+use Rattle.edit_lines.specs.declared.reply.Reply.{Reply}
+use Rattle.edit_lines.specs.Printed.{edit_made_line, reply_line}
 use Rattle.edit_lines.specs.Line.{MakesLine, Refuses}
 
 -- an edit that is made prints that it is, and then what the draining target prints

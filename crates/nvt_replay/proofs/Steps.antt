@@ -2,7 +2,7 @@
 use Rattle.std.proofs.Common.{ℕ, ◌+◌, add-one, refl}
 use Rattle.nvt_replay.specs.Played.{StepBelow}
 use Rattle.target_core.specs.Target.{TargetState}
-use Rattle.target_steps.specs.Steps.{StepsUntilIdle}
+use Rattle.target_core.specs.Steps.{StepsUntilIdle}
 
 pub below_none : (t : TargetState) → StepBelow 0 t t
 unfolding StepBelow

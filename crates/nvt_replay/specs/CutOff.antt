@@ -3,16 +3,16 @@
 use Rattle.std.specs.Prelude.{◌≡◌, ◌⊎◌, ℕ, zero, suc, ◌<◌, List, [], ◌∷◌, ◌++◌, take, drop, codes, Option, MatchOption, Ok}
 use Rattle.std.specs.Io.{StartsWith}
 use Rattle.hex.specs.Hex.{decode_of}
-use Rattle.number_table.specs.Table.{place}
+use Rattle.tables.specs.NumberTable.{place}
 use Rattle.target_core.specs.Transition.{Transition}
 use Rattle.target_core.specs.Target.{TargetState}
 use Rattle.target_decision.specs.World.{connections_max}
 use Rattle.target_history.specs.Event.{given_up, ticked}
-use Rattle.replay_lines.specs.declared.reply.Reply.{Reply}
-use Rattle.replay_lines.specs.declared.stream_line.StreamLine.{StreamLine}
-use Rattle.replay_lines.specs.declared.stream_line.StreamLine.TheVariants as line
-use Rattle.replay_lines.specs.Printed.{edit_made_line, event_line, reply_line}
-use Rattle.replay_lines.specs.StreamLine.{Says}
+use Rattle.edit_lines.specs.declared.reply.Reply.{Reply}
+use Rattle.edit_lines.specs.declared.stream_line.StreamLine.{StreamLine}
+use Rattle.edit_lines.specs.declared.stream_line.StreamLine.TheVariants as line
+use Rattle.edit_lines.specs.Printed.{edit_made_line, event_line, reply_line}
+use Rattle.edit_lines.specs.StreamLine.{Says}
 use Rattle.nvt_replay.specs.Played.{PlaysAll, PlaysOpen, Prints, Receives, Drains, StepBelow, lines_below, number_taken}
 use Rattle.edit_lines.specs.Line.{MakesLine, Refuses}
 

@@ -4,7 +4,7 @@ use Rattle.std.specs.Io.KnownBytes.{Appends}
 use Rattle.hex.specs.Hex.{decode_of}
 use Rattle.io_queue.specs.Execution.{contents_at}
 use Rattle.data_transfer.specs.Parts.{part_at}
-use Rattle.number_table.specs.Table.{place}
+use Rattle.tables.specs.NumberTable.{place}
 use Rattle.target_core.specs.declared.fault.OpenFault.{OpenFault}
 use Rattle.target_core.specs.Connection.{KnownConnection}
 use Rattle.target_core.specs.Fault.{word_of_open_fault}
@@ -13,13 +13,13 @@ use Rattle.target_core.specs.Target.{TargetState, free_number, is_ended_at, open
 use Rattle.target_decision.specs.Session.{is_ended}
 use Rattle.target_decision.specs.World.{connections_max}
 use Rattle.target_history.specs.Event.{given_up, opened, ticked}
-use Rattle.replay_lines.specs.declared.reply.Reply.{Reply}
-use Rattle.replay_lines.specs.declared.stream_line.StreamLine.{StreamLine}
-use Rattle.replay_lines.specs.declared.stream_line.StreamLine.TheVariants as line
-use Rattle.replay_lines.specs.Printed.{edit_made_line, event_line, output_lines, reply_line}
+use Rattle.edit_lines.specs.declared.reply.Reply.{Reply}
+use Rattle.edit_lines.specs.declared.stream_line.StreamLine.{StreamLine}
+use Rattle.edit_lines.specs.declared.stream_line.StreamLine.TheVariants as line
+use Rattle.edit_lines.specs.Printed.{edit_made_line, event_line, output_lines, reply_line}
 use Rattle.edit_lines.specs.Line.{MakesLine, Refuses}
-use Rattle.replay_lines.specs.StreamLine.{Says}
-use Rattle.target_steps.specs.Steps.{StepsUntilIdle}
+use Rattle.edit_lines.specs.StreamLine.{Says}
+use Rattle.target_core.specs.Steps.{StepsUntilIdle}
 
 -- a writer's known bytes grew by some text of which this holds
 abbrev pub Prints : Option (List ℕ) → Option (List ℕ) → (List ℕ → Type 0) → Type 0

@@ -1,14 +1,14 @@
 -- What the end of a replay says of its files.
 use Rattle.std.specs.Prelude.{◌≡◌, ◌⊎◌, ℕ, ◌-◌, ◌≤◌, Bool, true, false, List, length, take, All, Option}
-use Rattle.config_rules.specs.Configuration.{are_disks, disks_alone}
-use Rattle.line_words.specs.Lines.{lines_of}
+use Rattle.nvt_config.specs.Configuration.{are_disks, disks_alone}
+use Rattle.config_text.specs.Lines.{lines_of}
 use Rattle.target_core.specs.Target.{TargetState}
 use Rattle.edit_lines.specs.Configured.{AcceptsAll, IsConfigured, IsFirstRefused, line_at}
 use Rattle.nvt_replay.specs.CutOff.{IsCutOff, PlaysLineInPart}
 use Rattle.nvt_replay.specs.Played.{PlaysAll, Prints}
-use Rattle.replay_lines.specs.declared.fault.ReplayFault.{ReplayFault}
-use Rattle.replay_lines.specs.declared.fault.ReplayFault.TheVariants.{EditLine, StreamLine, Memory, Io, Disks}
-use Rattle.replay_lines.specs.StreamLine.{IsStreamLine}
+use Rattle.edit_lines.specs.declared.fault.ReplayFault.{ReplayFault}
+use Rattle.edit_lines.specs.declared.fault.ReplayFault.TheVariants.{EditLine, StreamLine, Memory, Io, Disks}
+use Rattle.edit_lines.specs.StreamLine.{IsStreamLine}
 
 -- the lines before the nth have a form of a script's, and the nth has none
 pub record IsFirstMalformed (lines : List (List ℕ)) (n : ℕ) : Type 0 where

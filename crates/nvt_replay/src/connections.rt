@@ -2,21 +2,20 @@
 
 ghost use Rattle.std.specs.Prelude.{◌≡◌, IfErr, IfOk, IsOkUnless, MatchOption, OnErr};
 ghost use Rattle.std.specs.Prelude.{OnOk, is_some, take};
-ghost use Rattle.number_table.specs.Table.{place};
+ghost use Rattle.tables.specs.NumberTable.{place};
 ghost use Rattle.target_core.specs.Transition.{Transition};
 ghost use Rattle.target_core.specs.Target.{free_number, is_ended_at, open_fault, output_at};
 ghost use Rattle.target_history.specs.Event.{given_up, opened, ticked};
 ghost use Rattle.target_decision.specs.World.{connections_max};
 ghost use Rattle.nvt_replay.specs.Played.{Receives, StepBelow, TakesOutput, number_taken};
 ghost use Rattle.edit_lines.specs.Line.{IsRefused, MakesLine};
-ghost use Rattle.target_steps.specs.Steps.{StepsUntilIdle};
+ghost use Rattle.target_core.specs.Steps.{StepsUntilIdle};
 
 use block_store::MemoryDisk;
 use edit_lines::{NotMade, make_line};
 use std::alloc::{AllocError, Global};
 use std::marker::Model;
-use target_core::{OpenFault, StepFault, Stepped, Target};
-use target_steps::Marks;
+use target_core::{Marks, OpenFault, StepFault, Stepped, Target};
 
 pub const CONNECTIONS: usize = target_core::CONNECTIONS_MAX;
 
@@ -29,7 +28,7 @@ pub struct Connections {
 
 impl Model for Connections {
     ghost use Rattle.target_core.specs.Target.{TargetState};
-    ghost use Rattle.target_steps.specs.Marks.{AreMarks};
+    ghost use Rattle.target_core.specs.Marks.{AreMarks};
 
     ghost Value = { TargetState };
 

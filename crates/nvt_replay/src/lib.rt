@@ -6,5 +6,5 @@ mod connections;
 pub mod playback;
 
 pub use config_text::Lines;
+pub use edit_lines::{ReplayFault, Reply, written};
 pub use playback::{Playback, replay};
-pub use replay_lines::{ReplayFault, Reply, written};

@@ -2,8 +2,8 @@
 use Rattle.std.proofs.Common.{◌≡◌, ◌≢◌, ℕ, ◌≤◌, Bool, true, false, List, [], ◌∷◌, length, take, set, slice_index_or, Option, Some, None, Result, Ok, Err, IsErr, MatchOption, is_some, refl, ap, ◌∙◌, subst, arith}
 use Rattle.std.specs.Option.{option_map}
 use Rattle.std.proofs.lemmas.List.{length-take}
-use Rattle.number_table.specs.Table.{place}
-use Rattle.number_table.proofs.Tables.{least_free-Some}
+use Rattle.tables.specs.NumberTable.{place}
+use Rattle.tables.proofs.NumberTables.{least_free-Some}
 use Rattle.nvt_ports.specs.declared.event.PortEvent.{PortEvent}
 use Rattle.nvt_ports.specs.declared.event.PortEvent.TheVariants as next
 use Rattle.nvt_ports.specs.Event.{in_use_after}

@@ -2,7 +2,7 @@
 use Rattle.std.proofs.Common.{◌≡◌, ◌≢◌, ℕ, ◌≤◌, Bool, true, false, List, [], length, take, drop, set, Option, Some, None, MatchOption, refl, sym, ap, ◌∙◌, subst, take-append-drop, arith}
 use Rattle.std.specs.Option.{option_map}
 use Rattle.std.proofs.lemmas.List.{length-take}
-use Rattle.number_table.specs.Table.{place}
+use Rattle.tables.specs.NumberTable.{place}
 use Rattle.nvt_ports.specs.Told.{PortsState, given_once}
 use Rattle.nvt_serve.specs.declared.ties.Ties.{Ties}
 use Rattle.nvt_serve.specs.Deed as deed

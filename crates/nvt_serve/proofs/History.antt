@@ -4,7 +4,7 @@ use Rattle.std.specs.Prelude.{◌==◌, if◌then◌else◌}
 use Rattle.std.proofs.Math.Path.{fun_ext}
 use Rattle.std.proofs.Math.Seq.{take-append_seam}
 use Rattle.std.proofs.lemmas.List.{take_all}
-use Rattle.number_table.specs.Table.{place}
+use Rattle.tables.specs.NumberTable.{place}
 use Rattle.nvt_serve.specs.Deed as deed
 use Rattle.nvt_serve.specs.Deed.{AreReceived, Deed, Does, Runs, Serving}
 use Rattle.nvt_serve.specs.History.{DeedsArePossible, DeedsHaveMoments, ServedTargetsAgree, event_of, events_after, received_after, received_with, taken_after, taken_with, with_event}
@@ -19,8 +19,8 @@ use Rattle.target_history.specs.Event.{Event}
 use Rattle.target_history.specs.History.{Opening, happened, is_known}
 use Rattle.nvt_serve.specs.Served.{AreTied}
 use Rattle.nvt_serve.proofs.Tying.{does_keep}
-use Rattle.target_steps.specs.Possible.{IsPossible}
-use Rattle.target_steps.proofs.Possibly.{edit_may, known_agrees, open_may, step_may}
+use Rattle.target_core.specs.Possible.{IsPossible}
+use Rattle.target_core.proofs.Possibly.{edit_may, known_agrees, open_may, step_may}
 
 -- ---- nothing more on a connection
 

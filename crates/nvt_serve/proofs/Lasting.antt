@@ -5,11 +5,11 @@ use Rattle.std.specs.Option.{option_map}
 use Rattle.std.proofs.lemmas.Bool.{cases_eq}
 use Rattle.std.proofs.lemmas.Bool.Decides.{nat_tests}
 use Rattle.std.proofs.lemmas.List.{get_or-set_other}
-use Rattle.config_edits.specs.declared.edit.Edit.{Edit}
-use Rattle.config_rules.specs.Configuration.{Configuration}
+use Rattle.config_lists.specs.declared.edit.Edit.{Edit}
+use Rattle.nvt_config.specs.Configuration.{Configuration}
 use Rattle.io_queue.specs.Act.{DiskOutcome}
-use Rattle.number_table.specs.Table.{place}
-use Rattle.number_table.proofs.Tables.{place-with_value_held}
+use Rattle.tables.specs.NumberTable.{place}
+use Rattle.tables.proofs.NumberTables.{place-with_value_held}
 use Rattle.pdu_cut.specs.declared.side.Side.TheVariants.{Target}
 use Rattle.pdu_cut.specs.Front.{Front, front}
 use Rattle.property_regs.specs.declared.regs.Change.{Change}
@@ -36,7 +36,7 @@ use Rattle.target_history.specs.declared.end_cause.EndCause.TheVariants as cause
 use Rattle.target_history.specs.EndCause.{cause_decided, cause_lost, cause_replied, cause_set, cause_updated, ends_by, ends_controller, ends_session, is_on_port}
 use Rattle.target_history.specs.Event.{disk_outcome_in, edited, front_in, given_up, opened, stepped, steps, ticked}
 use Rattle.target_history.specs.Occurrence.{Occurrence, cause_of, cause_given_up, cause_stepped, config_after, edit_made, ends_live, replies_to, sends, sends_on, telling, telling_by, told_at, views_in}
-use Rattle.target_steps.specs.Steps.{is_idle_at}
+use Rattle.target_core.specs.Steps.{is_idle_at}
 use Rattle.nvt_serve.specs.Looks.{HasRoomAt, Lasts, LastsAt, RestsAt, is_queue}
 use Rattle.nvt_serve.proofs.Quiet.{ended_moved, or_true, stream_stays}
 

@@ -5,9 +5,9 @@ use Rattle.std.specs.Option.{option_map}
 use Rattle.std.proofs.lemmas.Bool.{cases_eq, cases_lt}
 use Rattle.std.proofs.lemmas.Bool.Decides.{nat_tests}
 use Rattle.std.proofs.lemmas.List.{get_or_past, get_or-replicate, get_or-set_other, length-replicate}
-use Rattle.config_edits.specs.declared.edit.Edit.{Edit}
-use Rattle.number_table.specs.Table.{place, with_value, without}
-use Rattle.number_table.proofs.Tables.{place-without, place_past}
+use Rattle.config_lists.specs.declared.edit.Edit.{Edit}
+use Rattle.tables.specs.NumberTable.{place, with_value, without}
+use Rattle.tables.proofs.NumberTables.{place-without, place_past}
 use Rattle.nvt_serve.specs.Asking.{HasRooms, room_of_slot}
 use Rattle.nvt_serve.specs.declared.ties.Ties.{Ties}
 use Rattle.nvt_serve.specs.Deed.{IsSlotOf}
@@ -21,7 +21,7 @@ use Rattle.target_core.specs.Connection.{KnownConnection, fresh_on}
 use Rattle.target_core.specs.Transition.{Transition, known_moved}
 use Rattle.target_core.specs.Target.{ReceivesAt, TakenAt, TargetState, is_ended_at, is_idle, meets, output_at, room_at}
 use Rattle.target_history.specs.Event.{edited, given_up, opened, ticked}
-use Rattle.target_steps.proofs.Knowing.{edited_known, received_known, taken_known, ticked_known}
+use Rattle.target_core.proofs.Knowing.{edited_known, received_known, taken_known, ticked_known}
 
 -- ---- sets
 

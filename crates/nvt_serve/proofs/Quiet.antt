@@ -6,7 +6,7 @@ use Rattle.std.proofs.lemmas.Bool.{cases_eq, cases_lt}
 use Rattle.std.specs.Int.{from_bool}
 use Rattle.std.proofs.lemmas.Bool.Decides.{nat_tests}
 use Rattle.event_queue.specs.declared.completion.Completion.{Completion}
-use Rattle.number_table.specs.Table.{place}
+use Rattle.tables.specs.NumberTable.{place}
 use Rattle.pdu_cut.specs.declared.side.Side.TheVariants.{Target}
 use Rattle.pdu_cut.specs.Front.{front}
 use Rattle.target_core.specs.declared.fault.StepFault.TheVariants as step_fault
@@ -26,8 +26,8 @@ use Rattle.nvt_serve.specs.Served.{IsQuiet, IsQuietAt, has_bytes, is_quiet}
 use Rattle.nvt_serve.specs.Sets.{IsFirst, is_in}
 use Rattle.nvt_serve.specs.Stepping.{GoesBySteps, StepsOut}
 use Rattle.target_core.specs.Agreement.{front_of}
-use Rattle.target_steps.specs.Marks.{SameKnown}
-use Rattle.target_steps.specs.Steps.{Steps}
+use Rattle.target_core.specs.Marks.{SameKnown}
+use Rattle.target_core.specs.Steps.{Steps}
 
 -- ---- a connection that steps
 

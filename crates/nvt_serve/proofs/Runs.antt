@@ -1,13 +1,13 @@
 -- Deeds, one after the other, and their counts.
 use Rattle.std.proofs.Common.{◌≡◌, ℕ, ◌+◌, Bool, List, [], ◌∷◌, ◌++◌, refl, sym, subst, arith}
-use Rattle.number_table.specs.Table.{place}
+use Rattle.tables.specs.NumberTable.{place}
 use Rattle.nvt_serve.specs.Deed.{Deed, Does, Runs, Serving, is_asking, is_edit, is_opening, is_refusal, stepped_on}
 use Rattle.nvt_serve.specs.declared.served.Served.{Served}
 use Rattle.nvt_serve.specs.Served.{Goes, GoesOn, Numbers, count_of, no_numbers, numbers_of, sum_of}
 use Rattle.nvt_serve.specs.Stepping.{GoesBySteps}
 use Rattle.target_core.specs.Agreement.{front_of}
 use Rattle.target_core.specs.Target.{TargetState}
-use Rattle.target_steps.specs.Steps.{Steps}
+use Rattle.target_core.specs.Steps.{Steps}
 
 pub runs-append : (a b : List Deed) (old mid new : Serving) → Runs a old mid → Runs b mid new → Runs (a ++ b) old new
 runs-append [] b old mid new first more = subst (λ (s : Serving). Runs b s new) first more

@@ -3,8 +3,8 @@ use Rattle.std.proofs.Common.{◌≡◌, ◌≢◌, ℕ, true, false, ◌||◌, 
 use Rattle.std.specs.Prelude.{◌==◌, if◌then◌else◌}
 use Rattle.std.proofs.lemmas.Bool.{cases_eq}
 use Rattle.std.proofs.lemmas.Bool.Decides.{nat_tests}
-use Rattle.number_table.specs.Table.{place, with_value, without}
-use Rattle.number_table.proofs.Tables.{least_free-Some}
+use Rattle.tables.specs.NumberTable.{place, with_value, without}
+use Rattle.tables.proofs.NumberTables.{least_free-Some}
 use Rattle.nvt_ports.specs.Told.{HandedOut}
 use Rattle.nvt_serve.specs.Deed as deed
 use Rattle.nvt_serve.specs.Deed.{Deed, Does, IsSlotOf, Runs, Serving, without_slot}

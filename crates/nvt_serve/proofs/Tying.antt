@@ -5,8 +5,8 @@ use Rattle.std.specs.Option.{option_map}
 use Rattle.std.proofs.lemmas.Bool.{cases_eq, cases_lt}
 use Rattle.std.proofs.lemmas.Bool.Decides.{nat_tests}
 use Rattle.std.proofs.lemmas.List.{get_or_past, get_or-set_other, get_or-set_same}
-use Rattle.number_table.specs.Table.{place, with_value, without}
-use Rattle.number_table.proofs.Tables.{least_free-Some, length-with_value, place-with_value, place-without, place_past}
+use Rattle.tables.specs.NumberTable.{place, with_value, without}
+use Rattle.tables.proofs.NumberTables.{least_free-Some, length-with_value, place-with_value, place-without, place_past}
 use Rattle.nvt_ports.specs.Told.{PortsState}
 use Rattle.nvt_serve.specs.Deed as deed
 use Rattle.nvt_serve.specs.Deed.{ClosedSlot, Deed, Does, IsUnused, Runs, Serving}
@@ -18,8 +18,8 @@ use Rattle.target_core.specs.Transition.{Transition, known_moved}
 use Rattle.target_core.specs.Target.{TargetState, free_number, meets}
 use Rattle.target_history.specs.Event.{given_up, opened}
 use Rattle.target_history.specs.Occurrence.{Occurrence}
-use Rattle.target_steps.specs.Marks.{SameKnown}
-use Rattle.target_steps.proofs.Knowing.{edited_known, received_known, stepped_known, taken_known, ticked_known}
+use Rattle.target_core.specs.Marks.{SameKnown}
+use Rattle.target_core.proofs.Knowing.{edited_known, received_known, stepped_known, taken_known, ticked_known}
 
 -- ---- at first
 

@@ -2,7 +2,7 @@
 use Rattle.std.specs.Prelude.{◌≡◌, ◌<◌, ℕ, List, Option, Some, None, Result, MatchOption, slice_index_or}
 use Rattle.edit_lines.specs.declared.line.NotMade.{NotMade}
 use Rattle.edit_lines.specs.Line.{IsRefused, MakesLine}
-use Rattle.number_table.specs.Table.{place}
+use Rattle.tables.specs.NumberTable.{place}
 use Rattle.nvt_serve.specs.declared.asking.Counted.{Counted}
 use Rattle.nvt_serve.specs.declared.asking.Counted.TheVariants as counted
 use Rattle.nvt_serve.specs.declared.ties.Ties.{Ties}

@@ -1,13 +1,13 @@
 -- What is done while a target is served, one thing at a time.
 use Rattle.std.specs.Prelude.{◌≡◌, ◌≢◌, ◌<◌, ℕ, Bool, true, false, List, [], ◌∷◌, ◌++◌, Option, Some, None, Result, Ok, Err, length, slice_index_or, slice_set}
 use Rattle.std.specs.Option.{option_map}
-use Rattle.config_edits.specs.declared.edit.Edit.{Edit}
-use Rattle.config_rules.specs.Accept.{accept}
+use Rattle.config_lists.specs.declared.edit.Edit.{Edit}
+use Rattle.nvt_config.specs.Accept.{accept}
 use Rattle.config_text.specs.EditLine.{IsLineOf}
 use Rattle.edit_lines.specs.declared.line.NotMade.{NotMade}
 use Rattle.edit_lines.specs.Line.{IsRefused}
 use Rattle.io_queue.specs.Act.{DiskOutcome}
-use Rattle.number_table.specs.Table.{place, with_value, without}
+use Rattle.tables.specs.NumberTable.{place, with_value, without}
 use Rattle.nvt_ports.specs.Told.{HandedOut, PortsState, given_once, heard}
 use Rattle.nvt_ports.specs.Told as told
 use Rattle.pdu_cut.specs.Front.{Front}
@@ -19,7 +19,7 @@ use Rattle.target_core.specs.Target.{ReceivesAt, TakenAt, TargetState, free_numb
 use Rattle.target_core.specs.Transition.{Transition}
 use Rattle.target_history.specs.Event.{Event, edited, given_up, opened, stepped, ticked}
 use Rattle.target_history.specs.Occurrence.{DisksAct}
-use Rattle.target_steps.specs.Steps.{is_idle_at}
+use Rattle.target_core.specs.Steps.{is_idle_at}
 
 -- Ports that are asked what is next hand one of these out: a tick, which sets the clock; a host that connects, in a slot, to
 -- a port, whose connection is opened, or refused and the slot closed; bytes, which the slot's connection receives; bytes, or

@@ -1,6 +1,6 @@
 -- What deeds add to the history of a target, to what each connection received, and to what was taken from it.
 use Rattle.std.specs.Prelude.{◌≡◌, ℕ, ◌==◌, List, [], ◌∷◌, ◌++◌, Option, Some, None, if◌then◌else◌}
-use Rattle.number_table.specs.Table.{place}
+use Rattle.tables.specs.NumberTable.{place}
 use Rattle.nvt_ports.specs.Told as told
 use Rattle.nvt_ports.specs.Told.{HandedOut, Told, more, with_taken}
 use Rattle.nvt_serve.specs.Deed as deed
@@ -10,7 +10,7 @@ use Rattle.target_core.specs.Agreement.{Agrees, extended, left}
 use Rattle.target_history.specs.Event as event
 use Rattle.target_history.specs.Event.{Event}
 use Rattle.target_history.specs.History.{Opening}
-use Rattle.target_steps.specs.Possible.{IsPossible}
+use Rattle.target_core.specs.Possible.{IsPossible}
 
 -- ---- the history
 

@@ -1,13 +1,13 @@
 -- What a turn does not look at: what is true of each connection that is not in a set, and of the rooms that are kept.
 use Rattle.std.specs.Prelude.{◌≡◌, ℕ, Bool, false, true, List, [], Option, Some, None, is_some, slice_index_or, ◌==◌, if◌then◌else◌}
-use Rattle.number_table.specs.Table.{place, with_value, without}
+use Rattle.tables.specs.NumberTable.{place, with_value, without}
 use Rattle.nvt_serve.specs.declared.ties.Ties.{Ties}
 use Rattle.nvt_serve.specs.Deed.{IsSlotOf}
 use Rattle.nvt_serve.specs.Sets.{Joins, SetsBit, is_in}
 use Rattle.target_core.specs.Connection.{KnownConnection}
 use Rattle.target_core.specs.Target.{TargetState, is_ended_at, output_at, room_at}
 use Rattle.target_decision.specs.Session.{role_in}
-use Rattle.target_steps.specs.Steps.{is_idle_at}
+use Rattle.target_core.specs.Steps.{is_idle_at}
 
 -- ---- of a connection
 

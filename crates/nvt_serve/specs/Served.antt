@@ -1,6 +1,6 @@
 -- What it means that a target was served for so many turns.
 use Rattle.std.specs.Prelude.{◌≡◌, ◌<◌, ◌≤◌, ℕ, ◌+◌, Bool, true, false, ◌||◌, List, [], ◌∷◌, Option, Some, None, is_some, replicate, slice_index_or, if◌then◌else◌}
-use Rattle.number_table.specs.Table.{place}
+use Rattle.tables.specs.NumberTable.{place}
 use Rattle.nvt_ports.specs.Told.{PortsState}
 use Rattle.nvt_serve.specs.declared.served.Served.{Served}
 use Rattle.nvt_serve.specs.declared.ties.Ties.{Ties}

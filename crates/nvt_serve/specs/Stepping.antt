@@ -4,7 +4,7 @@ use Rattle.nvt_ports.specs.Told.{PortsState}
 use Rattle.nvt_serve.specs.Looks.{LastsAt}
 use Rattle.nvt_serve.specs.Served.{Goes, IsQuietAt, no_numbers}
 use Rattle.target_core.specs.Target.{TargetState}
-use Rattle.target_steps.specs.Marks.{SameKnown}
+use Rattle.target_core.specs.Marks.{SameKnown}
 
 -- steps were made, whatever the ports and slots are
 abbrev pub GoesBySteps : TargetState → TargetState → Type 0

@@ -1,6 +1,6 @@
 //! What ports hand out goes to the target.
 ghost use Rattle.std.specs.Prelude.{◌≡◌, ◌<◌, length};
-ghost use Rattle.number_table.specs.Table.{place};
+ghost use Rattle.tables.specs.NumberTable.{place};
 ghost use Rattle.nvt_serve.specs.Asking.{EditsBy, EndsSlot, HasRooms, OpensBy, ReceivesIn, numbers_by};
 ghost use Rattle.nvt_serve.specs.Served.{AreTies, Goes, IsTiedWithin, serving};
 

@@ -1,6 +1,6 @@
 //! Connections that have ended are given up once all that they had to send is taken.
 ghost use Rattle.std.specs.Prelude.{◌≡◌, ◌<◌, ℕ, [], false, true};
-ghost use Rattle.number_table.specs.Table.{place};
+ghost use Rattle.tables.specs.NumberTable.{place};
 ghost use Rattle.nvt_serve.specs.Asking.{HasRooms};
 ghost use Rattle.nvt_serve.specs.Looks.{AreEnding};
 ghost use Rattle.nvt_serve.specs.Served.{AreTies, Goes, no_numbers, serving};

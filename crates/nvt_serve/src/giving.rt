@@ -1,6 +1,6 @@
 //! What connections have to send goes to their slots.
 ghost use Rattle.std.specs.Prelude.{◌≡◌, ◌<◌, Some};
-ghost use Rattle.number_table.specs.Table.{place};
+ghost use Rattle.tables.specs.NumberTable.{place};
 ghost use Rattle.nvt_serve.specs.Served.{AreTies, Goes, no_numbers, serving};
 
 use crate::ties::Ties;

@@ -4,7 +4,7 @@ ghost use Rattle.nvt_serve.specs.Looks.{AreLooks, IsAlone};
 ghost use Rattle.nvt_serve.specs.Served.{IsQuiet};
 ghost use Rattle.nvt_serve.specs.Sets.{is_in};
 ghost use Rattle.nvt_serve.specs.Stepping.{GoesBySteps, StepsOut};
-ghost use Rattle.target_steps.specs.Marks.{SameKnown};
+ghost use Rattle.target_core.specs.Marks.{SameKnown};
 
 use crate::ties::Ties;
 use block_store::Disk;

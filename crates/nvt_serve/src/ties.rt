@@ -1,6 +1,6 @@
 //! Which connection each slot has, and which connections a turn has to look at.
 ghost use Rattle.std.specs.Prelude.{◌≡◌, ◌<◌, ◌≤◌, ◌≢◌, ℕ, MatchOption, None, Some, replicate, false};
-ghost use Rattle.number_table.specs.Table.{place};
+ghost use Rattle.tables.specs.NumberTable.{place};
 ghost use Rattle.nvt_serve.specs.Looks.{AreKnown, AreLooks, Edits, Forgets, ForgetsAlone, GivesRooms, NoneEnds};
 ghost use Rattle.nvt_serve.specs.Looks.{Opens, Receives, RestsNow, SetsRoom, StepsIn, Ticks, Unties};
 ghost use Rattle.nvt_serve.specs.Sets.{IsFirst, is_in};

@@ -4,17 +4,21 @@
 //! applies a file of edits to disks alone, and serves nothing.
 #![tactic(auto)]
 
-use command_parts::{ReplayFault, exit_status};
+mod arguments;
+mod command_line;
+mod help;
+
+use arguments::Usage;
 use std::process::ExitCode;
-use target_arguments::Usage;
+use target_programs::{ReplayFault, check, exit_status, replaying, serving};
 
 const BAD_ARGUMENTS: u8 = 2;
 
 fn main(rt: HostRuntime) -> ExitCode {
-    match target_arguments::read(&rt) {
-        Ok(Usage::Replay(arguments)) => finish(&rt, replay_program::run(&rt, &arguments)),
-        Ok(Usage::Serve(arguments)) => finish(&rt, serve_program::run(&rt, &arguments)),
-        Ok(Usage::Check(arguments)) => finish(&rt, replay_program::check(&rt, &arguments)),
+    match arguments::read(&rt) {
+        Ok(Usage::Replay(arguments)) => finish(&rt, replaying::run(&rt, &arguments)),
+        Ok(Usage::Serve(arguments)) => finish(&rt, serving::run(&rt, &arguments)),
+        Ok(Usage::Check(arguments)) => finish(&rt, check(&rt, &arguments)),
         Ok(Usage::Help) => ExitCode::SUCCESS,
         Ok(Usage::Bad) => {
             let _ = eprintln!(rt; "error: bad arguments");

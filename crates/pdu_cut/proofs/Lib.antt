@@ -1,4 +1,5 @@
 pub mod Fronts
 pub mod Headers
 pub mod Ranges
+pub mod Short
 pub mod Streams

@@ -1,6 +1,6 @@
 -- Numbers among the words of a command.
 use Rattle.std.specs.Prelude.{◌≡◌, ℕ, List, Option, MatchOption}
-use Rattle.line_words.specs.Number.{IsNumber}
+use Rattle.config_text.specs.Number.{IsNumber}
 
 abbrev pub IsNone : List ℕ → Type 0
 IsNone word = (n : ℕ) → IsNumber word n → ⊥

@@ -4,7 +4,7 @@ ghost use Rattle.clap.specs.Matches.{first_value, found_of};
 ghost use Rattle.program_words.specs.Number.{IsRead};
 
 use clap::ArgMatches;
-use line_words::read_number;
+use config_text::read_number;
 
 /// The number that is given under this name, as in the line of an edit: decimal, without a sign or leading zeros. None
 /// where another word is, or none.

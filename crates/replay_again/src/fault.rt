@@ -1,5 +1,5 @@
 //! Why a script is not played to its end.
-use replay_lines::ReplayFault;
+use edit_lines::ReplayFault;
 use std::alloc::AllocError;
 use thiserror::Error;
 

@@ -3,14 +3,13 @@ use crate::arguments::{Arguments, How};
 use crate::fault::PlayFault;
 use crate::player::{PlayedTarget, Player};
 use block_store::{FailingDisk, MemoryDisk};
-use command_parts::read_file;
 use config_text::Lines;
-use edit_lines::{NotMade, make_line};
-use replay_lines::{ReplayFault, written};
+use edit_lines::{NotMade, ReplayFault, make_line, written};
 use std::alloc::{AllocError, Global};
 use std::io::{self, BufWriter, Write};
 use std::rt::Files;
 use target_core::Target;
+use target_programs::read_file;
 use testkit_edits::again;
 
 const OUTPUT_BUFFER: usize = 1 << 16;

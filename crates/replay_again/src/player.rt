@@ -1,8 +1,7 @@
 //! A target that the lines of a script are played over, each call again where it answers Memory.
 use crate::fault::PlayFault;
 use block_store::{FailingDisk, MemoryDisk};
-use edit_lines::{NotMade, make_line};
-use replay_lines::{Printer, ReplayFault, StreamLine, read_stream_line};
+use edit_lines::{NotMade, Printer, ReplayFault, StreamLine, make_line, read_stream_line};
 use std::alloc::Global;
 use std::io::Write;
 use target_core::{OpenFault, StepFault, Stepped, Target};

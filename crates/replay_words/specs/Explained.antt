@@ -3,7 +3,7 @@ use Rattle.std.specs.Prelude.{◌≡◌, ℕ, ◌-◌, ◌==◌, not, ◌⊎◌,
 use Rattle.std.specs.Io.KnownBytes.{Appends}
 use Rattle.std.specs.List.{AllPass}
 use Rattle.pdu_words.specs.Pages.{described_words}
-use Rattle.host_commands.specs.HostStreams.{Known}
+use Rattle.replay_words.specs.HostStreams.{Known}
 use Rattle.replay_words.specs.declared.lines.ScriptLine.{ScriptLine}
 use Rattle.replay_words.specs.Lines.{SaysScript}
 use Rattle.replay_words.specs.Notes.{HearsSaid, Noted, NotesLine}

@@ -1,7 +1,7 @@
 -- The lines of a replay that open and close connections and carry bytes.
 use Rattle.std.specs.Prelude.{◌≡◌, ◌≢◌, ◌==◌, ℕ, List, ◌++◌, codes}
 use Rattle.std.specs.List.{before_first, after_first}
-use Rattle.line_words.specs.Number.{IsNumber}
+use Rattle.config_text.specs.Number.{IsNumber}
 use Rattle.replay_words.specs.declared.lines.PrintedLine.{PrintedLine}
 use Rattle.replay_words.specs.declared.lines.PrintedLine.TheVariants as printed
 use Rattle.replay_words.specs.declared.lines.ScriptLine.{ScriptLine}

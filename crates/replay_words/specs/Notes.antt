@@ -3,9 +3,9 @@ use Rattle.std.specs.Prelude.{◌≡◌, ℕ, List, take, Option, Some, None, Re
 use Rattle.std.specs.declared.alloc.AllocError.{AllocError}
 use Rattle.hex.specs.Hex.{decode_of}
 use Rattle.hex.specs.declared.error.FromHexError.{FromHexError}
-use Rattle.number_table.specs.Table.{place, without}
+use Rattle.tables.specs.NumberTable.{place, without}
 use Rattle.pdu_words.specs.declared.explanation.Explanation.{Explanation}
-use Rattle.host_commands.specs.HostStreams.{Known, HeardOn, opened_at, said_on, after_saying}
+use Rattle.replay_words.specs.HostStreams.{Known, HeardOn, opened_at, said_on, after_saying}
 use Rattle.replay_words.specs.declared.lines.PrintedLine.{PrintedLine}
 use Rattle.replay_words.specs.declared.lines.PrintedLine.TheVariants as printed
 use Rattle.replay_words.specs.declared.lines.ScriptLine.{ScriptLine}

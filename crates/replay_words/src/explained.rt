@@ -7,7 +7,7 @@ ghost use Rattle.replay_words.specs.Explained.{Passes, WasHeard, kept, words_beh
 ghost use Rattle.replay_words.specs.Notes.{HearsLine, Noted, NotesLine};
 
 use crate::notes::{Note, Notes};
-use line_words::find_byte;
+use config_text::find_byte;
 use std::alloc::{AllocError, Global};
 use std::io::{self, Write};
 

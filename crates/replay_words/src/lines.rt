@@ -3,7 +3,7 @@ ghost use Rattle.std.specs.Prelude.{◌≡◌, ◌≢◌, ◌==◌, ◌++◌, �
 ghost use Rattle.std.specs.List.{before_first, after_first, position_or_len};
 ghost use Rattle.replay_words.specs.Lines.{SaysPrinted, SaysScript};
 
-use line_words::{find_byte, read_number};
+use config_text::{find_byte, read_number};
 
 /// A line that a replay prints.
 #[derive(Clone, Copy)]

@@ -2,9 +2,9 @@
 ghost use Rattle.std.specs.Prelude.{◌≡◌, IfOk, ℕ, Vec, None, OnErr, option_map, replicate};
 ghost use Rattle.replay_words.specs.Notes.{HearsLine, NotesLine, bytes_of, head_of};
 
+use crate::HostStreams;
 use crate::lines::{PrintedLine, ScriptLine, read_printed, read_script};
 use hex::FromHexError;
-use host_commands::HostStreams;
 use pdu_words::{Described, Explanation};
 use std::alloc::{AllocError, Global};
 use std::marker::Model;
@@ -50,7 +50,7 @@ pub struct Notes {
 
 impl Model for Notes {
     ghost use Rattle.std.specs.Prelude.{List, Option};
-    ghost use Rattle.host_commands.specs.HostStream.{Heard};
+    ghost use Rattle.replay_words.specs.HostStream.{Heard};
 
     ghost Value = { List (Option Heard) };
 

@@ -4,11 +4,11 @@ use Rattle.std.proofs.Math.Path.{fun_ext}
 use Rattle.std.proofs.lemmas.Bool.{eqb-true}
 use Rattle.std.specs.Prelude.{if◌then◌else◌, ◌==◌}
 use Rattle.std.specs.Option.{option_map}
-use Rattle.config_rules.specs.Configuration.{Configuration}
+use Rattle.nvt_config.specs.Configuration.{Configuration}
 use Rattle.fabrics_connect.specs.declared.row.Row.{Row}
-use Rattle.number_table.specs.Table.{place}
-use Rattle.number_table.proofs.Tables.{place-replicate}
-use Rattle.controller_tables.specs.Controllers.{controller_places}
+use Rattle.tables.specs.NumberTable.{place}
+use Rattle.tables.proofs.NumberTables.{place-replicate}
+use Rattle.target_state.specs.Controllers.{controller_places}
 use Rattle.std.proofs.Math.ListN.{get_or-map}
 use Rattle.block_store.specs.Stored.{Stored}
 use Rattle.data_transfer.specs.Parts.{part_at}
@@ -35,7 +35,7 @@ use Rattle.target_history.proofs.Blocks.{blocks_step}
 use Rattle.target_history.proofs.Lives.{controller_step, row_step}
 use Rattle.target_history.proofs.Noticing.{connection_step}
 use Rattle.target_history.proofs.Transfers.{part_step}
-use Rattle.target_views.proofs.Shows.{new_show, pages_agree, views_step}
+use Rattle.target_state.proofs.Shows.{new_show, pages_agree, views_step}
 
 -- ---- what an event meets
 

@@ -3,10 +3,10 @@ use Rattle.std.proofs.Common.{◌≡◌, ◌≤◌, ℕ, ◌+◌, Bool, true, fa
 use Rattle.std.specs.Prelude.{if◌then◌else◌, ◌==◌}
 use Rattle.std.specs.Option.{option_map}
 use Rattle.std.proofs.lemmas.Bool.{eqb-true}
-use Rattle.number_table.specs.Table.{place}
-use Rattle.number_table.proofs.Tables.{place_within, place-with_value}
-use Rattle.config_edits.specs.declared.edit.Edit.{Edit}
-use Rattle.config_edits.specs.declared.fault.EditFault.{EditFault}
+use Rattle.tables.specs.NumberTable.{place}
+use Rattle.tables.proofs.NumberTables.{place_within, place-with_value}
+use Rattle.config_lists.specs.declared.edit.Edit.{Edit}
+use Rattle.config_lists.specs.declared.fault.EditFault.{EditFault}
 use Rattle.discovery_view.specs.Forming.{reach}
 use Rattle.pdu_cut.specs.declared.side.Side.TheVariants.{Target}
 use Rattle.pdu_cut.specs.Front.{Front, incomplete, whole, faulty, front}

@@ -5,7 +5,7 @@ use Rattle.pdu_cut.specs.declared.cut.Cut.TheVariants as cut
 use Rattle.pdu_cut.specs.declared.side.Side.{Side}
 use Rattle.pdu_cut.specs.Cut.{IfPdu, front_shown}
 use Rattle.pdu_cut.specs.Front.{BeginsWithPdu, Front, faulty, incomplete, whole}
-use Rattle.pdu_stream.specs.Short.{IsShort}
+use Rattle.pdu_cut.specs.Short.{IsShort}
 use Rattle.target_decision.specs.Decision.{head_of, consumed_of}
 
 pub head_bound : (found : Front) → IsShort found → length (head_of found) ≤ 128

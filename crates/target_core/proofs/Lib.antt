@@ -1,8 +1,11 @@
 pub mod Agreements
 pub mod Calls
 pub mod Fronts
+pub mod Knowing
 pub mod Moving
 pub mod Places
+pub mod Possibly
 pub mod Settling
 pub mod Stepping
+pub mod Steps
 pub mod Units

@@ -2,17 +2,17 @@
 use Rattle.std.proofs.Common.{◌≡◌, ℕ, ◌+◌, ◌<◌, ◌≤◌, Bool, true, false, List, [], length, map, ◌++◌, max, Option, Some, None, Ok, refl, sym, ap, ◌∙◌, append-nil}
 use Rattle.std.specs.Prelude.{if◌then◌else◌, ◌==◌, is_none, position}
 use Rattle.std.specs.Option.{option_map}
-use Rattle.number_table.specs.Table.{place, with_value, without}
-use Rattle.number_table.proofs.Tables.{least_free-Some, place-map, place-with_value, place-without}
-use Rattle.config_edits.specs.declared.edit.Edit.{Edit}
-use Rattle.config_rules.specs.Accept.{accept}
-use Rattle.config_rules.specs.Configuration.{Configuration}
-use Rattle.controller_tables.specs.Controllers.{TablesState, gone_by}
-use Rattle.controller_tables.proofs.Staying.{nothing_gone, nothing_goes, nothing_leaves}
+use Rattle.tables.specs.NumberTable.{place, with_value, without}
+use Rattle.tables.proofs.NumberTables.{least_free-Some, place-map, place-with_value, place-without}
+use Rattle.config_lists.specs.declared.edit.Edit.{Edit}
+use Rattle.nvt_config.specs.Accept.{accept}
+use Rattle.nvt_config.specs.Configuration.{Configuration}
+use Rattle.target_state.specs.Controllers.{TablesState, gone_by}
+use Rattle.target_state.proofs.Staying.{nothing_gone, nothing_goes, nothing_leaves}
 use Rattle.block_store.specs.Stored.{Stored}
 use Rattle.discovery_view.specs.Forming.{reach}
 use Rattle.fabrics_connect.specs.declared.row.Row.{Row}
-use Rattle.notices.specs.Viewer.{Views}
+use Rattle.admin_queue.specs.Viewer.{Views}
 use Rattle.data_transfer.specs.Part.{Part}
 use Rattle.data_transfer.specs.Parts.{Stand, part_at, without_queue}
 use Rattle.io_queue.specs.Act.{DiskOutcome}
@@ -21,7 +21,7 @@ use Rattle.pdu_cut.specs.Front.{Front}
 use Rattle.target_core.specs.Connection.{KnownConnection, ends_known, fresh_on, settled, told_known, told_to}
 use Rattle.target_core.specs.Transition.{Transition, known_moved}
 use Rattle.target_core.specs.Target.{TargetState, meets}
-use Rattle.target_views.specs.Views.{ShowNext}
+use Rattle.target_state.specs.Views.{ShowNext}
 use Rattle.target_decision.specs.declared.decision.Decision.{Decision}
 use Rattle.target_decision.specs.declared.session.ConnectionState.{ConnectionState}
 use Rattle.target_decision.specs.declared.session.Role.TheVariants.{Admin, Io}

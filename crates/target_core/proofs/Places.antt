@@ -3,8 +3,8 @@ use Rattle.std.proofs.Common.{◌≡◌, ℕ, ◌<◌, Bool, true, false, List, 
 use Rattle.std.specs.Prelude.{if◌then◌else◌, ◌==◌, is_none, position}
 use Rattle.std.specs.Option.{option_map}
 use Rattle.std.proofs.lemmas.Bool.{eqb-true}
-use Rattle.number_table.specs.Table.{place, with_value, without}
-use Rattle.number_table.proofs.Tables.{least_free-Some, length-with_value, length-without, place_within, place-map, place-replicate, place-with_value, place-without}
+use Rattle.tables.specs.NumberTable.{place, with_value, without}
+use Rattle.tables.proofs.NumberTables.{least_free-Some, length-with_value, length-without, place_within, place-map, place-replicate, place-with_value, place-without}
 use Rattle.std.proofs.lemmas.List.{length-map}
 use Rattle.target_core.specs.Connection.{KnownConnection}
 use Rattle.target_decision.specs.World.{connections_max}

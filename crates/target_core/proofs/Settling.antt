@@ -4,8 +4,8 @@ use Rattle.std.proofs.lemmas.Bool.{cases_lt, eqb-true}
 use Rattle.std.proofs.lemmas.Bool.Decides.{nat_tests}
 use Rattle.data_transfer.specs.Part.{Part}
 use Rattle.data_transfer.specs.Parts.{Stand, part_at, without_queue}
-use Rattle.number_table.specs.Table.{place}
-use Rattle.number_table.proofs.Tables.{place_past}
+use Rattle.tables.specs.NumberTable.{place}
+use Rattle.tables.proofs.NumberTables.{place_past}
 use Rattle.pdu_cut.specs.Front.{Front}
 use Rattle.target_decision.specs.declared.transfer.WaitingCommand.{WaitingCommand}
 use Rattle.target_decision.specs.Carry.{tags_after}

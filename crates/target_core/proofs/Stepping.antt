@@ -4,11 +4,11 @@ use Rattle.std.specs.Prelude.{if◌then◌else◌, ◌==◌}
 use Rattle.std.specs.Option.{option_map}
 use Rattle.std.proofs.Math.Dec.{T, eqb_refl}
 use Rattle.std.proofs.lemmas.Bool.{eqb-true}
-use Rattle.number_table.specs.Table.{place, with_value}
-use Rattle.number_table.proofs.Tables.{place_within, place-map, place-with_value}
-use Rattle.controller_tables.specs.Controllers.{gone_by}
-use Rattle.controller_tables.proofs.Changing.{changed_alike}
-use Rattle.controller_tables.proofs.Staying.{nothing_gone}
+use Rattle.tables.specs.NumberTable.{place, with_value}
+use Rattle.tables.proofs.NumberTables.{place_within, place-map, place-with_value}
+use Rattle.target_state.specs.Controllers.{gone_by}
+use Rattle.target_state.proofs.Changing.{changed_alike}
+use Rattle.target_state.proofs.Staying.{nothing_gone}
 use Rattle.fabrics_connect.specs.declared.row.Row.{Row}
 use Rattle.block_store.specs.Stored.{Stored}
 use Rattle.data_transfer.specs.Part.{Part}

@@ -1,7 +1,7 @@
 -- The disks that a target is made with.
 use Rattle.std.proofs.Common.{◌≡◌, ◌≤◌, ℕ, List, [], ◌∷◌, length, map, Result, Ok, Err, IfOk, refl, ap, ◌∙◌, arith}
 use Rattle.block_store.specs.Stored.{Stored}
-use Rattle.config_rules.specs.Configuration.{Configuration, disks_alone}
+use Rattle.nvt_config.specs.Configuration.{Configuration, disks_alone}
 use Rattle.io_queue.specs.Execution.{sizes}
 use Rattle.target_core.specs.Target.{IsNewTarget, IsOver, TargetState}
 use Rattle.target_history.specs.History.{Opening}

@@ -1,10 +1,10 @@
 -- What it means that a target agrees with a history, and with the bytes that each connection received
 -- and that were taken from it.
 use Rattle.std.specs.Prelude.{◌≡◌, ℕ, Bool, ◌==◌, ◌||◌, ◌&&◌, List, [], ◌∷◌, ◌++◌, Option, Some, None, Result, MatchOption, MatchResult, if◌then◌else◌, take}
-use Rattle.number_table.specs.Table.{place}
+use Rattle.tables.specs.NumberTable.{place}
 use Rattle.data_transfer.specs.Parts.{part_at}
-use Rattle.config_edits.specs.declared.edit.Edit.{Edit}
-use Rattle.config_edits.specs.declared.fault.EditFault.{EditFault}
+use Rattle.config_lists.specs.declared.edit.Edit.{Edit}
+use Rattle.config_lists.specs.declared.fault.EditFault.{EditFault}
 use Rattle.io_queue.specs.Act.{DiskOutcome}
 use Rattle.io_queue.specs.Execution.{Tells, contents_at}
 use Rattle.pdu_cut.specs.declared.side.Side.TheVariants.{Target}
@@ -18,7 +18,7 @@ use Rattle.target_core.specs.declared.fault.Stepped.{Stepped}
 use Rattle.target_core.specs.declared.fault.Stepped.TheVariants.{Idle, One, Ended}
 use Rattle.target_core.specs.Connection.{KnownConnection}
 use Rattle.target_core.specs.Target.{TargetState, connection_at}
-use Rattle.target_views.specs.Views.{ShowHistory}
+use Rattle.target_state.specs.Views.{ShowHistory}
 use Rattle.target_history.specs.Event.{Event, edited, gives_up, opened, opens, stepped, given_up}
 use Rattle.target_history.specs.Occurrence.{DisksAct, Occurrence}
 use Rattle.target_history.specs.History.{Opening, blocks_of, clock_of, config_of, controller_of, connection_of, happened, has_ended, is_known, last_front, meets_after, part_of, pdus_of, row_of, sent}

@@ -1,11 +1,11 @@
 -- One connection, as the calls of a target see it.
 use Rattle.std.specs.Prelude.{◌≡◌, ℕ, Bool, false, List, [], ◌++◌, Option, Some, None, if◌then◌else◌}
 use Rattle.block_store.specs.Stored.{Stored}
-use Rattle.config_rules.specs.Configuration.{Configuration}
+use Rattle.nvt_config.specs.Configuration.{Configuration}
 use Rattle.fabrics_connect.specs.declared.row.Row.{Row}
 use Rattle.io_queue.specs.Act.{DiskOutcome}
 use Rattle.io_queue.specs.Execution.{DisksDid, contents_at, sizes as sizes_of, write_on, written}
-use Rattle.notices.specs.Viewer.{Views}
+use Rattle.admin_queue.specs.Viewer.{Views}
 use Rattle.pdu_cut.specs.Front.{Front}
 use Rattle.target_decision.specs.declared.decision.Decision.{Decision}
 use Rattle.target_decision.specs.declared.session.ConnectionState.{ConnectionState}

@@ -1,10 +1,10 @@
 -- A target, as its calls see it.
 use Rattle.std.specs.Prelude.{◌≡◌, ◌≤◌, ℕ, ◌-◌, ◌==◌, Bool, true, false, ◌||◌, List, [], Option, Some, None, is_none, find, position, replicate, Result, Ok, IsErr, ◌++◌, map, min, length, take, drop, if◌then◌else◌}
 use Rattle.std.specs.Option.{option_map}
-use Rattle.number_table.specs.Table.{place, with_value}
-use Rattle.config_rules.specs.Configuration.{Configuration, disks_alone}
+use Rattle.tables.specs.NumberTable.{place, with_value}
+use Rattle.nvt_config.specs.Configuration.{Configuration, disks_alone}
 use Rattle.config_lists.specs.declared.port.Port.{Port}
-use Rattle.controller_tables.specs.Controllers.{controller_places}
+use Rattle.target_state.specs.Controllers.{controller_places}
 use Rattle.block_store.specs.Stored.{Stored}
 use Rattle.discovery_view.specs.Catalog.{catalog_of}
 use Rattle.data_transfer.specs.Part.{Part}
@@ -19,7 +19,7 @@ use Rattle.target_core.specs.declared.fault.NoConn.{NoConn}
 use Rattle.target_core.specs.declared.fault.OpenFault.{OpenFault}
 use Rattle.target_core.specs.declared.fault.OpenFault.TheVariants.{NoSuchPort, Full}
 use Rattle.target_core.specs.Connection.{KnownConnection}
-use Rattle.target_views.specs.Views.{AreViewsOf, ShowFirst, ViewsShown, ViewsState, pages_shown}
+use Rattle.target_state.specs.Views.{AreViewsOf, ShowFirst, ViewsShown, ViewsState, pages_shown}
 use Rattle.target_decision.specs.declared.controller.Controller.{Controller}
 use Rattle.target_decision.specs.declared.session.ConnectionState.{ConnectionState}
 use Rattle.target_decision.specs.declared.transfer.WaitingCommand.{WaitingCommand}

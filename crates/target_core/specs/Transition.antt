@@ -1,7 +1,7 @@
 -- What an event makes of a target, place by place.
 use Rattle.std.specs.Prelude.{◌≡◌, ◌≤◌, ℕ, Bool, length, true, false, List, [], Option, Some, None, Result, Err, MatchResult, ◌++◌, drop, if◌then◌else◌}
 use Rattle.std.specs.Option.{option_map}
-use Rattle.number_table.specs.Table.{place, with_value}
+use Rattle.tables.specs.NumberTable.{place, with_value}
 use Rattle.block_store.specs.Stored.{Stored}
 use Rattle.data_transfer.specs.Parts.{part_at}
 use Rattle.io_queue.specs.Act.{DiskOutcome}
@@ -14,7 +14,7 @@ use Rattle.target_core.specs.declared.fault.Stepped.{Stepped}
 use Rattle.target_core.specs.declared.fault.Stepped.TheVariants.{Idle, One, Ended}
 use Rattle.target_core.specs.Connection.{Acts, KnownConnection, fresh_on}
 use Rattle.target_core.specs.Target.{TargetState, is_idle, is_incomplete, meets}
-use Rattle.target_views.specs.Views.{FormedAfter, ShowAfter}
+use Rattle.target_state.specs.Views.{FormedAfter, ShowAfter}
 use Rattle.target_decision.specs.declared.decision.Decision.{Decision}
 use Rattle.target_decision.specs.Decision.{Brought, consumed_of}
 use Rattle.target_decision.specs.World.{World}

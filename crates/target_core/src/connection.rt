@@ -1,12 +1,12 @@
 //! One connection: how far it has come, and what it has to send.
 ghost use Rattle.std.specs.Prelude.{◌≡◌, ◌<◌, ◌≤◌, OnErr, OnOk, drop, length};
-ghost use Rattle.controller_tables.specs.Controllers.{is_gone};
+ghost use Rattle.target_state.specs.Controllers.{is_gone};
 ghost use Rattle.data_transfer.specs.Parts.{Stand, part_at};
 ghost use Rattle.io_queue.specs.Execution.{sizes};
-ghost use Rattle.config_rules.specs.Configuration.{Configuration};
-ghost use Rattle.notices.specs.Planned.{Plans};
-ghost use Rattle.notices.specs.Viewer.{views_of as viewed};
-ghost use Rattle.number_table.specs.Table.{place};
+ghost use Rattle.nvt_config.specs.Configuration.{Configuration};
+ghost use Rattle.admin_queue.specs.Planned.{Plans};
+ghost use Rattle.admin_queue.specs.Viewer.{views_of as viewed};
+ghost use Rattle.tables.specs.NumberTable.{place};
 ghost use Rattle.pdu_cut.specs.Cut.{front_shown};
 ghost use Rattle.target_core.specs.Connection.{Acts, fresh_on, settled, told_known};
 ghost use Rattle.target_decision.specs.Carry.{CarriesWell, brought_by, tags_after, with_own};
@@ -15,12 +15,11 @@ ghost use Rattle.target_decision.specs.Session.{is_ended};
 ghost use Rattle.target_decision.specs.World.{world_in};
 ghost use Rattle.target_history.specs.Occurrence.{views_of};
 
+use admin_queue::{PlannedEdit, Viewer};
 use block_store::{Disk, Store};
 use bytes::BytesMut;
-use controller_tables::ControllerTables;
 use data_transfer::Transfers;
 use fabrics_connect::Row;
-use notices::{PlannedEdit, Viewer};
 use pdu_cut::Cut;
 use std::alloc::{AllocError, Global};
 use std::marker::Model;
@@ -28,6 +27,7 @@ use target_decision::{
     ConnectionState, Decision, Role, Session, WaitingCommand, World, fulfil, prepare,
 };
 use target_history::EndCause;
+use target_state::ControllerTables;
 
 /// A connection that is known.
 #[derive(Drop)]

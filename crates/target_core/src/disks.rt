@@ -2,10 +2,10 @@
 ghost use Rattle.std.specs.Prelude.{◌≡◌, ◌^◌, IfOk, length, map, nat_le};
 ghost use Rattle.std.specs.List.{list_all};
 ghost use Rattle.block_store.specs.Stored.{Stored};
-ghost use Rattle.config_rules.specs.Configuration.{are_disks};
+ghost use Rattle.nvt_config.specs.Configuration.{are_disks};
 
 use block_store::{Disk, Store};
-use config_rules::{DISK_UNITS_MAX, DISKS_MAX};
+use nvt_config::{DISK_UNITS_MAX, DISKS_MAX};
 use std::alloc::{AllocError, Global};
 
 /// Whether a target may have these disks.

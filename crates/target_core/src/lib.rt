@@ -1,7 +1,7 @@
 //! The state machine of an NVMe over TCP target: bytes and edits come in by calls, and the PDUs
 //! that it owes go out by `output` and `taken`. Nothing in it waits, reads a clock or a socket: the
 //! caller hands in the time by `tick`. It serves discovery and I/O controllers on up to 64
-//! connections, with edits between their PDUs.
+//! connections, with edits between their PDUs. `Marks` say which connections are known, for who walks over them.
 //!
 //! A caller with a connection's bytes does this:
 //!
@@ -21,9 +21,11 @@
 mod connection;
 mod disks;
 mod fault;
+pub mod marks;
 mod settle;
 mod target;
 
 pub use fault::{NoConn, OpenFault, StepFault, Stepped};
+pub use marks::Marks;
 pub use target::Target;
 pub use target_decision::CONNECTIONS_MAX;

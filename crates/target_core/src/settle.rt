@@ -3,21 +3,21 @@
 ghost use Rattle.std.specs.Prelude.{◌≡◌, ℕ, None, if◌then◌else◌, map};
 ghost use Rattle.std.specs.Option.{option_copied, option_map};
 ghost use Rattle.data_transfer.specs.Parts.{part_at};
-ghost use Rattle.number_table.specs.Table.{place};
-ghost use Rattle.controller_tables.specs.Controllers.{gone_by, is_gone};
+ghost use Rattle.tables.specs.NumberTable.{place};
+ghost use Rattle.target_state.specs.Controllers.{gone_by, is_gone};
 ghost use Rattle.target_core.specs.Connection.{ends_known, settled, told_known};
-ghost use Rattle.config_rules.specs.Configuration.{Configuration};
-ghost use Rattle.notices.specs.Planned.{Plans};
+ghost use Rattle.nvt_config.specs.Configuration.{Configuration};
+ghost use Rattle.admin_queue.specs.Planned.{Plans};
 ghost use Rattle.target_history.specs.Occurrence.{row_kept};
 
 use crate::connection::Connection;
-use controller_tables::ControllerTables;
+use admin_queue::PlannedEdit;
 use data_transfer::Transfers;
-use notices::PlannedEdit;
-use number_table::NumberTable;
 use nvt_config::Config;
+use tables::NumberTable;
 use target_decision::WaitingCommand;
 use target_history::EndCause;
+use target_state::ControllerTables;
 
 /// Ends the controllers and the connections that it ends, where the configuration has become this,
 /// and takes from the controllers that stay the queues that are gone.
@@ -51,7 +51,7 @@ pub(crate) fn settle(
 
 /// Tells the host of each controller that lives, on its admin queue, what an edit changes of what the
 /// controller shows.
-#[tactic(auto, using(number_table::proofs::Walks::walks))]
+#[tactic(auto, using(tables::proofs::NumberWalks::walks))]
 pub(crate) fn tell(
     connections: &mut NumberTable<Connection>,
     tables: &ControllerTables,
@@ -95,7 +95,7 @@ fn ends(connection: Option<&Connection>, gone: &[bool], cause: &EndCause) -> boo
     }
 }
 
-#[tactic(auto, using(number_table::proofs::Walks::walks))]
+#[tactic(auto, using(tables::proofs::NumberWalks::walks))]
 fn end_connections(connections: &mut NumberTable<Connection>, gone: &[bool], cause: &EndCause)
     ensures { connections.new
         ≡ map (option_map (settled cause.now (is_gone gone.now))) connections.old }

@@ -2,10 +2,10 @@
 ghost use Rattle.std.specs.Prelude.{◌≡◌, ◌<◌, ◌≤◌, ◌+◌, IfOk, IfErr, IsOk, IsOkUnless, Ok, OnErr, OnOk, MatchOption, MatchResult, Some, None, [], drop, is_some, length, map, replicate, true};
 ghost use Rattle.std.specs.Bool.{OnFalse, OnTrue};
 ghost use Rattle.std.specs.Option.{option_copied};
-ghost use Rattle.number_table.specs.Table.{place};
-ghost use Rattle.config_rules.specs.Accept.{accept};
-ghost use Rattle.config_rules.specs.Configuration.{are_disks};
-ghost use Rattle.controller_tables.specs.Controllers.{controller_places};
+ghost use Rattle.tables.specs.NumberTable.{place};
+ghost use Rattle.nvt_config.specs.Accept.{accept};
+ghost use Rattle.nvt_config.specs.Configuration.{are_disks};
+ghost use Rattle.target_state.specs.Controllers.{controller_places};
 ghost use Rattle.discovery_view.specs.Catalog.{catalog_of};
 ghost use Rattle.discovery_view.specs.Forming.{reach};
 ghost use Rattle.fabrics_connect.specs.Controllers.{no_controllers};
@@ -19,26 +19,24 @@ ghost use Rattle.target_decision.specs.Decision.{PerformsWithin, head_of, is_end
 ghost use Rattle.target_decision.specs.World.{connections_max, world_in};
 ghost use Rattle.target_core.specs.Target.{free_number, is_ended_at, is_incomplete, open_fault, output_at, room_at, IsNewTarget, IsOver, ReceivesAt, TakenAt};
 ghost use Rattle.target_history.specs.Event.{edited, given_up, opened, ticked};
-ghost use Rattle.target_views.specs.Views.{AreViewsOf, ShowFirst};
+ghost use Rattle.target_state.specs.Views.{AreViewsOf, ShowFirst};
 
 use crate::connection::Connection;
 use crate::disks::{are_disks, stores_over, units_of};
 use crate::fault::{NoConn, OpenFault, StepFault, Stepped};
 use crate::settle::{settle, tell};
 use block_store::{Disk, Store};
-use controller_tables::{ControllerTables, consequence_of};
 use data_transfer::Transfers;
-use number_table::NumberTable;
 use nvt_config::{Config, Edit, EditFault, NewFault};
-use pdu_cut::Cut;
-use pdu_stream::{OfTarget, Stream};
+use pdu_cut::{Cut, OfTarget, Stream};
 use std::alloc::{AllocError, Global};
 use std::marker::Model;
+use tables::NumberTable;
 use target_decision::{
     CONNECTIONS_MAX, Decision, OwnTransfers, WaitingCommand, World, consumed_of, decide, new_row,
 };
 use target_history::EndCause;
-use target_views::Views;
+use target_state::{ControllerTables, Views, consequence_of};
 
 /// A target. It serves up to 64 connections, each by the least number that was free when it was
 /// opened, and up to 32 controllers.
@@ -344,7 +342,7 @@ impl<D: Disk + Drop> Target<D> {
         }
     }
 
-    #[tactic(auto, using(crate::proofs::Places::stream_free, crate::proofs::Places::open_is_target, number_table::proofs::Tables::laws, crate::proofs::Moving::open_moves))]
+    #[tactic(auto, using(crate::proofs::Places::stream_free, crate::proofs::Places::open_is_target, tables::proofs::NumberTables::laws, crate::proofs::Moving::open_moves))]
     fn open_on(&mut self, port: u16) -> Result<usize, OpenFault>
         ensures refused { MatchOption (open_fault self.old port)
             (IsOkUnless result OpenFault.Memory) (λ fault. result ≡ Err fault) }

@@ -7,7 +7,7 @@ use Rattle.admin_queue.specs.declared.payload.Payload.TheVariants.{LogPage, Iden
 use Rattle.admin_queue.specs.Controller.{AdminController}
 use Rattle.admin_queue.specs.Pages.{Pages, log_page_bytes}
 use Rattle.admin_queue.specs.Payload.{IsPart, payload_bytes, payload_len}
-use Rattle.config_rules.specs.Configuration.{Configuration}
+use Rattle.nvt_config.specs.Configuration.{Configuration}
 use Rattle.data_transfer.specs.declared.piece.Piece.{Piece}
 use Rattle.data_transfer.specs.Pieces.{pieces}
 use Rattle.data_transfer.proofs.Splits.{pieces_from-next}

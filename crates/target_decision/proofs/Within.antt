@@ -3,7 +3,7 @@ use Rattle.std.proofs.Common.{◌≡◌, ℕ, ◌+◌, List, ◌++◌, length, S
 use Rattle.data_transfer.specs.declared.transfer.Progress.{Progress}
 use Rattle.data_transfer.specs.declared.transfer.Progress.TheVariants as progress
 use Rattle.data_transfer.specs.Part.{Part, data_answer}
-use Rattle.config_rules.specs.Valid.{IsValid}
+use Rattle.nvt_config.specs.Valid.{IsValid}
 use Rattle.fabrics_connect.specs.declared.decision.AdmitAs.{AdmitAs}
 use Rattle.fabrics_connect.specs.declared.decision.AdmitAs.TheVariants as admit
 use Rattle.io_queue.specs.declared.operation.Operation.{Operation}

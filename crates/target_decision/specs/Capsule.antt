@@ -13,7 +13,7 @@ use Rattle.io_queue.specs.declared.operation.Operation.{Operation}
 use Rattle.io_queue.specs.Beginning.{begin as io_begin}
 use Rattle.io_queue.specs.Finishing.{finish as io_finish}
 use Rattle.std.specs.List.{list_any}
-use Rattle.notices.specs.Notices.{NoticeState}
+use Rattle.admin_queue.specs.Notices.{NoticeState}
 use Rattle.nvt_fields.specs.declared.status.Status.{Status}
 use Rattle.nvt_fields.specs.Status.{command_id_conflict, command_sequence_error, invalid_field}
 use Rattle.pdu_codec.specs.declared.command.Property.{Property}

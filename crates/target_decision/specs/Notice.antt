@@ -1,8 +1,8 @@
 -- What a controller's own commands make of what its host is to be told.
 use Rattle.admin_queue.specs.declared.outcome.Effect.TheVariants as effect
-use Rattle.notices.specs.declared.update.NoticeUpdate.TheVariants as notice
-use Rattle.notices.specs.Notices.{NoticeState, enabled, reset}
-use Rattle.notices.specs.Update.{updated}
+use Rattle.admin_queue.specs.declared.update.NoticeUpdate.TheVariants as notice
+use Rattle.admin_queue.specs.Notices.{NoticeState, enabled, reset}
+use Rattle.admin_queue.specs.Update.{updated}
 use Rattle.property_regs.specs.declared.regs.Change.{Change}
 use Rattle.property_regs.specs.declared.regs.Change.TheVariants as change
 use Rattle.target_decision.specs.declared.consequence.Consequence.{Consequence}

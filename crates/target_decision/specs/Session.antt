@@ -1,6 +1,6 @@
 -- How far target and host have come on a connection.
 use Rattle.std.specs.Prelude.{ℕ, Bool, true, false, Option, Some, None}
-use Rattle.notices.specs.Notices.{notices_at_connect}
+use Rattle.admin_queue.specs.Notices.{notices_at_connect}
 use Rattle.target_decision.specs.declared.session.ConnectionState.{ConnectionState}
 use Rattle.target_decision.specs.declared.session.Role.{Role}
 use Rattle.target_decision.specs.declared.session.Role.TheVariants.{Admin, Io}

@@ -1,9 +1,9 @@
 -- What an edit tells the host of a controller, on its admin queue: the completions of requests that wait.
 use Rattle.std.specs.Prelude.{ℕ, List, [], ◌∷◌, ◌++◌}
-use Rattle.config_rules.specs.Configuration.{Configuration}
+use Rattle.nvt_config.specs.Configuration.{Configuration}
 use Rattle.event_queue.specs.declared.completion.Completion.{Completion}
-use Rattle.notices.specs.Notices.{tell_answers, told}
-use Rattle.notices.specs.Viewer.{Views}
+use Rattle.admin_queue.specs.Notices.{tell_answers, told}
+use Rattle.admin_queue.specs.Viewer.{Views}
 use Rattle.nvt_fields.specs.Status.{success}
 use Rattle.pdu_codec.specs.CapsuleResp.{capsule_resp}
 use Rattle.target_decision.specs.declared.session.ConnectionState.{ConnectionState}

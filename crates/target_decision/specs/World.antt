@@ -2,10 +2,10 @@
 use Rattle.std.specs.Prelude.{ℕ, Option, Some, None}
 use Rattle.admin_queue.specs.Controller.{AdminController}
 use Rattle.admin_queue.specs.Pages.{Pages, pages_in}
-use Rattle.config_rules.specs.Configuration.{Configuration}
+use Rattle.nvt_config.specs.Configuration.{Configuration}
 use Rattle.fabrics_connect.specs.declared.row.Row.{Row}
-use Rattle.notices.specs.Notices.{NoticeState}
-use Rattle.number_table.specs.Table.{place}
+use Rattle.admin_queue.specs.Notices.{NoticeState}
+use Rattle.tables.specs.NumberTable.{place}
 use Rattle.target_decision.specs.declared.controller.Controller.{Controller}
 use Rattle.target_decision.specs.declared.session.ConnectionState.{ConnectionState}
 use Rattle.target_decision.specs.declared.session.Role.TheVariants.{Admin}

@@ -6,8 +6,7 @@ ghost use Rattle.target_decision.specs.World.{world_in};
 use crate::capsule::{Outcome, given, is_ready, refused, waits};
 use crate::consequence::{Consequence, Update};
 use crate::world::World;
-use admin_queue::{Accepted, admin};
-use notices::Notices;
+use admin_queue::{Accepted, Notices, admin};
 use nvt_fields::Status;
 use pdu_codec::Sqe;
 

@@ -4,8 +4,7 @@ ghost use Rattle.target_decision.specs.Notice.{notices_after, notices_by, notice
 
 use crate::consequence::{Consequence, Update};
 use crate::decision::Decision;
-use admin_queue::Effect;
-use notices::{NoticeUpdate, Notices};
+use admin_queue::{Effect, NoticeUpdate, Notices};
 use property_regs::Change;
 
 /// A request that waits, and what follows from a reply.

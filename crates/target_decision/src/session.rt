@@ -9,7 +9,7 @@ use crate::consequence::Consequence;
 use crate::decision::Decision;
 use crate::notice::note;
 use crate::queue::Queue;
-use notices::Notices;
+use admin_queue::Notices;
 
 /// A connection, as far as a decision may look at it.
 #[derive(Drop)]

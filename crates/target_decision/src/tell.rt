@@ -1,15 +1,15 @@
 //! What an edit tells the host of a controller, on its admin queue.
 ghost use Rattle.std.specs.Prelude.{◌≡◌, ◌*◌, ◌+◌, ◌≤◌, ◌++◌, length};
-ghost use Rattle.config_rules.specs.Configuration.{Configuration};
-ghost use Rattle.notices.specs.Planned.{Plans};
-ghost use Rattle.notices.specs.Viewer.{views_of};
+ghost use Rattle.nvt_config.specs.Configuration.{Configuration};
+ghost use Rattle.admin_queue.specs.Planned.{Plans};
+ghost use Rattle.admin_queue.specs.Viewer.{views_of};
 ghost use Rattle.target_decision.specs.Tell.{completed_in, completion_pdu, completion_pdus};
 ghost use Rattle.target_decision.specs.Tell.{told_after, told_pdus};
 
 use crate::session::{ConnectionState, Session};
+use admin_queue::{PlannedEdit, Viewer};
 use bytes::BytesMut;
 use event_queue::Completion;
-use notices::{PlannedEdit, Viewer};
 use nvt_fields::Status;
 use pdu_codec::CapsuleResp;
 

@@ -7,12 +7,11 @@ ghost use Rattle.target_decision.specs.World.{admin_controller, admin_controller
 
 use crate::controller::Controller;
 use crate::session::{ConnectionState, Role, Session};
-use admin_queue::{AdminController, Pages};
+use admin_queue::{AdminController, Notices, Pages};
 use fabrics_connect::Controllers;
-use notices::Notices;
-use number_table::NumberTable;
 use nvt_config::Config;
 use property_regs::{ControllerKind, Regs};
+use tables::NumberTable;
 
 /// The most connections at a time.
 pub const CONNECTIONS_MAX: usize = 64;

@@ -20,7 +20,7 @@ use Rattle.nvt_fields.specs.declared.pdu_type.PduType.{PduType}
 use Rattle.event_queue.specs.declared.changes.ViewChanges.{ViewChanges}
 use Rattle.event_queue.specs.declared.completion.Completion.{Completion}
 use Rattle.event_queue.specs.Events.{edit_answers}
-use Rattle.notices.specs.Notices.{NoticeState}
+use Rattle.admin_queue.specs.Notices.{NoticeState}
 use Rattle.nvt_fields.specs.declared.pdu_type.PduType.TheVariants.{IcReq, IcResp, H2cTermReq, C2hTermReq, CapsuleCmd, CapsuleResp, H2cData, C2hData, R2t}
 use Rattle.nvt_fields.specs.Status.{command_sequence_error}
 use Rattle.pdu_codec.specs.Sqe.{fctype_of, opcode_of}

@@ -5,7 +5,7 @@ use Rattle.config_lists.specs.declared.namespace.BlockSize.{BlockSize}
 use Rattle.config_lists.specs.declared.namespace.BlockSize.TheVariants.{Bytes512, Bytes4096}
 use Rattle.config_lists.specs.declared.namespace.Namespace.{Namespace}
 use Rattle.config_lists.specs.Namespace.{bytes_of}
-use Rattle.config_rules.specs.Configuration.{Configuration}
+use Rattle.nvt_config.specs.Configuration.{Configuration}
 use Rattle.io_queue.specs.declared.beginning.Begun.{Begun}
 use Rattle.io_queue.specs.declared.beginning.Begun.TheVariants.{Perform, Receive}
 use Rattle.io_queue.specs.declared.opcode.IoOpcode.{IoOpcode}

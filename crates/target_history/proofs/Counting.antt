@@ -2,8 +2,8 @@
 use Rattle.std.proofs.Common.{◌≡◌, ℕ, ◌+◌, ◌%◌, ◌<◌, Bool, true, false, List, ◌∷◌, Option, Some, None, refl, sym, ◌∙◌, arith}
 use Rattle.std.specs.Prelude.{if◌then◌else◌}
 use Rattle.std.proofs.Math.Nat.{mod-lt}
-use Rattle.config_rules.specs.Configuration.{Configuration}
-use Rattle.notices.specs.Notices.{NoticeState}
+use Rattle.nvt_config.specs.Configuration.{Configuration}
+use Rattle.admin_queue.specs.Notices.{NoticeState}
 use Rattle.pdu_codec.specs.Sqe.{cid_of}
 use Rattle.pdu_cut.specs.Front.{Front}
 use Rattle.pdu_cut.specs.Pdu.{data_part}

@@ -1,9 +1,9 @@
 -- What ends connections and controllers: resets, edits and the clock.
 use Rattle.std.proofs.Common.{◌≡◌, ◌⊎◌, ℕ, Bool, true, false, List, [], ◌∷◌, Option, Some, None, refl, sym, ap, ◌∙◌, inl, inr}
 use Rattle.std.specs.Prelude.{if◌then◌else◌, ◌==◌, ◌||◌}
-use Rattle.config_edits.specs.declared.edit.Edit.{Edit}
-use Rattle.config_edits.specs.declared.edit.Edit.TheVariants.{PortDel}
-use Rattle.config_rules.specs.Configuration.{Configuration}
+use Rattle.config_lists.specs.declared.edit.Edit.{Edit}
+use Rattle.config_lists.specs.declared.edit.Edit.TheVariants.{PortDel}
+use Rattle.nvt_config.specs.Configuration.{Configuration}
 use Rattle.fabrics_connect.specs.declared.row.Row.{Row}
 use Rattle.fabrics_connect.specs.Permitted.{is_permitted, may_use_named}
 use Rattle.pdu_cut.specs.Front.{Front}

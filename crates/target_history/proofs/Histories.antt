@@ -23,7 +23,7 @@ use Rattle.event_queue.specs.Events.{EventState, first_pending, is_full, request
 use Rattle.fabrics_connect.specs.declared.decision.AdmitAs.{AdmitAs}
 use Rattle.fabrics_connect.specs.declared.decision.AdmitAs.TheVariants as admit
 use Rattle.fabrics_connect.specs.declared.row.Row.{Row}
-use Rattle.notices.specs.Notices.{NoticeState, notices_at_connect}
+use Rattle.admin_queue.specs.Notices.{NoticeState, notices_at_connect}
 use Rattle.nvt_fields.specs.declared.pdu_type.PduType.TheVariants.{CapsuleCmd}
 use Rattle.pdu_codec.specs.Sqe.{cid_of}
 use Rattle.pdu_cut.specs.Pdu.{Pdu, data_part}
@@ -45,7 +45,7 @@ use Rattle.target_decision.specs.Outcome.{Outcome}
 use Rattle.target_decision.specs.Transfer.{Tags, h2c_at, head_in}
 use Rattle.target_decision.proofs.Carrying.{decided_carries}
 use Rattle.target_history.proofs.Tags.{bit, count_of-nothing, count_of-with}
-use Rattle.config_rules.specs.Configuration.{Configuration}
+use Rattle.nvt_config.specs.Configuration.{Configuration}
 use Rattle.discovery_view.specs.Page.{discovery_page}
 use Rattle.discovery_view.specs.Records.{records_of}
 use Rattle.pdu_cut.specs.Front.{Front, whole}

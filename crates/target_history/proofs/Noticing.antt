@@ -3,15 +3,15 @@ use Rattle.std.proofs.Common.{◌≡◌, ◌⊎◌, ℕ, ◌+◌, Bool, true, fa
 use Rattle.std.specs.Prelude.{if◌then◌else◌, IsSomeAnd}
 use Rattle.std.specs.Option.{option_map}
 use Rattle.admin_queue.specs.declared.outcome.Effect.TheVariants as effect
-use Rattle.config_rules.specs.Configuration.{Configuration}
+use Rattle.nvt_config.specs.Configuration.{Configuration}
 use Rattle.fabrics_connect.specs.declared.decision.AdmitAs.{AdmitAs}
 use Rattle.fabrics_connect.specs.declared.decision.AdmitAs.TheVariants as admit
 use Rattle.fabrics_connect.specs.declared.row.Row.{Row}
-use Rattle.notices.specs.Laws.{called}
-use Rattle.notices.specs.Notices.{NoticeState, notices_at_connect, tell_answers, told as told_state}
-use Rattle.notices.specs.Told.{Occurrence as NoticeOccurrence, notices_of as told_after}
-use Rattle.notices.specs.Viewer.{Views, discovery}
-use Rattle.notices.proofs.LookingBack.{notices_look_back}
+use Rattle.admin_queue.specs.NoticeLaws.{called}
+use Rattle.admin_queue.specs.Notices.{NoticeState, notices_at_connect, tell_answers, told as told_state}
+use Rattle.admin_queue.specs.Told.{Occurrence as NoticeOccurrence, notices_of as told_after}
+use Rattle.admin_queue.specs.Viewer.{Views, discovery}
+use Rattle.admin_queue.proofs.LookingBack.{notices_look_back}
 use Rattle.pdu_codec.specs.Sqe.{cid_of}
 use Rattle.pdu_cut.specs.Front.{Front}
 use Rattle.pdu_cut.specs.Pdu.{data_part}

@@ -2,9 +2,9 @@
 use Rattle.std.proofs.Common.{List, ◌≡◌, ◌⊎◌, ℕ, Bool, true, false, ◌||◌, Option, Some, None, refl, sym, ap, ◌∙◌, inl, inr}
 use Rattle.std.specs.Prelude.{if◌then◌else◌, ◌==◌}
 use Rattle.std.specs.Option.{option_map}
-use Rattle.config_edits.specs.declared.edit.Edit.{Edit}
-use Rattle.config_edits.specs.declared.edit.Edit.TheVariants.{PortDel}
-use Rattle.config_rules.specs.Configuration.{Configuration}
+use Rattle.config_lists.specs.declared.edit.Edit.{Edit}
+use Rattle.config_lists.specs.declared.edit.Edit.TheVariants.{PortDel}
+use Rattle.nvt_config.specs.Configuration.{Configuration}
 use Rattle.fabrics_connect.specs.declared.row.Row.{Row}
 use Rattle.event_queue.specs.declared.completion.Completion.{Completion}
 use Rattle.property_regs.specs.declared.regs.Change.TheVariants as change

@@ -7,7 +7,7 @@ use Rattle.std.specs.Option.{option_map}
 use Rattle.std.proofs.lemmas.Bool.Decides.{leb_tells}
 use Rattle.std.proofs.lemmas.List.{get_or_past}
 use Rattle.std.proofs.lemmas.List.FromFn.{get_or-map-range_with_len, length-map-range_with_len}
-use Rattle.config_rules.specs.Configuration.{Configuration}
+use Rattle.nvt_config.specs.Configuration.{Configuration}
 use Rattle.fabrics_connect.specs.Row.{has_queue as has_qid}
 use Rattle.property_regs.specs.declared.regs.Regs.{Regs}
 use Rattle.target_decision.specs.declared.consequence.Consequence.{Consequence}

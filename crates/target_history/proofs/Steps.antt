@@ -4,7 +4,7 @@ use Rattle.std.specs.Prelude.{if◌then◌else◌, nat_le}
 use Rattle.std.specs.Option.{option_map}
 use Rattle.std.proofs.Math.Nat.{mod-eq_of_lt}
 use Rattle.event_queue.specs.declared.completion.Completion.{Completion}
-use Rattle.notices.specs.Notices.{NoticeState, notices_at_connect}
+use Rattle.admin_queue.specs.Notices.{NoticeState, notices_at_connect}
 use Rattle.pdu_codec.specs.Sqe.{cid_of}
 use Rattle.pdu_cut.specs.Front.{Front}
 use Rattle.pdu_cut.specs.Pdu.{data_part}

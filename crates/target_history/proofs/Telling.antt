@@ -1,10 +1,10 @@
 -- What connections are told by edits.
 use Rattle.std.proofs.Common.{◌≡◌, ◌+◌, Bool, true, false, List, [], ◌∷◌, length, Option, Some, None, refl, ap, ◌∙◌, arith}
 use Rattle.std.specs.Prelude.{if◌then◌else◌}
-use Rattle.config_rules.specs.Configuration.{Configuration}
+use Rattle.nvt_config.specs.Configuration.{Configuration}
 use Rattle.event_queue.specs.declared.completion.Completion.{Completion}
-use Rattle.notices.specs.Notices.{NoticeState}
-use Rattle.notices.specs.Viewer.{Views, changes_seen}
+use Rattle.admin_queue.specs.Notices.{NoticeState}
+use Rattle.admin_queue.specs.Viewer.{Views, changes_seen}
 use Rattle.target_decision.specs.declared.session.ConnectionState.{ConnectionState}
 use Rattle.target_decision.specs.declared.session.Session.{Session}
 use Rattle.target_decision.specs.declared.session.Session.TheVariants.{Opened, Initialized, Connected, Ended}

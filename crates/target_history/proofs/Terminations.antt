@@ -15,7 +15,7 @@ use Rattle.target_decision.specs.declared.consequence.Consequence.TheVariants as
 use Rattle.target_decision.specs.declared.consequence.Update.TheVariants as update
 use Rattle.target_decision.specs.declared.decision.Decision.{Decision}
 use Rattle.target_decision.specs.declared.decision.Decision.TheVariants as decision
-use Rattle.notices.specs.Notices.{NoticeState}
+use Rattle.admin_queue.specs.Notices.{NoticeState}
 use Rattle.target_decision.specs.declared.session.ConnectionState.{ConnectionState}
 use Rattle.target_decision.specs.declared.session.Role.{Role}
 use Rattle.target_decision.specs.declared.session.Role.TheVariants.{Admin, Io}

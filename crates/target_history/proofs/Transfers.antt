@@ -12,7 +12,7 @@ use Rattle.data_transfer.specs.Part.{H2cData, Part, begun, data_after, data_answ
 use Rattle.data_transfer.specs.Parts.{free_tag}
 use Rattle.fabrics_connect.specs.declared.decision.AdmitAs.{AdmitAs}
 use Rattle.fabrics_connect.specs.declared.decision.AdmitAs.TheVariants as admit
-use Rattle.notices.specs.Notices.{NoticeState}
+use Rattle.admin_queue.specs.Notices.{NoticeState}
 use Rattle.nvt_fields.specs.declared.pdu_type.PduType.{PduType}
 use Rattle.nvt_fields.specs.declared.pdu_type.PduType.TheVariants as kind
 use Rattle.pdu_codec.specs.Sqe.{cid_of}

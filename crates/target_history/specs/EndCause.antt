@@ -1,10 +1,10 @@
 -- What an event ends beside the connection that it is a step of: each cause that lies elsewhere. Each definition names the
 -- causes that it is about; every other one ends none of it.
 use Rattle.std.specs.Prelude.{ℕ, ◌+◌, ◌-◌, ◌*◌, ◌/◌, nat_lt, Bool, false, not, ◌==◌, ◌||◌, ◌&&◌, List, Option, Some, None}
-use Rattle.config_edits.specs.declared.edit.Edit.{Edit}
-use Rattle.config_edits.specs.declared.edit.Edit.TheVariants.{PortDel}
-use Rattle.config_rules.specs.Configuration.{Configuration}
-use Rattle.config_rules.specs.Permission.{may_use}
+use Rattle.config_lists.specs.declared.edit.Edit.{Edit}
+use Rattle.config_lists.specs.declared.edit.Edit.TheVariants.{PortDel}
+use Rattle.nvt_config.specs.Configuration.{Configuration}
+use Rattle.nvt_config.specs.Permission.{may_use}
 use Rattle.fabrics_connect.specs.declared.row.Row.{Row}
 use Rattle.property_regs.specs.declared.regs.Change.TheVariants as change
 use Rattle.property_regs.specs.declared.regs.Change.{Change}

@@ -1,6 +1,6 @@
 -- What happens to a target.
 use Rattle.std.specs.Prelude.{ℕ, Bool, false, ◌==◌}
-use Rattle.config_edits.specs.declared.edit.Edit.{Edit}
+use Rattle.config_lists.specs.declared.edit.Edit.{Edit}
 use Rattle.io_queue.specs.Act.{DiskOutcome, good}
 use Rattle.pdu_cut.specs.Front.{Front, incomplete}
 

@@ -8,18 +8,18 @@ use Rattle.ana_view.specs.Counts.{Counts}
 use Rattle.ana_view.specs.Group.{listed}
 use Rattle.ana_view.specs.Page.{ana_page}
 use Rattle.change_lists.specs.ActiveList.{list_page, nsids_above}
-use Rattle.config_words.specs.Numbered.{active_nsids}
+use Rattle.config_lists.specs.Numbered.{active_nsids}
 use Rattle.discovery_view.specs.Page.{discovery_page}
 use Rattle.discovery_view.specs.Records.{records_of}
 use Rattle.discovery_view.specs.View.{changes_records}
-use Rattle.config_rules.specs.Configuration.{Configuration, disks_alone}
-use Rattle.config_rules.specs.Seen.{seen_by}
+use Rattle.nvt_config.specs.Configuration.{Configuration, disks_alone}
+use Rattle.nvt_config.specs.SeenBy.{seen_by}
 use Rattle.fabrics_connect.specs.declared.row.Row.{Row}
 use Rattle.block_store.specs.Write.{Write, contents_after}
 use Rattle.data_transfer.specs.Part.{Part, with_data}
 use Rattle.io_queue.specs.Execution.{Act}
-use Rattle.notices.specs.Notices.{NoticeState, notices_at_connect}
-use Rattle.notices.specs.Told.{Occurrence as NoticeOccurrence, notices_of as told_after}
+use Rattle.admin_queue.specs.Notices.{NoticeState, notices_at_connect}
+use Rattle.admin_queue.specs.Told.{Occurrence as NoticeOccurrence, notices_of as told_after}
 use Rattle.pdu_cut.specs.Front.{Front, incomplete, whole, faulty}
 use Rattle.pdu_cut.specs.Pdu.{Pdu}
 use Rattle.property_regs.specs.declared.kind.ControllerKind.TheVariants.{Discovery}

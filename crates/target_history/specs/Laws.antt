@@ -3,9 +3,9 @@ use Rattle.std.specs.Prelude.{◌≡◌, ◌≤◌, ℕ, ◌+◌, ◌%◌, Bool,
 use Rattle.admin_queue.specs.Controller.{AdminController}
 use Rattle.admin_queue.specs.Laws.{ToldAlike}
 use Rattle.ana_view.specs.Counts.{Counts}
-use Rattle.config_edits.specs.declared.edit.Edit.{Edit}
-use Rattle.config_edits.specs.declared.edit.Edit.TheVariants.{PortDel}
-use Rattle.config_rules.specs.Permission.{may_use}
+use Rattle.config_lists.specs.declared.edit.Edit.{Edit}
+use Rattle.config_lists.specs.declared.edit.Edit.TheVariants.{PortDel}
+use Rattle.nvt_config.specs.Permission.{may_use}
 use Rattle.data_transfer.specs.Parts.{count_of}
 use Rattle.event_queue.specs.declared.changes.ViewChanges.{ViewChanges}
 use Rattle.fabrics_connect.specs.declared.row.Row.{Row}
@@ -17,8 +17,8 @@ use Rattle.fabrics_connect.specs.Row.{has_queue as has_qid}
 use Rattle.io_queue.specs.declared.operation.Operation.{Operation}
 use Rattle.io_queue.specs.Laws.{SeenAlike}
 use Rattle.io_queue.specs.Operation.{disk_of}
-use Rattle.notices.specs.Notices.{NoticeState}
-use Rattle.notices.specs.Viewer.{changes_seen}
+use Rattle.admin_queue.specs.Notices.{NoticeState}
+use Rattle.admin_queue.specs.Viewer.{changes_seen}
 use Rattle.nvt_fields.specs.declared.pdu_type.PduType.{PduType}
 use Rattle.nvt_fields.specs.declared.pdu_type.PduType.TheVariants.{CapsuleCmd}
 use Rattle.pdu_codec.specs.Sqe.{fctype_of, opcode_of}

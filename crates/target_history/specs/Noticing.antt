@@ -2,9 +2,9 @@
 use Rattle.std.specs.Prelude.{◌≡◌, ℕ, List, [], ◌∷◌, Option, Some, None, if◌then◌else◌}
 use Rattle.event_queue.specs.declared.completion.Completion.{Completion}
 use Rattle.fabrics_connect.specs.declared.row.Row.{Row}
-use Rattle.notices.specs.Notices.{NoticeState, notices_at_connect}
-use Rattle.notices.specs.Told.{Occurrence as NoticeOccurrence, edit_owed, notices_of as told_after}
-use Rattle.notices.specs.Viewer.{Views}
+use Rattle.admin_queue.specs.Notices.{NoticeState, notices_at_connect}
+use Rattle.admin_queue.specs.Told.{Occurrence as NoticeOccurrence, edit_owed, notices_of as told_after}
+use Rattle.admin_queue.specs.Viewer.{Views}
 use Rattle.target_decision.specs.declared.session.ConnectionState.{ConnectionState}
 use Rattle.target_decision.specs.declared.session.Role.TheVariants.{Admin}
 use Rattle.target_history.specs.Event.{Event, opens}

@@ -1,9 +1,9 @@
 -- An event with what it met, and what it comes to for each connection and each controller.
 use Rattle.std.specs.Prelude.{ℕ, ◌+◌, ◌==◌, max, Bool, true, false, ◌||◌, List, [], ◌++◌, length, Option, Some, None, Result, Ok, Err, if◌then◌else◌}
 use Rattle.std.specs.Option.{option_map}
-use Rattle.config_edits.specs.declared.fault.EditFault.{EditFault}
-use Rattle.config_rules.specs.Accept.{accept}
-use Rattle.config_rules.specs.Configuration.{Configuration}
+use Rattle.config_lists.specs.declared.fault.EditFault.{EditFault}
+use Rattle.nvt_config.specs.Accept.{accept}
+use Rattle.nvt_config.specs.Configuration.{Configuration}
 use Rattle.block_store.specs.Stored.{Stored}
 use Rattle.data_transfer.specs.Part.{begun}
 use Rattle.data_transfer.specs.Parts.{free_tag}
@@ -13,8 +13,8 @@ use Rattle.io_queue.specs.Act.{DiskOutcome}
 use Rattle.io_queue.specs.declared.operation.Operation.{Operation}
 use Rattle.io_queue.specs.Execution.{Act, DisksDid}
 use Rattle.event_queue.specs.declared.completion.Completion.{Completion}
-use Rattle.notices.specs.Notices.{NoticeState, tell_answers, told}
-use Rattle.notices.specs.Viewer.{Views, discovery, io}
+use Rattle.admin_queue.specs.Notices.{NoticeState, tell_answers, told}
+use Rattle.admin_queue.specs.Viewer.{Views, discovery, io}
 use Rattle.nvt_fields.specs.declared.pdu_type.PduType.{PduType}
 use Rattle.nvt_fields.specs.declared.pdu_type.PduType.TheVariants.{H2cData}
 use Rattle.pdu_cut.specs.Front.{Front, incomplete, whole, faulty}

@@ -2,8 +2,8 @@
 -- newest first.
 use Rattle.std.specs.Prelude.{ℕ, List, [], ◌∷◌, Option, Some, None, if◌then◌else◌}
 use Rattle.admin_queue.specs.declared.outcome.Effect.TheVariants as effect
-use Rattle.notices.specs.declared.update.NoticeUpdate.TheVariants.{Requested}
-use Rattle.notices.specs.Told.{Occurrence as NoticeOccurrence, edited, update, was_enabled, was_reset}
+use Rattle.admin_queue.specs.declared.update.NoticeUpdate.TheVariants.{Requested}
+use Rattle.admin_queue.specs.Told.{Occurrence as NoticeOccurrence, edited, update, was_enabled, was_reset}
 use Rattle.property_regs.specs.declared.regs.Change.{Change}
 use Rattle.property_regs.specs.declared.regs.Change.TheVariants as change
 use Rattle.target_decision.specs.declared.consequence.Consequence.{Consequence}

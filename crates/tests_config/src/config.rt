@@ -3,7 +3,7 @@ mod effects;
 mod outline;
 mod refusals;
 
-use config_rules::laws::accepted_stays_valid;
+use nvt_config::laws::accepted_stays_valid;
 use nvt_config::{
     Access, AnaState, Config, EditFault, Family, NewFault, Port, Subsystem, Text, Visibility,
 };

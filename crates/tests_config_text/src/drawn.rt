@@ -1,5 +1,5 @@
 //! Random edits of each command, with values of any width that keeps their lines within 1,024 bytes.
-use line_words::Command;
+use config_text::Command;
 use nvt_config::{Access, AnaState, Edit, Family, Visibility};
 use nvt_fields::NqnFault;
 use rand_core::utils::NextWord;

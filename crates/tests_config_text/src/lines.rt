@@ -1,8 +1,9 @@
 //! The line of an edit, written and read back.
 use super::drawn::drawn;
 use bytes::BytesMut;
-use config_text::{Full, LineFault, LineFaultKind, lines_are_read_back, read_edit, write_edit};
-use line_words::{COMMANDS, Command};
+use config_text::{
+    COMMANDS, Command, Full, LineFault, LineFaultKind, lines_are_read_back, read_edit, write_edit,
+};
 use nvt_config::Edit;
 use rand_pcg::Pcg32;
 use std::alloc::{AllocError, Global};

@@ -1,7 +1,7 @@
 //! The view beside the plain count, on random lists of edits.
 use super::followed::{Followed, UNITS, follow, page, start};
 use super::plain;
-use line_words::{COMMANDS, Command};
+use config_text::{COMMANDS, Command};
 use nvt_config::{Access, AnaState, Edit, Family, Visibility};
 use rand_core::utils::NextWord;
 use rand_pcg::Pcg32;

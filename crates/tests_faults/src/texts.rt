@@ -1,12 +1,12 @@
 //! What is printed of each error.
 use block_store::DiskFault;
-use config_edits::{EditFault, Item};
+use config_lists::{EditFault, Item};
+use config_text::{LineFault, LineFaultKind};
+use edit_lines::{ReplayFault, Reply};
 use event_queue::LimitExceeded;
-use line_words::{LineFault, LineFaultKind};
 use nvt_config::NewFault;
 use nvt_fields::NqnFault;
 use property_regs::InvalidField;
-use replay_lines::{ReplayFault, Reply};
 use std::alloc::Global;
 use std::fmt::Display;
 use target_core::{NoConn, StepFault};

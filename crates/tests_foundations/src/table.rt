@@ -1,8 +1,8 @@
 //! Numbers after removals in odd orders, and random changes beside a plain list.
-use number_table::NumberTable;
 use rand_core::utils::NextWord;
 use rand_pcg::Pcg32;
 use std::alloc::{AllocError, Global};
+use tables::NumberTable;
 use testkit_tables::{Outcome, Placed, check, check_number, pass};
 
 const SCRIPTS: u64 = 8;
@@ -14,7 +14,7 @@ const PLACES: usize = 9;
 const SEED: u64 = 0x7461_626c;
 
 // Puts the value at the least number that is empty, and returns that number.
-#[tactic(auto, using(number_table::proofs::Tables::laws))]
+#[tactic(auto, using(tables::proofs::NumberTables::laws))]
 fn put_least<T: Drop>(table: &mut NumberTable<T>, value: T) -> Option<usize> {
     let number = table.least_free()?;
     table.put(number, value);

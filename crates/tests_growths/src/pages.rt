@@ -1,5 +1,5 @@
 //! The reading of a discovery log page.
-use host_discovery::{Discover, DiscoverFault, Progress};
+use host_pages::{Discover, DiscoverFault, Progress};
 use std::alloc::Global;
 use std::test::Fail;
 use testkit_edits::growths::tell;

@@ -1,13 +1,13 @@
 //! The parts below the configuration.
 use bytes::BytesMut;
 use config_text::{LineFaultKind, Lines, read_edit};
-use number_table::NumberTable;
 use nvt_config::{Access, AnaState, Edit, Family, Visibility};
 use nvt_fields::{FatalErrorStatus, Nqn, NqnFault, Status, nqn_field};
 use pdu_codec::{C2hData, CapsuleResp, Full, IcResp, TermReq};
 use pdu_cut::{Cut, RxBuf, Side};
 use std::alloc::{AllocError, Global};
 use std::test::Fail;
+use tables::NumberTable;
 use testkit_edits::growths::{HOST, NAMESPACE, edit_of, tell};
 use testkit_edits::{Line, again, is_same_edit};
 use testkit_tables::{Outcome, Placed, check, pass};
@@ -68,7 +68,7 @@ fn is_stream_cut(alloc: Global, side: Side, request: &[u8; 24]) -> Result<bool, 
     Ok(cuts(&mut buffer, request))
 }
 
-#[tactic(auto, using(number_table::proofs::Tables::laws))]
+#[tactic(auto, using(tables::proofs::NumberTables::laws))]
 fn put_least(table: &mut NumberTable<u8>, value: u8) -> Option<usize> {
     let number = table.least_free()?;
     table.put(number, value);

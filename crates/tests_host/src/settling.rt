@@ -1,9 +1,9 @@
 //! The discovery log page under edits: a host reads it while a target's records change between its reads.
 use crate::base::target_after;
-use host_discovery::{Discover, DiscoverFault, GetLog, Progress};
 use host_driver::HostParams;
 use host_link::commands::get_log_page;
 use host_link::{Link, Session, SessionFault};
+use host_pages::{Discover, DiscoverFault, GetLog, Progress};
 use nvt_config::{Access, Family};
 use nvt_fields::{DISCOVERY_NQN, Nqn};
 use std::alloc::Global;

@@ -1,6 +1,5 @@
 //! The reading of a discovery log page: what it asks for, in which order, and what each answer leads to.
-use host_discovery::{Discover, DiscoverFault, GetLog, Progress};
-use host_pages::BadPage;
+use host_pages::{BadPage, Discover, DiscoverFault, GetLog, Progress};
 use nvt_fields::Status;
 use std::alloc::{AllocError, Global};
 use std::test::Fail;

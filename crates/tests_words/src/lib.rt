@@ -1,4 +1,4 @@
-//! Tests of the words for PDUs (`pdu_words`, `host_commands`), through the public calls of
+//! Tests of the words for PDUs (`pdu_words`, `replay_words`), through the public calls of
 //! `replay_words`: what no replay prints, each status by its name, and the writer. The words behind what
 //! the target sends are shown by the conversations with `--explain`.
 #![tactic(auto)]

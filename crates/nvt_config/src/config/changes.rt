@@ -1,16 +1,16 @@
 //! Each kind of change of the lists. None takes memory, so none can fail.
 ghost use Rattle.std.specs.Prelude.{◌≡◌, ◌<◌, length, vec_capacity};
-ghost use Rattle.config_rules.specs.Configuration.{with_access, with_allow, with_link, with_live};
-ghost use Rattle.config_rules.specs.Configuration.{with_namespace, with_namespace_set};
-ghost use Rattle.config_rules.specs.Configuration.{with_new_host, with_new_state, with_port};
-ghost use Rattle.config_rules.specs.Configuration.{with_port_set, with_referral};
-ghost use Rattle.config_rules.specs.Configuration.{with_referral_set, with_state_set};
-ghost use Rattle.config_rules.specs.Configuration.{with_show, with_subsystem, without_allow};
-ghost use Rattle.config_rules.specs.Configuration.{without_link, without_show};
-ghost use Rattle.config_rules.specs.Configuration.{without_namespace, without_port};
-ghost use Rattle.config_rules.specs.Configuration.{without_referral, without_state};
-ghost use Rattle.config_rules.specs.Configuration.{without_subsystem};
-ghost use Rattle.config_rules.specs.Valid.{IsValid};
+ghost use Rattle.nvt_config.specs.Configuration.{with_access, with_allow, with_link, with_live};
+ghost use Rattle.nvt_config.specs.Configuration.{with_namespace, with_namespace_set};
+ghost use Rattle.nvt_config.specs.Configuration.{with_new_host, with_new_state, with_port};
+ghost use Rattle.nvt_config.specs.Configuration.{with_port_set, with_referral};
+ghost use Rattle.nvt_config.specs.Configuration.{with_referral_set, with_state_set};
+ghost use Rattle.nvt_config.specs.Configuration.{with_show, with_subsystem, without_allow};
+ghost use Rattle.nvt_config.specs.Configuration.{without_link, without_show};
+ghost use Rattle.nvt_config.specs.Configuration.{without_namespace, without_port};
+ghost use Rattle.nvt_config.specs.Configuration.{without_referral, without_state};
+ghost use Rattle.nvt_config.specs.Configuration.{without_subsystem};
+ghost use Rattle.nvt_config.specs.Valid.{IsValid};
 
 use crate::config::Config;
 use crate::plan::Addition;

@@ -1,19 +1,18 @@
 //! What each kind of edit is going to change, where it is accepted. All memory is taken here.
 ghost use Rattle.std.specs.Prelude.{◌≡◌, ◌≤◌, IfOk, IsOk, IsTrue};
-ghost use Rattle.config_edits.specs.declared.edit.Edit.TheVariants.{AllowAdd, AnaSet, HostAdd};
-ghost use Rattle.config_edits.specs.declared.edit.Edit.TheVariants.{LinkAdd, NamespaceAdd};
-ghost use Rattle.config_edits.specs.declared.edit.Edit.TheVariants.{NamespaceShow};
-ghost use Rattle.config_edits.specs.declared.edit.Edit.TheVariants.{PortAdd, PortSet};
-ghost use Rattle.config_edits.specs.declared.edit.Edit.TheVariants.{ReferralAdd, ReferralSet};
-ghost use Rattle.config_edits.specs.declared.edit.Edit.TheVariants.{SubsystemAdd};
+ghost use Rattle.config_lists.specs.declared.edit.Edit.TheVariants.{AllowAdd, AnaSet, HostAdd};
+ghost use Rattle.config_lists.specs.declared.edit.Edit.TheVariants.{LinkAdd, NamespaceAdd};
+ghost use Rattle.config_lists.specs.declared.edit.Edit.TheVariants.{NamespaceShow};
+ghost use Rattle.config_lists.specs.declared.edit.Edit.TheVariants.{PortAdd, PortSet};
+ghost use Rattle.config_lists.specs.declared.edit.Edit.TheVariants.{ReferralAdd, ReferralSet};
+ghost use Rattle.config_lists.specs.declared.edit.Edit.TheVariants.{SubsystemAdd};
 ghost use Rattle.config_lists.specs.Namespace.{nsid_max};
 ghost use Rattle.config_lists.specs.Port.{is_port_number};
-ghost use Rattle.config_rules.specs.Accept.{accept, namespace_of, port_of};
+ghost use Rattle.nvt_config.specs.Accept.{accept, namespace_of, port_of};
 ghost use Rattle.nvt_config.specs.Plan.{IsPlanOf};
 
 use crate::config::Config;
 use crate::plan::{Addition, Change, Plan};
-use config_edits::{Endpoint, NewNamespace};
 use config_lists::allow::Allow;
 use config_lists::group_state::{AnaState, GroupState, has_state};
 use config_lists::host::{Host, has_host};
@@ -23,6 +22,7 @@ use config_lists::port::Port;
 use config_lists::show::Show;
 use config_lists::subsystem::{Access, Subsystem};
 use config_lists::text::Text;
+use config_lists::{Endpoint, NewNamespace};
 use nvt_fields::Nqn;
 use std::alloc::{AllocError, Global};
 

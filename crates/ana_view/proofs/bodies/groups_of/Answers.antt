@@ -1,8 +1,8 @@
 use Rattle.std.proofs.Common.{◌≡◌, Bor, List, Option, Some, None, is_some, true, not, take, bytes_eq, refl, ap, sym, ◌∙◌}
 use Rattle.std.specs.Option.{option_copied}
 use Rattle.config_lists.specs.declared.show.Show.{Show}
-use Rattle.name_table.specs.Table.{value_of}
-use Rattle.edit_reach.proofs.Viewers.{own_passed, own_put, own_there}
+use Rattle.tables.specs.NameTable.{value_of}
+use Rattle.nvt_config.proofs.Viewers.{own_passed, own_put, own_there}
 use Rattle.ana_view.specs.Reached.{AreGroupsFor}
 use Rattle.ana_view.specs.View.{OfSubsystem}
 use Rattle.ana_view.proofs.Pages.{take_next}

@@ -1,6 +1,6 @@
 use Rattle.std.proofs.Common.{take}
-use Rattle.config_rules.specs.Seen.{seen_by_strangers}
-use Rattle.edit_reach.specs.Viewers.{AreOwnOf}
+use Rattle.nvt_config.specs.SeenBy.{seen_by_strangers}
+use Rattle.nvt_config.specs.Viewers.{AreOwnOf}
 use Rattle.ana_view.specs.Reached.{AreGroupsFor}
 use Rattle.ana_view.specs.View.{AreGroupsOf}
 use Rattle.ana_view.proofs.bodies.groups_of.Given as goal

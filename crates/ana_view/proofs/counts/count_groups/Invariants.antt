@@ -1,6 +1,6 @@
 use Rattle.std.proofs.Common.{◌≡◌, ◌-◌, ◌<◌, ◌≤◌, ℕ, length}
 use Rattle.std.specs.List.{list_any}
-use Rattle.config_words.specs.Numbered.{numbers_from}
+use Rattle.config_lists.specs.Numbered.{numbers_from}
 use Rattle.ana_view.specs.Counts.{count_after, count_in}
 use Rattle.ana_view.specs.GroupChanges.{has_changed}
 use Rattle.ana_view.proofs.counts.count_groups.Given as goal

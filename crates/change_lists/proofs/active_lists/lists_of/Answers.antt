@@ -3,10 +3,10 @@ use Rattle.std.proofs.Math.Seq.{take-suc}
 use Rattle.std.proofs.lemmas.List.{take_all}
 use Rattle.std.specs.Str.{bytes_eq}
 use Rattle.config_lists.specs.declared.show.Show.{Show}
-use Rattle.config_rules.specs.Configuration.{Configuration}
-use Rattle.config_words.specs.Numbered.{active_nsids}
-use Rattle.edit_reach.proofs.Viewers.{own_first, own_passed, own_put, own_there, some_lent}
-use Rattle.name_table.specs.Table.{value_of}
+use Rattle.nvt_config.specs.Configuration.{Configuration}
+use Rattle.config_lists.specs.Numbered.{active_nsids}
+use Rattle.nvt_config.proofs.Viewers.{own_first, own_passed, own_put, own_there, some_lent}
+use Rattle.tables.specs.NameTable.{value_of}
 use Rattle.change_lists.specs.Reached.{IsListFor}
 use Rattle.change_lists.proofs.active_lists.lists_of.Goals as goal
 use Rattle.change_lists.proofs.active_lists.lists_of.Goals.{then-eq+then-is_none+in_ok-list+in_ok-put, else-eq, else-eq-via-then-eq+else-is_none, else-eq-via-else-eq}

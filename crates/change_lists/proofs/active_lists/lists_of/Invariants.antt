@@ -1,5 +1,5 @@
 use Rattle.std.proofs.Common.{◌≡◌, take}
-use Rattle.edit_reach.specs.Viewers.{AreOwnOf}
+use Rattle.nvt_config.specs.Viewers.{AreOwnOf}
 use Rattle.change_lists.specs.Reached.{IsListFor}
 use Rattle.change_lists.proofs.active_lists.lists_of.Given as goal
 

@@ -3,8 +3,8 @@ use Rattle.std.proofs.Math.Seq.{take-suc}
 use Rattle.std.specs.Str.{bytes_eq}
 use Rattle.config_lists.specs.declared.show.Show.{Show}
 use Rattle.std.proofs.lemmas.List.{append-nil, append_assoc}
-use Rattle.edit_reach.proofs.Viewers.{own_passed, own_put, own_there, some_lent}
-use Rattle.name_table.specs.Table.{value_of}
+use Rattle.nvt_config.proofs.Viewers.{own_passed, own_put, own_there, some_lent}
+use Rattle.tables.specs.NameTable.{value_of}
 use Rattle.change_lists.specs.Reached.{AreChangesFor}
 use Rattle.change_lists.proofs.differences.add_changes.Goals as goal
 use Rattle.change_lists.proofs.differences.add_changes.Goals.{then-eq+then-is_none+in_ok-put, else-eq, else-eq-via-then-eq+else-is_none, else-eq-via-else-eq}

@@ -1,6 +1,6 @@
 use Rattle.std.proofs.Common.{◌≡◌, ◌++◌, List, take}
 use Rattle.config_lists.specs.declared.show.Show.{Show}
-use Rattle.edit_reach.specs.Viewers.{AreOwnOf}
+use Rattle.nvt_config.specs.Viewers.{AreOwnOf}
 use Rattle.change_lists.specs.Reached.{AreChangesFor}
 use Rattle.change_lists.proofs.differences.add_changes.Given as goal
 

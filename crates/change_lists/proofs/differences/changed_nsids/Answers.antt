@@ -2,8 +2,8 @@ use Rattle.std.proofs.Common.{◌≡◌, ◌≤◌, not, ℕ, List, Option, None
 use Rattle.std.specs.Option.{option_map}
 use Rattle.config_lists.specs.declared.namespace.Namespace.{Namespace}
 use Rattle.config_lists.specs.Namespace.{is_named, nsid_max}
-use Rattle.config_rules.specs.Configuration.{Configuration}
-use Rattle.config_words.proofs.Sets.{nsids_alike}
+use Rattle.nvt_config.specs.Configuration.{Configuration}
+use Rattle.config_lists.proofs.Sets.{nsids_alike}
 use Rattle.change_lists.specs.Changes.{are_same, attributes_of, changes_namespace}
 use Rattle.change_lists.specs.Tables.{differs}
 use Rattle.change_lists.proofs.differences.changed_nsids.Goals as goal

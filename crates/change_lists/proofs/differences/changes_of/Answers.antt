@@ -1,5 +1,5 @@
 use Rattle.std.proofs.Common.{[]}
-use Rattle.edit_reach.proofs.Viewers.{own_first}
+use Rattle.nvt_config.proofs.Viewers.{own_first}
 use Rattle.change_lists.specs.Reached.{AreChangesFor}
 use Rattle.change_lists.proofs.differences.changes_of.Goals as goal
 

@@ -1,7 +1,7 @@
 use Rattle.std.proofs.Common.{◌≡◌, ℕ, List, Option, [], ap, ◌∙◌}
 use Rattle.config_lists.specs.declared.namespace.Namespace.{Namespace}
-use Rattle.config_tables.specs.Nsids.{nsids_in}
-use Rattle.config_words.specs.Numbered.{nsids_where}
+use Rattle.config_lists.specs.Nsids.{nsids_in}
+use Rattle.config_lists.specs.Numbered.{nsids_where}
 use Rattle.change_lists.specs.Tables.{differs, noted}
 use Rattle.change_lists.proofs.Changed.{all_differing}
 use Rattle.change_lists.proofs.differences.differing.Goals as goal

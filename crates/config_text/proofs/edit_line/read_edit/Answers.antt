@@ -1,7 +1,7 @@
 use Rattle.std.proofs.Common.{Ok, List, ap, subst, inl}
 use Rattle.config_text.specs.EditLine.{IsEditOf}
-use Rattle.line_words.specs.Operand.{values}
-use Rattle.line_words.specs.declared.operand.Operand.{Operand}
+use Rattle.config_text.specs.Operand.{values}
+use Rattle.config_text.specs.declared.operand.Operand.{Operand}
 use Rattle.config_text.proofs.EditLemmas.{line_from, no_line_fault, one_edit}
 use Rattle.config_text.proofs.edit_line.read_edit.Goals as goal
 

@@ -1,5 +1,5 @@
 use Rattle.std.proofs.Common.{◌≡◌, ◌+◌, ◌≤◌, ◌++◌, drop, length}
-use Rattle.line_words.specs.Operand.{values}
+use Rattle.config_text.specs.Operand.{values}
 use Rattle.config_text.specs.Output.{spaced}
 use Rattle.config_text.proofs.write.append_operands.Given as goal
 

@@ -1,6 +1,6 @@
 use Rattle.std.proofs.Common.{◌≡◌, ◌++◌, List, ℕ, sym, subst, ap, ◌∙◌}
 use Rattle.config_text.specs.EditLine.{command_of, line_of, values_of}
-use Rattle.line_words.specs.Operand.{values}
+use Rattle.config_text.specs.Operand.{values}
 use Rattle.config_text.specs.Output.{AppendsOrFull, head_of, spaced}
 use Rattle.config_text.proofs.WriteLemmas.{line_is}
 use Rattle.config_text.proofs.write.write_edit.Goals as goal

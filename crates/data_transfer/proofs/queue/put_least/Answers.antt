@@ -1,5 +1,5 @@
 use Rattle.std.proofs.Common.{◌<◌, unwrap_or, ap, ◌∙◌, arith}
-use Rattle.number_table.specs.Table.{place}
+use Rattle.tables.specs.NumberTable.{place}
 use Rattle.data_transfer.proofs.Counts.{count_of-begun}
 use Rattle.data_transfer.proofs.Tags.{free_tag-found, free_within, nothing-found}
 use Rattle.data_transfer.proofs.queue.put_least.Goals as goal

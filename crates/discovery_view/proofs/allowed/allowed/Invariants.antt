@@ -1,5 +1,5 @@
 use Rattle.std.proofs.Common.{◌≡◌, ◌||◌, ℕ, List, drop}
-use Rattle.config_rules.specs.Configuration.{has_allow}
+use Rattle.nvt_config.specs.Configuration.{has_allow}
 use Rattle.discovery_view.specs.Allowed.{is_named}
 use Rattle.discovery_view.proofs.allowed.allowed.Given as goal
 

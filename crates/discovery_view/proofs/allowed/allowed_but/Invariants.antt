@@ -1,6 +1,6 @@
 use Rattle.std.proofs.Common.{◌≡◌, ◌||◌, ℕ, List, drop}
 use Rattle.config_lists.specs.Lists.{without}
-use Rattle.config_rules.specs.Configuration.{has_allow}
+use Rattle.nvt_config.specs.Configuration.{has_allow}
 use Rattle.discovery_view.specs.Allowed.{is_allow_of, is_named}
 use Rattle.discovery_view.proofs.allowed.allowed_but.Given as goal
 

@@ -1,6 +1,6 @@
 use Rattle.std.proofs.Common.{◌≡◌, ◌||◌, ℕ, List, bytes_eq, drop}
 use Rattle.std.specs.List.{list_any}
-use Rattle.config_rules.specs.Permission.{is_open_subsystem}
+use Rattle.nvt_config.specs.Permission.{is_open_subsystem}
 use Rattle.discovery_view.proofs.open.open_names.Given as goal
 
 -- a subsystem is open by a name so far, or as one of those that are left

@@ -1,5 +1,5 @@
 use Rattle.std.proofs.Common.{◌≡◌, ◌||◌, ◌++◌, drop}
-use Rattle.config_rules.specs.Permission.{is_open_subsystem}
+use Rattle.nvt_config.specs.Permission.{is_open_subsystem}
 use Rattle.discovery_view.specs.Allowed.{is_named}
 use Rattle.discovery_view.specs.Catalog.{catalog_of, is_referral, places_by, places_from}
 use Rattle.discovery_view.proofs.ready.shown_places.Given as goal

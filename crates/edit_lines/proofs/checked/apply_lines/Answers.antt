@@ -1,8 +1,8 @@
 use Rattle.std.proofs.Common.{◌≡◌, ◌∷◌, drop, subst, ◌∙◌, arith}
 use Rattle.std.proofs.lemmas.Result.{err_from_is_err_and}
-use Rattle.line_words.specs.Lines.{lines_of}
+use Rattle.config_text.specs.Lines.{lines_of}
 use Rattle.edit_lines.specs.Configured.{Configures}
-use Rattle.line_words.proofs.LineLemmas.{length-lines_of}
+use Rattle.config_text.proofs.LineLemmas.{length-lines_of}
 use Rattle.edit_lines.proofs.Taking.{IsNext, all_taken, before_more, next_line, refused_at}
 use Rattle.edit_lines.proofs.checked.apply_lines.Goals as goal
 

@@ -1,5 +1,5 @@
 use Rattle.std.proofs.Common.{◌≡◌, ◌≤◌, take, drop, length}
-use Rattle.line_words.specs.Lines.{lines_of}
+use Rattle.config_text.specs.Lines.{lines_of}
 use Rattle.edit_lines.specs.Configured.{Configures}
 use Rattle.edit_lines.proofs.checked.apply_lines.Given as goal
 

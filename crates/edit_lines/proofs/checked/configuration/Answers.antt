@@ -1,6 +1,6 @@
 use Rattle.std.proofs.Common.{◌≡◌, sym}
 use Rattle.std.proofs.lemmas.Result.{err_from_is_err_and}
-use Rattle.line_words.specs.Lines.{lines_of}
+use Rattle.config_text.specs.Lines.{lines_of}
 use Rattle.edit_lines.specs.Configured.{RefusesLines}
 use Rattle.edit_lines.proofs.Taking.{lines_refused}
 use Rattle.edit_lines.proofs.checked.configuration.Goals as goal

@@ -1,5 +1,5 @@
 use Rattle.std.proofs.Common.{ℕ, sym}
-use Rattle.number_table.specs.Table.{place}
+use Rattle.tables.specs.NumberTable.{place}
 use Rattle.fabrics_connect.proofs.Consequences.{controller_begins, controller_named, queue_joins}
 use Rattle.fabrics_connect.proofs.decision.decide.Goals as goal
 

@@ -1,5 +1,5 @@
 use Rattle.std.proofs.Common.{ℕ, []}
-use Rattle.host_discovery.specs.Discover.{answers_left, asks}
+use Rattle.host_pages.specs.Discover.{answers_left, asks}
 use Rattle.host_program.specs.Discovering.{AreRead}
 use Rattle.host_program.proofs.discovery.read_page.Given as goal
 

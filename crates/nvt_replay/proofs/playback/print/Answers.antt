@@ -1,6 +1,6 @@
 use Rattle.std.proofs.Common.{sym, ◌∙◌}
 use Rattle.std.proofs.lemmas.Result.{err_from_is_err_and}
-use Rattle.number_table.specs.Table.{place}
+use Rattle.tables.specs.NumberTable.{place}
 use Rattle.nvt_replay.proofs.Closing.{closed_left}
 use Rattle.nvt_replay.proofs.Cutting.{closing_begun, lines_begun}
 use Rattle.nvt_replay.proofs.Prints.{closed_lines, open_left, printed_lines, still_ended}

@@ -1,9 +1,9 @@
 use Rattle.std.proofs.Common.{◌≡◌, All}
 use Rattle.std.proofs.lemmas.Result.{on_ok_weaker}
-use Rattle.line_words.specs.Lines.{lines_of}
+use Rattle.config_text.specs.Lines.{lines_of}
 use Rattle.nvt_replay.proofs.Faulting.{edits_before, script_before, script_began, script_explained}
 use Rattle.nvt_replay.specs.Played.{PlaysAll, Prints}
-use Rattle.replay_lines.specs.StreamLine.{IsStreamLine}
+use Rattle.edit_lines.specs.StreamLine.{IsStreamLine}
 use Rattle.nvt_replay.proofs.playback.replay.Goals as goal
 
 pub returns-in-Ok-clause-ok : goal.returns-in-Ok-clause-ok

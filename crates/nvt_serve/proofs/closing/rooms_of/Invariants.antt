@@ -1,5 +1,5 @@
 use Rattle.std.proofs.Common.{◌≡◌, ℕ, ◌<◌, ◌≤◌, length, slice_index_or}
-use Rattle.number_table.specs.Table.{place}
+use Rattle.tables.specs.NumberTable.{place}
 use Rattle.nvt_serve.specs.Asking.{room_of_slot}
 use Rattle.nvt_serve.proofs.closing.rooms_of.Given as goal
 

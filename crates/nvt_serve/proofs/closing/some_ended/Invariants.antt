@@ -1,5 +1,5 @@
 use Rattle.std.proofs.Common.{◌≡◌, ℕ, ◌<◌, ◌-◌, false}
-use Rattle.number_table.specs.Table.{place}
+use Rattle.tables.specs.NumberTable.{place}
 use Rattle.target_core.specs.Target.{is_ended_at}
 use Rattle.nvt_serve.proofs.closing.some_ended.Given as goal
 

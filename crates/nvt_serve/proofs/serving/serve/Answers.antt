@@ -1,7 +1,7 @@
 use Rattle.std.proofs.Common.{ℕ, List, [], Option, None, replicate, refl, ap, ◌∙◌, arith}
 use Rattle.std.proofs.lemmas.List.{length-replicate}
-use Rattle.number_table.specs.Table.{place}
-use Rattle.number_table.proofs.Tables.{place-replicate}
+use Rattle.tables.specs.NumberTable.{place}
+use Rattle.tables.proofs.NumberTables.{place-replicate}
 use Rattle.nvt_serve.specs.Deed.{Serving}
 use Rattle.nvt_serve.specs.Served.{serving}
 use Rattle.nvt_serve.proofs.Runs.{goes_counted}

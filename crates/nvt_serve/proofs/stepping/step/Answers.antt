@@ -1,4 +1,4 @@
-use Rattle.number_table.specs.Table.{place}
+use Rattle.tables.specs.NumberTable.{place}
 use Rattle.target_core.specs.Target.{output_at}
 use Rattle.nvt_serve.proofs.Looking.{looks_rest, looks_stepped, output_none, rests_quiet}
 use Rattle.nvt_serve.proofs.stepping.step.Goals as goal

@@ -1,7 +1,7 @@
 use Rattle.std.proofs.Common.{◌∙◌}
 use Rattle.nvt_serve.proofs.Quiet.{quiet_all, quiet_more}
 use Rattle.nvt_serve.proofs.Runs.{steps_go_on}
-use Rattle.target_steps.proofs.Knowing.{known_on}
+use Rattle.target_core.proofs.Knowing.{known_on}
 use Rattle.nvt_serve.proofs.stepping.step_all.Goals as goal
 
 pub loop-k-preserved : goal.loop-k-preserved

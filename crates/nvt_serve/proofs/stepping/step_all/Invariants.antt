@@ -2,7 +2,7 @@ use Rattle.std.proofs.Common.{◌≡◌, ℕ, ◌<◌, ◌-◌}
 use Rattle.nvt_serve.specs.Looks.{AreLooks}
 use Rattle.nvt_serve.specs.Served.{IsQuietAt}
 use Rattle.nvt_serve.specs.Stepping.{GoesBySteps}
-use Rattle.target_steps.specs.Marks.{SameKnown}
+use Rattle.target_core.specs.Marks.{SameKnown}
 use Rattle.nvt_serve.proofs.stepping.step_all.Given as goal
 
 abbrev pub invariant-loop-k : goal.invariant-loop-k

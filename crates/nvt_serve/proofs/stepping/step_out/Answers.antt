@@ -1,8 +1,8 @@
 use Rattle.nvt_serve.proofs.Lasting.{lasts_on, lasts_stepped}
 use Rattle.nvt_serve.proofs.Quiet.{out_idle, quiet_beside}
 use Rattle.nvt_serve.proofs.Runs.{steps_go, steps_go_on}
-use Rattle.target_steps.proofs.Knowing.{known_on, stepped_known}
-use Rattle.target_steps.proofs.Steps.{ended_steps, one_steps}
+use Rattle.target_core.proofs.Knowing.{known_on, stepped_known}
+use Rattle.target_core.proofs.Steps.{ended_steps, one_steps}
 use Rattle.nvt_serve.proofs.stepping.step_out.Goals as goal
 
 pub loop-target-smaller-in-Ok-One : goal.loop-target-smaller-in-Ok-One

@@ -3,8 +3,8 @@ use Rattle.std.specs.Prelude.{◌≢◌}
 use Rattle.nvt_serve.specs.Looks.{LastsAt}
 use Rattle.nvt_serve.specs.Served.{IsQuietAt}
 use Rattle.nvt_serve.specs.Stepping.{GoesBySteps}
-use Rattle.target_steps.specs.Marks.{SameKnown}
-use Rattle.target_steps.proofs.Steps.{left_at}
+use Rattle.target_core.specs.Marks.{SameKnown}
+use Rattle.target_core.proofs.Steps.{left_at}
 use Rattle.nvt_serve.proofs.stepping.step_out.Given as goal
 
 abbrev pub invariant-loop-target : goal.invariant-loop-target

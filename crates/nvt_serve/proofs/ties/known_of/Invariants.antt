@@ -1,5 +1,5 @@
 use Rattle.std.proofs.Common.{◌≡◌, ℕ, ◌<◌, ◌≤◌, false, length, is_some}
-use Rattle.number_table.specs.Table.{place}
+use Rattle.tables.specs.NumberTable.{place}
 use Rattle.nvt_serve.specs.Sets.{is_in}
 use Rattle.nvt_serve.proofs.ties.known_of.Given as goal
 

@@ -1,5 +1,5 @@
 use Rattle.data_transfer.specs.Parts.{part_at}
-use Rattle.controller_tables.specs.Controllers.{is_gone}
+use Rattle.target_state.specs.Controllers.{is_gone}
 use Rattle.target_core.proofs.Settling.{DroppedBelow}
 use Rattle.target_core.proofs.settle.drop_transfers.Given as goal
 

@@ -1,7 +1,7 @@
 use Rattle.std.proofs.Common.{◌≡◌}
-use Rattle.number_table.proofs.Walks.{mapped_below}
+use Rattle.tables.proofs.NumberWalks.{mapped_below}
 use Rattle.target_core.specs.Connection.{settled}
-use Rattle.controller_tables.specs.Controllers.{is_gone}
+use Rattle.target_state.specs.Controllers.{is_gone}
 use Rattle.target_core.proofs.settle.end_connections.Given as goal
 
 -- the connections below k are settled

@@ -1,6 +1,6 @@
 use Rattle.std.proofs.Common.{sym}
-use Rattle.number_table.specs.Table.{place}
-use Rattle.controller_tables.proofs.Staying.{nothing_gone}
+use Rattle.tables.specs.NumberTable.{place}
+use Rattle.target_state.proofs.Staying.{nothing_gone}
 use Rattle.target_core.proofs.Settling.{nothing_drops, nothing_settles}
 use Rattle.target_core.proofs.settle.settle.Goals as goal
 

@@ -1,8 +1,8 @@
 use Rattle.std.proofs.Common.{◌≡◌, ℕ}
-use Rattle.config_rules.specs.Configuration.{Configuration}
-use Rattle.notices.specs.Planned.{Plans}
-use Rattle.number_table.specs.Table.{place}
-use Rattle.number_table.proofs.Walks.{mapped_below}
+use Rattle.nvt_config.specs.Configuration.{Configuration}
+use Rattle.admin_queue.specs.Planned.{Plans}
+use Rattle.tables.specs.NumberTable.{place}
+use Rattle.tables.proofs.NumberWalks.{mapped_below}
 use Rattle.target_core.specs.Connection.{told_known}
 use Rattle.target_core.proofs.settle.tell.Given as goal
 

@@ -1,6 +1,6 @@
 use Rattle.std.proofs.Common.{sym, ap, ◌∙◌}
 use Rattle.std.specs.Option.{option_copied}
-use Rattle.name_table.specs.Table.{value_of}
+use Rattle.tables.specs.NameTable.{value_of}
 use Rattle.ana_view.specs.View.{groups_at, groups_in}
 use Rattle.ana_view.proofs.Shows.{lent}
 use Rattle.ana_view.proofs.bodies.Bodies.get.Goals as goal

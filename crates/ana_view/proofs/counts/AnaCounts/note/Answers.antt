@@ -1,5 +1,5 @@
 use Rattle.std.proofs.Common.{◌∙◌}
-use Rattle.config_rules.specs.Seen.{seen_by}
+use Rattle.nvt_config.specs.SeenBy.{seen_by}
 use Rattle.ana_view.proofs.Counting.{any_changed, counted_changes}
 use Rattle.ana_view.proofs.counts.AnaCounts.note.Goals as goal
 

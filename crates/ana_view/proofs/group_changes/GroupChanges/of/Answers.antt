@@ -1,5 +1,5 @@
 use Rattle.std.proofs.Common.{◌≡◌, Some, None, sym, ap, subst, ◌∙◌}
-use Rattle.config_rules.specs.Seen.{seen_by}
+use Rattle.nvt_config.specs.SeenBy.{seen_by}
 use Rattle.ana_view.specs.View.{AreThoseReached, BeforeAfter, groups_on, reached_in}
 use Rattle.ana_view.proofs.Plans.{differing_changes, none_changed, nothing_changes}
 use Rattle.ana_view.proofs.group_changes.GroupChanges.of.Goals as goal

@@ -1,6 +1,6 @@
 use Rattle.std.proofs.Common.{ap, ◌∙◌, []}
 use Rattle.std.specs.Prelude.{unwrap_or}
-use Rattle.name_table.specs.Table.{value_of}
+use Rattle.tables.specs.NameTable.{value_of}
 use Rattle.change_lists.specs.ActiveView.{nsids_in}
 use Rattle.change_lists.proofs.Ready.{lent}
 use Rattle.change_lists.proofs.active_lists.ActiveLists.get.Goals as goal

@@ -2,7 +2,7 @@ use Rattle.std.proofs.Common.{◌≡◌, ◌+◌, ◌++◌, ◌∷◌, [], List,
 use Rattle.std.proofs.Math.Seq.{take-suc}
 use Rattle.std.proofs.lemmas.List.{map-append, take_all}
 use Rattle.config_lists.specs.declared.subsystem.Subsystem.{Subsystem}
-use Rattle.name_table.specs.Table.{IsPut}
+use Rattle.tables.specs.NameTable.{IsPut}
 use Rattle.change_lists.proofs.Ready.{names_of, none_ready, one_more_ready, shows_active}
 use Rattle.change_lists.proofs.active_lists.ActiveLists.of.Goals as goal
 

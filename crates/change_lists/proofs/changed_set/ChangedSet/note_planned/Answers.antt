@@ -1,7 +1,7 @@
 use Rattle.std.proofs.Common.{true, ap, sym, ◌∙◌}
 use Rattle.std.specs.List.{list_any}
-use Rattle.config_rules.specs.Seen.{seen_by}
-use Rattle.config_words.proofs.Sets.{no_nsids}
+use Rattle.nvt_config.specs.SeenBy.{seen_by}
+use Rattle.config_lists.proofs.Sets.{no_nsids}
 use Rattle.change_lists.specs.Changes.{changes_namespace}
 use Rattle.change_lists.proofs.Changed.{changes_joined, where_is_set}
 use Rattle.change_lists.proofs.Planned.{lent_changed}

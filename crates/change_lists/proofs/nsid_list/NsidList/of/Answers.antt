@@ -1,5 +1,5 @@
 use Rattle.std.proofs.Common.{◌≡◌, ◌∙◌}
-use Rattle.config_words.specs.Numbered.{active_nsids}
+use Rattle.config_lists.specs.Numbered.{active_nsids}
 use Rattle.change_lists.proofs.Ready.{table_active}
 use Rattle.change_lists.proofs.nsid_list.NsidList.of.Goals as goal
 

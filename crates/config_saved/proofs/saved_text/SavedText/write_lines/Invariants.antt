@@ -1,5 +1,5 @@
 use Rattle.std.proofs.Common.{◌≡◌, ◌++◌, List, length}
-use Rattle.config_edits.specs.declared.edit.Edit.{Edit}
+use Rattle.config_lists.specs.declared.edit.Edit.{Edit}
 use Rattle.config_saved.specs.Pieces.{Appends}
 use Rattle.config_saved.specs.Text.{text_of}
 use Rattle.config_saved.proofs.saved_text.SavedText.write_lines.Given as goal

@@ -1,5 +1,5 @@
 use Rattle.std.proofs.Common.{◌≡◌}
-use Rattle.config_rules.specs.Configuration.{Configuration}
+use Rattle.nvt_config.specs.Configuration.{Configuration}
 use Rattle.discovery_view.specs.Allowed.{allows_after, host_of}
 use Rattle.discovery_view.specs.Catalog.{places_by, places_of}
 use Rattle.discovery_view.proofs.Allowances.{places_named}

@@ -1,5 +1,5 @@
 use Rattle.std.proofs.Common.{ap, sym, ◌∙◌, subst}
-use Rattle.config_rules.specs.Configuration.{Configuration}
+use Rattle.nvt_config.specs.Configuration.{Configuration}
 use Rattle.discovery_view.specs.declared.rows_plan.RowsPlan.TheVariants.{One}
 use Rattle.discovery_view.specs.Allowed.{allows_after, host_of}
 use Rattle.discovery_view.specs.Plan.{IsPlaceOf, LeadsTo}

@@ -1,6 +1,6 @@
 use Rattle.std.proofs.Common.{◌≡◌, drop, map}
 use Rattle.std.specs.Option.{option_copied}
-use Rattle.config_rules.specs.Configuration.{has_host}
+use Rattle.nvt_config.specs.Configuration.{has_host}
 use Rattle.discovery_view.specs.Ready.{next_places, shown_before, stranger, with_rows}
 use Rattle.discovery_view.proofs.table.Table.add_hosts.Given as goal
 

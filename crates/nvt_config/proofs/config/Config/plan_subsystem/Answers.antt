@@ -1,5 +1,5 @@
 use Rattle.std.proofs.Common.{refl, arith}
-use Rattle.config_edits.specs.declared.edit.Edit.TheVariants.{SubsystemAdd}
+use Rattle.config_lists.specs.declared.edit.Edit.TheVariants.{SubsystemAdd}
 use Rattle.nvt_config.specs.declared.plan.Change.TheVariants.{AddSubsystem}
 use Rattle.nvt_config.proofs.Effects.{is_plan}
 use Rattle.nvt_config.proofs.config.Config.plan_subsystem.Goals as goal

@@ -1,4 +1,4 @@
-use Rattle.target_steps.proofs.Knowing.{ended_marked}
+use Rattle.target_core.proofs.Knowing.{ended_marked}
 use Rattle.nvt_replay.proofs.connections.Connections.end.Goals as goal
 
 pub invariant_of-self : goal.invariant_of-self

@@ -1,4 +1,4 @@
-use Rattle.target_steps.proofs.Knowing.{opened_marked}
+use Rattle.target_core.proofs.Knowing.{opened_marked}
 use Rattle.nvt_replay.proofs.connections.Connections.open.Goals as goal
 
 pub invariant_of-self-2 : goal.invariant_of-self-2

@@ -1,6 +1,6 @@
 use Rattle.std.proofs.Common.{sym}
 use Rattle.nvt_replay.proofs.Steps.{below_more, below_none}
-use Rattle.target_steps.proofs.Steps.{unknown_steps}
+use Rattle.target_core.proofs.Steps.{unknown_steps}
 use Rattle.nvt_replay.proofs.connections.Connections.step.Goals as goal
 use Rattle.nvt_replay.proofs.connections.Connections.step.Goals.{then-is_open+in_ok-step_one, else-is_open}
 

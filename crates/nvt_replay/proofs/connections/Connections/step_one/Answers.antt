@@ -1,5 +1,5 @@
-use Rattle.target_steps.proofs.Knowing.{marks_stay, stepped_known}
-use Rattle.target_steps.proofs.Steps.{ended_steps, one_steps, steps_more}
+use Rattle.target_core.proofs.Knowing.{marks_stay, stepped_known}
+use Rattle.target_core.proofs.Steps.{ended_steps, one_steps, steps_more}
 use Rattle.nvt_replay.proofs.connections.Connections.step_one.Goals as goal
 
 pub loop-smaller-in-One-1 : goal.loop-smaller-in-One-1

@@ -1,7 +1,7 @@
 use Rattle.target_core.specs.Target.{TargetState}
-use Rattle.target_steps.specs.Steps.{StepsUntilIdle}
-use Rattle.target_steps.specs.Marks.{AreMarks}
-use Rattle.target_steps.proofs.Steps.{left_at}
+use Rattle.target_core.specs.Steps.{StepsUntilIdle}
+use Rattle.target_core.specs.Marks.{AreMarks}
+use Rattle.target_core.proofs.Steps.{left_at}
 use Rattle.nvt_replay.proofs.connections.Connections.step_one.Given as goal
 
 -- whatever steps of the connection come now, they come behind those that it has made

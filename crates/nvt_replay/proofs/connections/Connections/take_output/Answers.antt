@@ -1,4 +1,4 @@
-use Rattle.target_steps.proofs.Knowing.{marks_stay, taken_known}
+use Rattle.target_core.proofs.Knowing.{marks_stay, taken_known}
 use Rattle.nvt_replay.proofs.connections.Connections.take_output.Goals as goal
 
 pub invariant_of-self : goal.invariant_of-self

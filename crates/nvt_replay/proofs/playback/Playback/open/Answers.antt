@@ -1,5 +1,5 @@
 use Rattle.std.specs.Prelude.{codes}
-use Rattle.replay_lines.specs.Printed.{event_line}
+use Rattle.edit_lines.specs.Printed.{event_line}
 use Rattle.nvt_replay.proofs.Cutting.{opened_plays, opening_cut}
 use Rattle.nvt_replay.proofs.playback.Playback.open.Goals as goal
 

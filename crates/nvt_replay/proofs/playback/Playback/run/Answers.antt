@@ -1,9 +1,9 @@
 use Rattle.std.proofs.Common.{◌≡◌, ℕ, List, ◌∷◌, drop, subst, ◌∙◌, arith}
 use Rattle.std.proofs.lemmas.Result.{err_from_is_err_and}
 use Rattle.std.specs.List.{All}
-use Rattle.line_words.specs.Lines.{lines_of}
-use Rattle.replay_lines.specs.StreamLine.{IsStreamLine}
-use Rattle.line_words.proofs.LineLemmas.{length-lines_of}
+use Rattle.config_text.specs.Lines.{lines_of}
+use Rattle.edit_lines.specs.StreamLine.{IsStreamLine}
+use Rattle.config_text.proofs.LineLemmas.{length-lines_of}
 use Rattle.nvt_replay.specs.Played.{PlaysAll, Prints}
 use Rattle.nvt_replay.proofs.Cutting.{script_cut}
 use Rattle.nvt_replay.proofs.Faulting.{ends_script, plays_before}

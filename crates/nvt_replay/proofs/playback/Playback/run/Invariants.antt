@@ -1,8 +1,8 @@
 use Rattle.std.proofs.Common.{◌≡◌, ◌≤◌, take, drop, length}
 use Rattle.std.specs.List.{All}
-use Rattle.line_words.specs.Lines.{lines_of}
+use Rattle.config_text.specs.Lines.{lines_of}
 use Rattle.nvt_replay.specs.Played.{PlaysAll, Prints}
-use Rattle.replay_lines.specs.StreamLine.{IsStreamLine}
+use Rattle.edit_lines.specs.StreamLine.{IsStreamLine}
 use Rattle.nvt_replay.proofs.playback.Playback.run.Given as goal
 
 abbrev pub invariant-loop-line : goal.invariant-loop-line

@@ -1,5 +1,5 @@
 use Rattle.std.proofs.Common.{refl}
-use Rattle.number_table.proofs.Tables.{place-replicate}
+use Rattle.tables.proofs.NumberTables.{place-replicate}
 use Rattle.nvt_serve.proofs.Looking.{looks_first}
 use Rattle.nvt_serve.proofs.ties.Ties.of.Goals as goal
 

@@ -1,10 +1,10 @@
 use Rattle.std.proofs.Common.{Ok, refl, ap, sym, ◌∙◌}
-use Rattle.notices.specs.Planned.{Plans}
+use Rattle.admin_queue.specs.Planned.{Plans}
 use Rattle.target_core.proofs.Moving.{edit_moves}
 use Rattle.target_core.proofs.Places.{map_is_target}
-use Rattle.target_views.proofs.Shows.{plans_told}
-use Rattle.target_views.proofs.Together.{both_there}
-use Rattle.target_views.proofs.Units.{edit_keeps_units}
+use Rattle.target_state.proofs.Shows.{plans_told}
+use Rattle.target_state.proofs.Together.{both_there}
+use Rattle.target_state.proofs.Units.{edit_keeps_units}
 use Rattle.target_core.proofs.target.Target.commit_edit.Goals as goal
 
 pub commit-requires-2 : goal.commit-requires-2

@@ -1,5 +1,5 @@
 use Rattle.std.proofs.Common.{refl, ap, sym, ◌∙◌}
-use Rattle.number_table.specs.Table.{with_value}
+use Rattle.tables.specs.NumberTable.{with_value}
 use Rattle.target_core.proofs.Moving.{open_moves}
 use Rattle.target_core.proofs.Places.{stream_free}
 use Rattle.target_core.proofs.target.Target.open_on.Goals as goal

@@ -1,6 +1,6 @@
 use Rattle.std.proofs.Common.{refl, ap, sym, ◌∙◌}
 use Rattle.std.specs.Option.{option_copied}
-use Rattle.controller_tables.proofs.Changing.{can_follow}
+use Rattle.target_state.proofs.Changing.{can_follow}
 use Rattle.target_core.proofs.Stepping.{acted_known, acts_known, carried_known, step_done, step_is_target}
 use Rattle.target_core.proofs.target.Target.step_on.Goals as goal
 

@@ -1,5 +1,0 @@
-use Rattle.config_rules.proofs.Seeing.{sees_what_is_shown}
-use Rattle.config_rules.proofs.laws.hosts_see_what_is_shown.Goals as goal
-
-pub returns : goal.returns
-returns c = sees_what_is_shown

@@ -1,4 +1,0 @@
-pub mod Changed
-pub mod Shown
-pub mod Tables
-pub mod Taken

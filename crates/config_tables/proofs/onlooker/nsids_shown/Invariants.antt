@@ -1,7 +1,0 @@
-use Rattle.std.proofs.Common.{◌≡◌, take}
-use Rattle.config_tables.specs.Onlooker.{nsids_shown}
-use Rattle.config_tables.proofs.onlooker.nsids_shown.Given as goal
-
--- those of the shows so far
-abbrev pub invariant-loop-show : goal.invariant-loop-show
-invariant-loop-show l = l.shown ≡ nsids_shown (take l.show-index l.shows) l.host l.subsystem

@@ -1,4 +1,0 @@
-pub mod Nsids
-pub mod Onlooker
-pub mod Shows
-pub mod Tables

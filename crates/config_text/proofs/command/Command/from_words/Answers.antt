@@ -1,0 +1,5 @@
+use Rattle.std.proofs.Common.{◌∙◌}
+use Rattle.config_text.proofs.command.Command.from_words.Goals as goal
+
+pub returns : goal.returns
+returns c = c.copied.ensures ∙ c.find_command.ensures

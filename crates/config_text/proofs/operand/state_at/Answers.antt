@@ -1,0 +1,8 @@
+use Rattle.config_text.proofs.OperandLemmas.{no_other_state, operand_at}
+use Rattle.config_text.proofs.operand.state_at.Goals as goal
+
+pub unreachable-requires : goal.unreachable-requires
+unreachable-requires c = no_other_state c.args.operands.now c.args.at c.result-1.given.0 c.requires c.in_default.not-State
+
+pub returns : goal.returns
+returns c = (operand_at c.args.operands.now c.args.at c.result-1.given.0 _ _ c.requires c.in-State.is).value_is

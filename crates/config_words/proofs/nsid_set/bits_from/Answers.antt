@@ -1,6 +1,0 @@
-use Rattle.std.proofs.Common.{arith}
-use Rattle.config_words.proofs.Marks.{left_is_short}
-use Rattle.config_words.proofs.nsid_set.bits_from.Goals as goal
-
-pub returns-clause-few : goal.returns-clause-few
-returns-clause-few c = left_is_short c.args.word c.args.bit c.ranges.word.fits (omega arith)

@@ -1,2 +1,0 @@
-pub mod NsidSet
-pub mod Numbered

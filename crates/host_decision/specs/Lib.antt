@@ -1,2 +1,0 @@
-pub mod Decision
-pub mod Within

@@ -1,6 +1,0 @@
-pub mod Placing
-pub mod Fitting
-pub mod Latest
-pub mod Behaving
-pub mod Whole
-pub mod Keeping

@@ -1,5 +1,0 @@
-use Rattle.host_history.proofs.Latest.{commands_are_the_latest}
-use Rattle.host_history.proofs.laws.commands_are_the_latest.Goals as goal
-
-pub returns : goal.returns
-returns c = commands_are_the_latest

@@ -1,9 +1,0 @@
-pub mod Pending
-pub mod Event
-pub mod State
-pub mod Told
-pub mod History
-pub mod Laws
-pub mod Behaved
-pub mod Keeping
-pub mod Latest

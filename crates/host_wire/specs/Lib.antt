@@ -1,4 +1,0 @@
-pub mod Command
-pub mod Connect
-pub mod Capsule
-pub mod Requested

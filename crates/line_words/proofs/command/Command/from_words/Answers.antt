@@ -1,5 +1,0 @@
-use Rattle.std.proofs.Common.{◌∙◌}
-use Rattle.line_words.proofs.command.Command.from_words.Goals as goal
-
-pub returns : goal.returns
-returns c = c.copied.ensures ∙ c.find_command.ensures

@@ -1,6 +1,0 @@
-use Rattle.line_words.proofs.LineLemmas.{position_or_len-none}
-use Rattle.line_words.proofs.lines.find_byte.Goals as goal
-use Rattle.std.proofs.Common.{rules}
-
-pub returns-in-None-clause-place : goal.returns-in-None-clause-place
-returns-in-None-clause-place c = search (rules, position_or_len-none)

@@ -1,9 +1,0 @@
-pub mod Fault
-pub mod Lines
-pub mod Number
-pub mod Word
-pub mod Operand
-pub mod Command
-pub mod Words
-pub mod WordsLeft
-pub mod Said

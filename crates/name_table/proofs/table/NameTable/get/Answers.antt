@@ -1,7 +1,0 @@
-use Rattle.std.proofs.Common.{sym, ◌∙◌}
-use Rattle.name_table.proofs.Tables.{found}
-use Rattle.name_table.proofs.table.NameTable.get.Goals as goal
-
-pub returns : goal.returns
-returns g c =
-    rw (← c.self.view_is) (c.get.ensures.value ∙ sym (found c.self.inside.values.entries c.args.name.now))

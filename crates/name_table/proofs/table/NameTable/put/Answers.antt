@@ -1,9 +1,0 @@
-use Rattle.name_table.proofs.Tables.{put}
-use Rattle.name_table.proofs.table.NameTable.put.Goals as goal
-
-pub returns-clause-put : goal.returns-clause-put
-returns-clause-put g c =
-    let before = c.self.inside.values.entries in
-    let same = c.in_ok-name.ensures.items in
-    let entries = c.in_ok-insert.ensures.entries in
-    rw (← c.self.view_is, entries, ← same) (put before c.in_ok-name.name c.args.value)

@@ -1,8 +1,0 @@
-use Rattle.name_table.proofs.Tables.{put}
-use Rattle.name_table.proofs.table.NameTable.put_within.Goals as goal
-
-pub returns : goal.returns
-returns g c =
-    let before = c.self.inside.values.entries in
-    let entries = rw c.unwrap.ensures at c.insert.ensures.entries in
-    rw (← c.self.view_is, entries) (put before c.args.name c.args.value)

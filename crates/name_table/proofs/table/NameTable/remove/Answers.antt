@@ -1,8 +1,0 @@
-use Rattle.name_table.proofs.Tables.{taken}
-use Rattle.name_table.proofs.table.NameTable.remove.Goals as goal
-
-pub returns-clause-removed : goal.returns-clause-removed
-returns-clause-removed g c =
-    let updates = c.swap_remove.ensures.updates in
-    rw (← c.self.view_is) (
-    taken c.self.inside.values.entries c.swap_remove.new.self.entries c.args.name.now updates.1 updates.3)

@@ -1,5 +1,0 @@
-pub mod Fault
-pub mod Printed
-pub mod Reply
-pub mod StreamLine
-pub mod Writing

@@ -1,0 +1,5 @@
+pub mod Layout
+pub mod Lends
+pub mod NameTable
+pub mod NumberTable
+pub mod Variants

@@ -1,0 +1,24 @@
+//! The commands of the target's program, over files, the standard output and sockets: `run` serves a target that a file
+//! of edits configured, `replay` plays a script, `check` applies a file of edits and serves nothing. What their
+//! arguments ask for, and the exit status that says how they ended, stand here too. It reads no command line.
+#![tactic(auto)]
+
+mod check;
+mod checking;
+mod disks;
+mod explained;
+mod files;
+mod replay;
+pub mod replaying;
+mod serve;
+pub mod serving;
+mod status;
+
+pub use check::CheckArguments;
+pub use checking::check;
+pub use disks::{DiskArguments, disk_sizes};
+pub use edit_lines::ReplayFault;
+pub use files::{read_file, read_file_into};
+pub use replay::ReplayArguments;
+pub use serve::ServeArguments;
+pub use status::exit_status;

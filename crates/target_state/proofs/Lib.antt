@@ -1,0 +1,6 @@
+pub mod Changing
+pub mod Removing
+pub mod Shows
+pub mod Staying
+pub mod Together
+pub mod Units

@@ -1,3 +1,0 @@
-pub mod Shows
-pub mod Together
-pub mod Units
