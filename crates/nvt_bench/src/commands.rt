@@ -2,7 +2,7 @@
 //! copy of as many bytes.
 use crate::clock::{micros_since, now, rate};
 use crate::fault::BenchFault;
-use bench_queues::{Work, copies, runs};
+use crate::target_queues::{Work, copies, runs};
 use std::rt::Clock;
 
 /// Prints a figure for each kind of command.

@@ -4,7 +4,7 @@ use crate::clock::{micros_since, now, rate};
 use crate::edits::read_all;
 use crate::fault::BenchFault;
 use crate::memory::report_memory;
-use bench_queues::{Limits, Work, copies};
+use crate::target_queues::{Limits, Work, copies};
 use nvt_config::Edit;
 use std::rt::{Clock, Files};
 

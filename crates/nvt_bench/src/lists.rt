@@ -3,7 +3,7 @@
 use crate::clock::{micros_since, nanos_since, now, rate};
 use crate::edits::read_all;
 use crate::fault::BenchFault;
-use bench_queues::{Hosts, Page};
+use crate::target_queues::{Hosts, Page};
 use nvt_config::Edit;
 use std::rt::Clock;
 

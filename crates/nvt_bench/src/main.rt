@@ -14,11 +14,13 @@ mod commands;
 mod edits;
 mod fault;
 mod files;
+mod joined_pairs;
 mod limits;
 mod lists;
 mod memory;
 mod pairs;
 mod shows;
+mod target_queues;
 mod told;
 
 use fault::BenchFault;

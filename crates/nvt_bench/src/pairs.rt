@@ -2,7 +2,7 @@
 //! takes.
 use crate::clock::{micros_since, now, rate};
 use crate::fault::BenchFault;
-use bench_pairs::{PairWork, pair_runs};
+use crate::joined_pairs::{PairWork, pair_runs};
 use std::rt::Clock;
 
 /// Prints a figure for each kind of command.

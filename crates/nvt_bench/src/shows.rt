@@ -6,7 +6,7 @@ use crate::fault::BenchFault;
 use crate::limits::{ROUNDS, report_edits};
 use crate::lists::measure_reads;
 use crate::memory::report_memory;
-use bench_queues::{Hosts, Page};
+use crate::target_queues::{Hosts, Page};
 use nvt_config::Edit;
 use std::rt::{Clock, Files};
 

@@ -3,7 +3,7 @@
 use crate::clock::{nanos_since, now, rate};
 use crate::edits::read_all;
 use crate::fault::BenchFault;
-use bench_queues::Hosts;
+use crate::target_queues::Hosts;
 use nvt_config::Edit;
 use std::rt::Clock;
 

@@ -2,6 +2,8 @@
 #![tactic(auto)]
 
 mod memory;
+pub mod queues;
+pub mod serving;
 mod target;
 
 pub use memory::MemoryTarget;

@@ -1,6 +1,7 @@
-//! Tests of the configuration, through its public calls: the rule for edits, and what each makes of
-//! the lists.
+//! Tests of the configuration, through public calls: its edits, and the text of edits.
 #![tactic(auto)]
 
 #[cfg(test)]
-mod config;
+mod edits;
+#[cfg(test)]
+mod text;

@@ -1,8 +1,7 @@
-//! Tests of names and fields and of the table of numbers, through their public calls. The expected bytes
-//! are typed from the standards' tables. Want of memory is tested in `tests_growths`.
+//! Tests of the foundations, through their public calls: fields and tables, and disks.
 #![tactic(auto)]
 
 #[cfg(test)]
-mod fields;
+mod disks;
 #[cfg(test)]
-mod table;
+mod fields;

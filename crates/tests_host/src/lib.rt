@@ -1,16 +1,7 @@
-//! Tests of the commands of a host, joined to a target in memory, to links that end or stay silent, and to a controller
-//! whose answers a test scripts. What they print is typed from the formats of NVMe over TCP.
+//! Tests of the commands of a host, over links that a test plays.
 #![tactic(auto)]
 
 #[cfg(test)]
-mod bad;
+mod commands;
 #[cfg(test)]
-mod base;
-#[cfg(test)]
-mod blocks;
-#[cfg(test)]
-mod rows;
-#[cfg(test)]
-mod settling;
-#[cfg(test)]
-mod texts;
+mod links;

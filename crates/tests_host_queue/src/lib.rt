@@ -1,10 +1,9 @@
-//! Tests of a host's queue: what it sends and tells in a conversation, each fault of a controller, and each
-//! refusal of a call.
+//! Tests of a host's queue, through its public calls: its PDUs, random walks, and the pages that it reads.
 #![tactic(auto)]
 
 #[cfg(test)]
-mod calls;
+mod pages;
 #[cfg(test)]
-mod conversation;
+mod queue;
 #[cfg(test)]
-mod faults;
+mod walk;

@@ -1,11 +1,7 @@
-//! Random scripts of what hosts are told, on the admin queues of I/O and of discovery controllers beside one
-//! another: event requests that wait, edits, of who sees a namespace too, reads of log pages, Identify,
-//! features, resets and ends of connections, by a target beside the plain program of `testkit_hosts`.
+//! Tests of what hosts are told of edits, beside plain hosts that look back over all that happened.
 #![tactic(auto)]
 
 #[cfg(test)]
-mod draw;
+mod hosts;
 #[cfg(test)]
-mod random;
-#[cfg(test)]
-mod script;
+mod told;

@@ -2,10 +2,10 @@
 use super::failing::failing_disk;
 use block_store::{FailingDisk, MemoryDisk};
 use std::alloc::Global;
-use testkit_queues::{
+use testkit_tables::{Outcome, check, check_steps};
+use testkit_targets::queues::{
     Command, Driver, Opcode, READ_ERROR, SMALL, Script, WRITE_FAULT, fill, holds_over,
 };
-use testkit_tables::{Outcome, check, check_steps};
 
 type FailingDriver = Driver<FailingDisk<MemoryDisk>>;
 

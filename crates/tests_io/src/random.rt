@@ -3,10 +3,10 @@ use block_store::MemoryDisk;
 use rand_core::utils::NextWord;
 use rand_pcg::Pcg32;
 use testkit_edits::{Blocks, memory_disks};
-use testkit_queues::{
+use testkit_tables::{Outcome, Placed, check, pass};
+use testkit_targets::queues::{
     COMPARE_FAILURE, Command, Driver, Opcode, SMALL, Script, block_len, holds_over, part, put,
 };
-use testkit_tables::{Outcome, Placed, check, pass};
 
 const STEPS: usize = 1_500;
 

@@ -1,8 +1,10 @@
 //! A Read's bytes, and the end of a namespace.
 use block_store::MemoryDisk;
 use testkit_edits::{Blocks, memory_disks};
-use testkit_queues::{Command, Driver, LBA_OUT_OF_RANGE, Opcode, SMALL, Script, holds_over};
 use testkit_tables::{Outcome, check_steps};
+use testkit_targets::queues::{
+    Command, Driver, LBA_OUT_OF_RANGE, Opcode, SMALL, Script, holds_over,
+};
 
 const LAST: Blocks = Blocks {
     blocks: 2048,

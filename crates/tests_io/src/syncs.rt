@@ -3,8 +3,8 @@ use block_store::{Disk, DiskFault, MemoryDisk};
 use std::alloc::{AllocError, Global};
 use std::cell::Cell;
 use std::rc::Rc;
-use testkit_queues::{Command, Driver, Opcode, SMALL, Script, holds_over};
 use testkit_tables::{Outcome, Placed, check, pass};
+use testkit_targets::queues::{Command, Driver, Opcode, SMALL, Script, holds_over};
 
 // How often a disk was read, written and synced, and how many writes came after the latest sync.
 #[derive(Clone, Copy, PartialEq, Eq)]

@@ -2,11 +2,11 @@
 use super::failing::failing_disk;
 use block_store::{FailingDisk, MemoryDisk};
 use std::alloc::Global;
-use testkit_queues::{
+use testkit_tables::{Outcome, Placed, check, pass};
+use testkit_targets::queues::{
     COMPARE_FAILURE, Command, Driver, Opcode, READ_ERROR, SMALL, SUCCESS, Script, WRITE_FAULT,
     fill, holds_over, part, put,
 };
-use testkit_tables::{Outcome, Placed, check, pass};
 
 type FailingDriver = Driver<FailingDisk<MemoryDisk>>;
 

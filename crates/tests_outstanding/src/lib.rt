@@ -1,12 +1,9 @@
-//! Random scripts with many commands outstanding at once, on several I/O queues of several controllers: a target
-//! beside a plain program, which says what is owed to each PDU and each edit.
+//! Tests of what is outstanding on a queue, beside a plain model of it, over random draws.
 #![tactic(auto)]
 
 #[cfg(test)]
-mod first;
+mod draws;
 #[cfg(test)]
-mod random;
+mod plain;
 #[cfg(test)]
-mod script;
-#[cfg(test)]
-mod step;
+mod reads;

@@ -1,22 +1,7 @@
-//! Tests of serving, over ports in memory: what a script of hosts, lines and ticks gives, turn by turn. The expected
-//! bytes are typed from the formats of NVMe over TCP.
+//! Tests of serving, through public calls: a target over ports that a test plays, and the ports themselves.
 #![tactic(auto)]
 
 #[cfg(test)]
-mod cuts;
+mod ports;
 #[cfg(test)]
-mod ends;
-#[cfg(test)]
-mod failing;
-#[cfg(test)]
-mod gives;
-#[cfg(test)]
-mod lines;
-#[cfg(test)]
-mod opens;
-#[cfg(test)]
-mod pdus;
-#[cfg(test)]
-mod rooms;
-#[cfg(test)]
-mod turns;
+mod served;

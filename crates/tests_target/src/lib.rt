@@ -1,22 +1,7 @@
-//! Tests of the target and of `replay`, through their public calls. The expected bytes are typed from
-//! the formats of NVMe over TCP; a random walk holds two targets, whose streams are cut differently, together.
+//! Tests of the target and of its replays, through public calls, and of the texts of its faults.
 #![tactic(auto)]
 
 #[cfg(test)]
-mod answers;
+mod faults;
 #[cfg(test)]
-mod connections;
-#[cfg(test)]
-mod driver;
-#[cfg(test)]
-mod pages;
-#[cfg(test)]
-mod pdus;
-#[cfg(test)]
-mod random;
-#[cfg(test)]
-mod replays;
-#[cfg(test)]
-mod waiting;
-#[cfg(test)]
-mod walk;
+mod target;

@@ -1,16 +1,10 @@
-//! Tests of the cut of a stream into PDUs and of the readers and writers of PDUs, those that a host needs
-//! too, through their public calls. The expected bytes are typed from the standards' tables.
+//! Tests of what goes over the wire, through public calls: PDUs and their cuts, the transfers of data, and the words that
+//! are put on PDUs.
 #![tactic(auto)]
 
 #[cfg(test)]
-mod alone;
+mod pdus;
 #[cfg(test)]
-mod codec;
+mod transfers;
 #[cfg(test)]
-mod cut;
-#[cfg(test)]
-mod host;
-#[cfg(test)]
-mod runs;
-#[cfg(test)]
-mod sent;
+mod words;
