@@ -3,7 +3,7 @@ ghost use Rattle.std.specs.Prelude.{◌≡◌, ◌≢◌, ◌≤◌, IfOk, lengt
 
 use host_link::{Link, LinkFault};
 use mio::net::TcpStream;
-use socket_rules::{Pause, Timer};
+use nvt_ports::{Pause, Timer};
 use std::io::{self, ErrorKind, Read, Write};
 use std::net::{Net, SocketAddr};
 use std::rt::Clock;

@@ -1,1 +1,9 @@
+pub mod Connects
+pub mod Places
+pub mod Plans
+pub mod Splits
+pub mod Tenures
+pub mod Tiring
 pub mod Took
+pub mod Waits
+pub mod Walks

@@ -5,7 +5,7 @@ use Rattle.nvt_sockets.specs.declared.journal.Log.TheVariants as log
 use Rattle.nvt_sockets.specs.declared.network.Channel.{Channel}
 use Rattle.nvt_sockets.specs.declared.network.Channel.TheVariants as channel
 use Rattle.nvt_sockets.specs.declared.speech.Speech.{Speech}
-use Rattle.socket_rules.specs.Kept.{Kept, kept_after, room_of}
+use Rattle.nvt_ports.specs.Kept.{Kept, kept_after, room_of}
 
 -- a line is taken, where there is room for all of it
 abbrev pub Takes : List ℕ → Bool → Kept → Kept → Type 0

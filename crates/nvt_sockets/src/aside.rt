@@ -4,8 +4,7 @@ ghost use Rattle.std.specs.Prelude.{◌≡◌, ◌<◌, length};
 use crate::host::Host;
 use crate::hosts::Hosts;
 use crate::network::{Network, Received};
-use nvt_ports::SLOTS;
-use socket_rules::{Linger, Lingering, LingeringHost};
+use nvt_ports::{Linger, Lingering, LingeringHost, SLOTS};
 use std::alloc::{AllocError, Global};
 
 /// A host that was put aside, or none.

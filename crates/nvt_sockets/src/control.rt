@@ -8,7 +8,7 @@ use crate::network::Network;
 use bytes::BytesMut;
 use config_saved::{SavedReply, is_show};
 use nvt_config::Config;
-use socket_rules::{EDITORS_MAX, Seats};
+use nvt_ports::{EDITORS_MAX, Seats};
 use std::alloc::{AllocError, Global};
 use std::io;
 use std::net::{IpAddr, Ipv4Addr, SocketAddr};

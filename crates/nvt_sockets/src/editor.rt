@@ -6,8 +6,7 @@ ghost use Rattle.nvt_sockets.specs.Piece.{HoldsPiece};
 use crate::network::{Network, Received};
 use bytes::BytesMut;
 use config_saved::{PieceEnd, SavedReply};
-use nvt_ports::PortFault;
-use socket_rules::{LINE_LIMIT, LineSplitter, SendBuffer};
+use nvt_ports::{LINE_LIMIT, LineSplitter, PortFault, SendBuffer};
 use std::alloc::{AllocError, Global};
 
 /// Longer than any reply, of which one is kept at most, or a piece of one.

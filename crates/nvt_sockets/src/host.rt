@@ -3,10 +3,9 @@ ghost use Rattle.std.specs.Prelude.{◌≤◌, ◌<◌, ◌≡◌, ◌≢◌, If
 ghost use Rattle.nvt_sockets.specs.HandsOut.{FitsPiece};
 
 use crate::network::{Network, Received};
-use nvt_ports::PortFault;
-use socket_rules::{
-    ConnectWatch, GivenUp, Outbox, Portion, Sending, Taking, Tenure, TenureStanding, Walk,
-    piece_len,
+use nvt_ports::{
+    ConnectWatch, GivenUp, Outbox, PortFault, Portion, Sending, Taking, Tenure, TenureStanding,
+    Walk, piece_len,
 };
 use std::alloc::{AllocError, Global};
 use std::mem;
@@ -50,9 +49,9 @@ pub struct Host<S> {
 
 impl<S: Drop> Host<S> {
     ghost use Rattle.nvt_sockets.specs.Host.{has_socket};
-    ghost use Rattle.socket_rules.specs.Kept.{room_of};
-    ghost use Rattle.socket_rules.specs.Outbox.{standing_of};
-    ghost use Rattle.socket_rules.specs.Sending.{Decides};
+    ghost use Rattle.nvt_ports.specs.Kept.{room_of};
+    ghost use Rattle.nvt_ports.specs.Outbox.{standing_of};
+    ghost use Rattle.nvt_ports.specs.Sending.{Decides};
 
     /// None yet.
     pub fn new(alloc: Global) -> Result<Host<S>, AllocError> {

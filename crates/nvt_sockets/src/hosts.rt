@@ -4,8 +4,7 @@ ghost use Rattle.nvt_sockets.specs.HandsOut.{FitsPiece};
 
 use crate::host::{Host, Sent};
 use crate::network::{Network, Received};
-use nvt_ports::{PIECE_MAX, PortFault, SLOTS};
-use socket_rules::{GivenUp, Sending};
+use nvt_ports::{GivenUp, PIECE_MAX, PortFault, SLOTS, Sending};
 use std::alloc::{AllocError, Global};
 
 /// What came of a call for all hosts.

@@ -1,7 +1,7 @@
 //! The ports of a target over sockets: a listener for each port of the configuration and one for lines of edits,
 //! the hosts that connected, and those whose slot was closed before all was sent. Nothing here waits for a socket: each
 //! call tries some of them, in turn. What decides which one, what is kept to be sent, who is given up and where a line
-//! ends holds no socket, and stands in `socket_rules`. `Network` is what the ports ask of a machine; `Tcp` is this one.
+//! ends holds no socket, and stands in `nvt_ports`. `Network` is what the ports ask of a machine; `Tcp` is this one.
 #![tactic(auto)]
 
 mod aside;

@@ -3,7 +3,7 @@ use crate::network::{Channel, Network};
 use crate::speech::Speech;
 use arrayvec::ArrayString;
 use nvt_config::{Config, Port};
-use socket_rules::PORTS_MAX;
+use nvt_ports::PORTS_MAX;
 use std::alloc::{AllocError, Global};
 use std::fmt::Write;
 use std::io;

@@ -1,7 +1,7 @@
 //! Ports over sockets.
 ghost use Rattle.std.specs.Prelude.{◌≡◌, ◌≤◌, ◌<◌, IfOk, IfSome, length, replicate, false};
 ghost use Rattle.nvt_sockets.specs.HandsOut.{HandsOut, Tries};
-ghost use Rattle.socket_rules.specs.Lately.{plan};
+ghost use Rattle.nvt_ports.specs.Lately.{plan};
 
 use crate::control::control_address;
 use crate::hosts::Calls;
@@ -12,8 +12,10 @@ use crate::speech::Speech;
 use arrayvec::ArrayString;
 use connection_log::Ending;
 use nvt_config::Config;
-use nvt_ports::{PIECE_MAX, PortEvent, PortFault, Ports, SLOTS};
-use socket_rules::{EditPace, GivenUp, Looks, Outcome, Pause, Speaker, TurnOrder};
+use nvt_ports::{
+    EditPace, GivenUp, Looks, Outcome, PIECE_MAX, Pause, PortEvent, PortFault, Ports, SLOTS,
+    Speaker, TurnOrder,
+};
 use std::alloc::Global;
 use std::fmt::Write;
 use std::io;

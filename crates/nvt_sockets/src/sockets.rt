@@ -12,8 +12,7 @@ use crate::network::{Network, Received};
 use crate::speech::Speech;
 use connection_log::Ending;
 use nvt_config::Config;
-use nvt_ports::{PortEvent, PortFault, SLOTS};
-use socket_rules::{GivenUp, Speaker};
+use nvt_ports::{GivenUp, PortEvent, PortFault, SLOTS, Speaker};
 use std::alloc::Global;
 use std::io;
 

@@ -4,7 +4,7 @@ ghost use Rattle.nvt_sockets.specs.Speech.{Takes};
 
 use crate::journal::Log;
 use crate::network::{Channel, Network};
-use socket_rules::SendBuffer;
+use nvt_ports::SendBuffer;
 use std::alloc::{AllocError, Global};
 use std::io;
 

@@ -1,5 +1,5 @@
 //! When a socket that took nothing is tried again.
-use socket_rules::Backoff;
+use nvt_ports::Backoff;
 use testkit_tables::{Outcome, check, check_number, pass};
 
 // How many calls pass until it is tried.

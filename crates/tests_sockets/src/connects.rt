@@ -1,5 +1,5 @@
 //! When a target's bytes show that a Connect succeeded.
-use socket_rules::ConnectWatch;
+use nvt_ports::ConnectWatch;
 use testkit_tables::{Outcome, check, pass};
 
 const IC_RESP: usize = 128;

@@ -1,5 +1,5 @@
 //! What is kept to be sent.
-use socket_rules::SendBuffer;
+use nvt_ports::SendBuffer;
 use testkit_tables::{Outcome, check, check_bytes, pass};
 
 #[test]

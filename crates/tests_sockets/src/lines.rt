@@ -1,5 +1,5 @@
 //! Where the lines of a stream end, whatever pieces it comes in.
-use socket_rules::{LINE_LIMIT, LineSplitter};
+use nvt_ports::{LINE_LIMIT, LineSplitter};
 use std::alloc::{AllocError, Global};
 use testkit_tables::{Outcome, check, check_bytes, pass};
 

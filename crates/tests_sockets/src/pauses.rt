@@ -1,5 +1,5 @@
 //! When there is a pause.
-use socket_rules::Pause;
+use nvt_ports::Pause;
 use testkit_tables::{Outcome, check, check_number, pass};
 
 // A clock that is 100 microseconds later at each look.

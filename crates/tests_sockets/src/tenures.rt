@@ -1,5 +1,5 @@
 //! When a slot's host is given up.
-use socket_rules::{GivenUp, Tenure, TenureStanding};
+use nvt_ports::{GivenUp, Tenure, TenureStanding};
 use testkit_tables::{Outcome, check, pass};
 
 const CONNECTED: TenureStanding = TenureStanding {

@@ -1,6 +1,6 @@
 //! Whose turn it is.
-use socket_rules::turn_order::{self, TurnOrder};
-use socket_rules::{SPEAKERS, Speaker};
+use nvt_ports::turn_order::{self, TurnOrder};
+use nvt_ports::{SPEAKERS, Speaker};
 use testkit_tables::{Outcome, check, check_number, pass};
 
 // A look that tries all, in vain.
