@@ -3,22 +3,22 @@
 //! arguments ask for, and the exit status that says how they ended, stand here too. It reads no command line.
 #![tactic(auto)]
 
-mod check;
+mod check_arguments;
 mod checking;
 mod disks;
 mod explained;
 mod files;
-mod replay;
+mod replay_arguments;
 pub mod replaying;
-mod serve;
+mod serve_arguments;
 pub mod serving;
 mod status;
 
-pub use check::CheckArguments;
+pub use check_arguments::CheckArguments;
 pub use checking::check;
 pub use disks::{DiskArguments, disk_sizes};
 pub use edit_lines::ReplayFault;
 pub use files::{read_file, read_file_into};
-pub use replay::ReplayArguments;
-pub use serve::ServeArguments;
+pub use replay_arguments::ReplayArguments;
+pub use serve_arguments::ServeArguments;
 pub use status::exit_status;
