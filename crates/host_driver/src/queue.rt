@@ -12,10 +12,19 @@ use std::alloc::{AllocError, Global};
 use std::marker::Model;
 
 /// One queue of a host, over one connection.
-#[derive(Debug, Drop)]
+#[derive(Debug)]
 pub struct HostQueue {
     session: Session,
     stream: Stream<OfHost>,
+}
+
+// Written out, and not derived, so that whoever lets a queue fall proves one call.
+impl Drop for HostQueue {
+    fn drop(self) {
+        let HostQueue { session, stream } = self;
+        drop(session);
+        drop(stream);
+    }
 }
 
 impl Model for HostQueue {

@@ -24,7 +24,6 @@ const READY: u64 = 1;
 ///
 /// A turn is one send, one receive, and steps until the queue is idle. Each call takes the turns that it needs from
 /// those that are left, and ends with `Turns` where there is none.
-#[derive(Drop)]
 pub struct Session<L: Link> {
     alloc: Global,
     link: L,
@@ -34,6 +33,24 @@ pub struct Session<L: Link> {
     cntlid: u16,
     // Whether all that was to be sent was taken, at some time since the last command was submitted.
     is_sent: bool,
+}
+
+// Written out, and not derived, so that whoever lets a session fall proves one call.
+impl<L: Link + Drop> Drop for Session<L> {
+    fn drop(self) {
+        let Session {
+            alloc: _,
+            link,
+            queue,
+            piece,
+            turns: _,
+            cntlid: _,
+            is_sent: _,
+        } = self;
+        drop(link);
+        drop(queue);
+        drop(piece);
+    }
 }
 
 impl<L: Link> Model for Session<L> {

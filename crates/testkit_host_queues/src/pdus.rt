@@ -18,83 +18,60 @@ pub enum Sent {
     Other(u8),
 }
 
-// The common header, PLEN behind it.
-fn common(
+// A PDU of 24 bytes: the common header, and what is behind it.
+fn append_short(out: &mut Vec<u8>, kind: u8, rest: [u8; 16]) -> Result<(), AllocError> {
+    out.extend_from_slice(&[kind, 0, 24, 0, 24, 0, 0, 0])?;
+    out.extend_from_slice(&rest)
+}
+
+// 112 reserved bytes are behind what is told.
+fn append_ic_resp(
     out: &mut Vec<u8>,
-    kind: u8,
-    flags: u8,
-    hlen: u8,
-    pdo: u8,
-    plen: u32,
+    pfv: u16,
+    cpda: u8,
+    dgst: u8,
+    most: u32,
 ) -> Result<(), AllocError> {
-    for byte in [kind, flags, hlen, pdo] {
-        out.push(byte)?;
-    }
-    for byte in plen.to_le_bytes() {
-        out.push(byte)?;
-    }
-    Ok(())
+    let [p0, p1] = pfv.to_le_bytes();
+    let [m0, m1, m2, m3] = most.to_le_bytes();
+    let front = [
+        1, 0, 128, 0, 128, 0, 0, 0, p0, p1, cpda, dgst, m0, m1, m2, m3,
+    ];
+    out.extend_from_slice(&front)?;
+    out.extend_from_slice(&[0; 112])
 }
 
-fn zeros(out: &mut Vec<u8>, number: usize) -> Result<(), AllocError> {
-    for _ in 0..number {
-        out.push(0)?;
-    }
-    Ok(())
+fn response(cid: u16, status: u16, value: u64) -> [u8; 16] {
+    let [v0, v1, v2, v3, v4, v5, v6, v7] = value.to_le_bytes();
+    let [c0, c1] = cid.to_le_bytes();
+    let [s0, s1] = status.to_le_bytes();
+    [v0, v1, v2, v3, v4, v5, v6, v7, 0, 0, 0, 0, c0, c1, s0, s1]
 }
 
-fn word(out: &mut Vec<u8>, value: u16) -> Result<(), AllocError> {
-    for byte in value.to_le_bytes() {
-        out.push(byte)?;
-    }
-    Ok(())
+// A command's identifier, a tag, an offset and a length.
+fn part(cid: u16, tag: u16, at: u32, len: u32) -> [u8; 16] {
+    let [c0, c1] = cid.to_le_bytes();
+    let [t0, t1] = tag.to_le_bytes();
+    let [a0, a1, a2, a3] = at.to_le_bytes();
+    let [l0, l1, l2, l3] = len.to_le_bytes();
+    [c0, c1, t0, t1, a0, a1, a2, a3, l0, l1, l2, l3, 0, 0, 0, 0]
 }
 
-fn double(out: &mut Vec<u8>, value: u32) -> Result<(), AllocError> {
-    for byte in value.to_le_bytes() {
-        out.push(byte)?;
-    }
-    Ok(())
+fn termination(fes: u16, fei: u32) -> [u8; 16] {
+    let [s0, s1] = fes.to_le_bytes();
+    let [i0, i1, i2, i3] = fei.to_le_bytes();
+    [s0, s1, i0, i1, i2, i3, 0, 0, 0, 0, 0, 0, 0, 0, 0, 0]
 }
 
 /// Appends a PDU.
 pub fn append(out: &mut Vec<u8>, pdu: Sent) -> Result<(), AllocError> {
     match pdu {
-        Sent::IcResp(pfv, cpda, dgst, most) => {
-            common(out, 1, 0, 128, 0, 128)?;
-            word(out, pfv)?;
-            out.push(cpda)?;
-            out.push(dgst)?;
-            double(out, most)?;
-            zeros(out, 112)
-        }
-        Sent::Response(cid, status, value) => {
-            common(out, 5, 0, 24, 0, 24)?;
-            double(out, (value % 0x1_0000_0000) as u32)?;
-            double(out, (value / 0x1_0000_0000) as u32)?;
-            zeros(out, 4)?;
-            word(out, cid)?;
-            word(out, status)
-        }
-        Sent::Request(cid, tag, at, len) => {
-            common(out, 9, 0, 24, 0, 24)?;
-            word(out, cid)?;
-            word(out, tag)?;
-            double(out, at)?;
-            double(out, len)?;
-            zeros(out, 4)
-        }
+        Sent::IcResp(pfv, cpda, dgst, most) => append_ic_resp(out, pfv, cpda, dgst, most),
+        Sent::Response(cid, status, value) => append_short(out, 5, response(cid, status, value)),
+        Sent::Request(cid, tag, at, len) => append_short(out, 9, part(cid, tag, at, len)),
         Sent::Data(flags, cid, at, len, carried) => append_data(out, flags, cid, at, len, carried),
-        Sent::Termination(fes, fei) => {
-            common(out, 3, 0, 24, 0, 24)?;
-            word(out, fes)?;
-            double(out, fei)?;
-            zeros(out, 10)
-        }
-        Sent::Other(kind) => {
-            common(out, kind, 0, 24, 0, 24)?;
-            zeros(out, 16)
-        }
+        Sent::Termination(fes, fei) => append_short(out, 3, termination(fes, fei)),
+        Sent::Other(kind) => append_short(out, kind, [0; 16]),
     }
 }
 
@@ -107,12 +84,9 @@ fn append_data(
     len: u32,
     carried: u8,
 ) -> Result<(), AllocError> {
-    common(out, 7, flags, 24, 24, 24 + u32::from(carried))?;
-    word(out, cid)?;
-    word(out, 0)?;
-    double(out, at)?;
-    double(out, len)?;
-    zeros(out, 4)?;
+    let [p0, p1, p2, p3] = (24 + u32::from(carried)).to_le_bytes();
+    out.extend_from_slice(&[7, flags, 24, 24, p0, p1, p2, p3])?;
+    out.extend_from_slice(&part(cid, 0, at, len))?;
     for _ in 0..carried {
         out.push(0x5A)?;
     }
