@@ -50,7 +50,7 @@ impl AnaView {
     }
 
     /// Takes all the memory to go over to what an edit makes of the configuration that the view shows.
-    /// Every answer is as before, also after want of memory. An edit that reaches no subsystem's
+    /// Every answer is as before, also where memory ran out. An edit that reaches no subsystem's
     /// namespaces or states costs nothing, one that reaches a subsystem's costs its own, for strangers
     /// and for each host that is shown some, and one that shows or hides a namespace costs those of its
     /// host, and copies no configuration.

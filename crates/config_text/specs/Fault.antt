@@ -21,6 +21,6 @@ word_of_kind Memory = codes "Memory"
 abbrev pub reply_of_line_fault : LineFault → List ℕ
 reply_of_line_fault fault = codes "line " ++ decimal fault.column ++ 32 ∷ word_of_kind fault.kind
 
--- want of memory, which is no fault of the line
+-- that memory ran out, which is no fault of the line
 abbrev pub memory_fault : LineFault
 memory_fault = record { column = 0; kind = Memory }

@@ -11,7 +11,7 @@ use crate::{LineFault, LineFaultKind, read_words};
 use config_lists::Edit;
 use std::alloc::{AllocError, Global};
 
-/// The edit whose line this is, or the line's first fault. Want of memory comes last.
+/// The edit whose line this is, or the line's first fault. That memory ran out comes last.
 pub fn read_edit(alloc: Global, line: &[u8]) -> Result<Edit, LineFault>
     ensures ok { IfOk result (IsLineOf line.now) }
     ensures only { (edit : Edit) → IsLineOf line.now edit

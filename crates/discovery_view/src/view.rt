@@ -92,7 +92,7 @@ impl<F: Former + Drop> DiscoveryView<F> {
 
     /// Takes all the memory to go over to the configuration that an edit makes of this one, which is
     /// the one that the view shows, and forms the records that are new: no more than the edit reaches.
-    /// Every answer but `formed` is as before, also after want of memory.
+    /// Every answer but `formed` is as before, also where memory ran out.
     pub fn prepare(&mut self, config: &Config, edit: &Edit) -> Result<Plan<F>, AllocError>
         requires accepted { IsOk (accept config.now edit.now) }
         requires of { AreOf config.now self.old.slots self.old.rows }

@@ -23,7 +23,7 @@ abbrev pub Refuses : Configuration → List ℕ → Reply → Type 0
 Refuses c line (reply.Line fault) = line_fault line ≡ Some fault
 Refuses c line (reply.Edit fault) = (edit : Edit) × IsLineOf line edit × (accept c edit ≡ Err fault)
 
--- want of memory is no reply
+-- that memory ran out is no reply
 abbrev pub not_read_by : LineFault → LineFaultKind → NotMade
 not_read_by fault kind.Memory = Memory
 not_read_by fault _ = Refused (reply.Line fault)

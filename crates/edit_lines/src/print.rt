@@ -132,7 +132,7 @@ impl Printer {
     }
 }
 
-/// What a write answers, as the fault of a replay: want of memory, or any other.
+/// What a write answers, as the fault of a replay: no memory, or any other.
 pub fn written(outcome: io::Result<()>) -> Result<(), ReplayFault>
     ensures fault { IfErr result IsOfRun }
     ensures variant { is_ok result ≡ is_ok outcome }

@@ -8,7 +8,7 @@ ghost use Rattle.edit_lines.specs.Writing.{IsFailed, Took};
 use crate::fault::ReplayFault;
 use std::io::{self, ErrorKind, Write};
 
-/// Whether a write has failed, other than by want of memory.
+/// Whether a write has failed, other than since memory ran out.
 #[derive(Drop)]
 pub struct Writes {
     has_failed: bool,

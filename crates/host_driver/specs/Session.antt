@@ -71,7 +71,7 @@ abbrev pub submit_fault_by : Result TransportLimits HostFault → Commands → C
 submit_fault_by (Err fault) commands c = Some fault
 submit_fault_by (Ok limits) commands c = connected_fault commands c
 
--- the first reason to refuse a command, but for want of memory
+-- the first reason to refuse a command, memory aside
 abbrev pub submit_fault : HostState → Command → Option HostFault
 submit_fault s c = submit_fault_by (limits_in s.phase) s.commands c
 

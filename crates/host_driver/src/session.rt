@@ -143,8 +143,8 @@ impl Session {
         Ok(())
     }
 
-    /// Does what is owed to this front, and returns what that tells. All growth comes first: want of memory,
-    /// which comes only where something is to be sent, changes nothing.
+    /// Does what is owed to this front, and returns what that tells. All growth comes first: where memory runs
+    /// out, which can be only where something is to be sent, nothing changes.
     pub(crate) fn take(&mut self, front: &Cut<'_>) -> Result<Told, AllocError>
         requires head { length (head_at (front_shown front.now)) ≤ 128 }
         ensures ok { IfOk result (λ told. Tells (front_shown front.now) self.old told self.new) }

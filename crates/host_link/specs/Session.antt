@@ -49,7 +49,7 @@ pub record SubmitsNext (c : Command) (old new : Conversation) : Type 0 where
   pub queue : SubmitsOn cid c old.queue new.queue
   pub stays : new ≡ record old { queue = new.queue; is_sent = false }
 
--- why the queue does not take it: for a reason of its own, or for want of memory
+-- why the queue does not take it: for a reason of its own, or since memory ran out
 abbrev pub IsRefusedBy : Option HostFault → SessionFault → Type 0
 IsRefusedBy None f = f ≡ fault.Memory
 IsRefusedBy (Some why) f = f ≡ of_queue why
@@ -166,7 +166,7 @@ pub record FailsToConnect (params : HostParams) (link : LinkState) (turns : ℕ)
   pub waits : Waits told begun ended
   pub is : IsFaultOf told f
 
--- for want of memory there is no queue
+-- where memory runs out there is no queue
 abbrev pub Connects : HostParams → LinkState → ℕ → Result Conversation SessionFault → Type 0
 Connects params link turns (Ok new) = ConnectsTo params link turns new
 Connects params link turns (Err f) = (f ≡ fault.Memory) ⊎ FailsToConnect params link turns f

@@ -6,7 +6,7 @@ ghost use Rattle.host_program.specs.Printed.{AppendsFront, IsOfWriting, Prints};
 use host_link::SessionFault;
 use std::io::{self, ErrorKind, Write};
 
-/// What a write answers, as the fault of a command: want of memory, or any other.
+/// What a write answers, as the fault of a command: no memory, or any other.
 pub(crate) fn written(outcome: io::Result<()>) -> Result<(), SessionFault>
     ensures fault { IfErr result IsOfWriting }
     ensures variant { is_ok result ≡ is_ok outcome }

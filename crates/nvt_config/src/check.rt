@@ -18,7 +18,7 @@ use config_lists::{Edit, EditFault, Item};
 use nvt_fields::Nqn;
 
 impl Lists<'_> {
-    /// Why the edit is refused, want of memory aside. Takes no memory.
+    /// Why the edit is refused, unless memory runs out. Takes no memory.
     pub fn check(&self, edit: &Edit) -> Result<(), EditFault>
         ensures { result ≡ verdict (accept self.now edit.now) }
     {

@@ -249,7 +249,7 @@ impl Config {
         }
     }
 
-    /// Why `apply` refuses the edit, want of memory aside. Takes no memory.
+    /// Why `apply` refuses the edit, unless memory runs out. Takes no memory.
     pub fn check(&self, edit: &Edit) -> Result<(), EditFault>
         ensures { result ≡ verdict (accept self.now edit.now) }
     {

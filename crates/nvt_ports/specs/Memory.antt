@@ -47,7 +47,7 @@ pub record HandsOut (room buffer : List ℕ) (event : PortEvent) (old new : Memo
   pub handed_out : handed_out_in new ≡ with_handed_out (handed_out_by event buffer) (handed_out_in old)
   pub stays : Stays old new
 
--- nothing is, for want of memory
+-- nothing is, since memory ran out
 pub record HandsNothingOut (old new : MemoryPorts) : Type 0 where
   pub in_use : new.in_use ≡ old.in_use
   pub handed_out : handed_out_in new ≡ handed_out_in old

@@ -1,4 +1,4 @@
--- What a line of a script printed, and what it changed, where it was cut off: by want of memory, or since a write
+-- What a line of a script printed, and what it changed, where it was cut off: since memory ran out, or since a write
 -- failed.
 use Rattle.std.specs.Prelude.{◌≡◌, ◌⊎◌, ℕ, zero, suc, ◌<◌, List, [], ◌∷◌, ◌++◌, take, drop, codes, Option, MatchOption, Ok}
 use Rattle.std.specs.Io.{StartsWith}

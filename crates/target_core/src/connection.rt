@@ -94,7 +94,7 @@ impl Connection {
     }
 
     /// Does what was decided on this front, with these disks and its own transfers, of those of all. All
-    /// growth comes first: want of memory changes nothing.
+    /// growth comes first: where memory runs out, nothing changes.
     pub(crate) fn act<D: Disk>(
         &mut self,
         world: &World<'_>,

@@ -86,7 +86,7 @@ impl Views {
 
     /// Takes all the memory to go over to what an edit makes of this configuration, whose views they
     /// are, and forms the records that are new: no more than the edit reaches. Every page is as before.
-    /// So is `formed` after want of memory, since what forms records comes last.
+    /// So is `formed` where memory ran out, since what forms records comes last.
     pub fn prepare(&mut self, config: &Config, edit: &Edit) -> Result<Plans, AllocError>
         requires accepted { IsOk (accept config.now edit.now) }
         requires of { AreViewsOf config.now self.old }

@@ -78,7 +78,7 @@ pub const EDITS: &[Line<'static>] = &[
     Line::ReferralAdd(8, b"127.0.0.1", 8009),
 ];
 
-/// The edit of a line whose name is well-formed. Want of memory alone is an error.
+/// The edit of a line whose name is well-formed. That memory ran out is the only error.
 pub fn edit_of(alloc: Global, line: Line<'_>) -> Result<Option<Edit>, AllocError> {
     match edit(alloc, line) {
         Ok(edit) => Ok(Some(edit)),

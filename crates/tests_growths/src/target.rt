@@ -1,5 +1,4 @@
-//! Want of memory in a target, in a replay and while a target is served, at any growth: as `tests_growths`, which has
-//! the parts below. What owns a target only makes it and lends it.
+//! Memory that is refused in a target, in a replay and while a target is served.
 
 mod conversation;
 mod pdus;

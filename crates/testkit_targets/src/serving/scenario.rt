@@ -18,7 +18,7 @@ pub fn holds_over<S: Scenario>(alloc: Global, steps: &[Step<'_>], scenario: &S) 
     }
 }
 
-/// The same, or want of memory for the rig.
+/// The same, or that memory ran out for the rig.
 // A rig is owned here alone, since each way out of a function is proved with all that is owned there. `drop` is written
 // out, since what is dropped at the end of a scope is proved there field by field.
 pub fn try_over<S: Scenario>(

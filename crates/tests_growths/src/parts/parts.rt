@@ -36,7 +36,7 @@ fn is_name_read(alloc: Global) -> Result<bool, AllocError> {
     }
 }
 
-// What a fault that is, or is not, want of memory comes to.
+// What a fault that is, or is not, that memory ran out comes to.
 fn other_fault(is_memory: bool) -> Result<bool, AllocError> {
     if is_memory {
         Err(AllocError)

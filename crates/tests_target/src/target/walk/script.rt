@@ -133,7 +133,7 @@ impl Script {
     pub fn take(&mut self, number: usize, pdu: Result<Vec<u8>, AllocError>, cut: usize) {
         match pdu {
             Ok(bytes) => self.take_bytes(number, &bytes, cut),
-            Err(AllocError) => self.expect(false, "want of memory for a PDU"),
+            Err(AllocError) => self.expect(false, "memory ran out for a PDU"),
         }
     }
 
