@@ -12,9 +12,9 @@ use Rattle.pdu_codec.specs.declared.r2t.R2t.{R2t}
 use Rattle.pdu_codec.specs.DataHead.{data_head_of}
 use Rattle.pdu_codec.specs.Initialize.{ic_resp_of}
 use Rattle.pdu_codec.specs.R2t.{r2t_of}
-use Rattle.host_driver.specs.declared.decision.Completion.{Completion}
-use Rattle.host_driver.specs.declared.decision.Decision.{Decision}
-use Rattle.host_driver.specs.declared.decision.Decision.TheVariants as decision
+use Rattle.host_driver.specs.declared.decision.CommandCompletion.{CommandCompletion}
+use Rattle.host_driver.specs.declared.decision.HostDecision.{HostDecision}
+use Rattle.host_driver.specs.declared.decision.HostDecision.TheVariants as decision
 use Rattle.host_driver.specs.declared.phase.Phase.TheVariants.{Opened, Initialized, Connected}
 use Rattle.host_driver.specs.declared.phase.TransportLimits.{TransportLimits}
 use Rattle.host_driver.specs.Decision.{accepted, cid_by, cid_named, connected, decide, first_by, initialize, is_early, is_success, next_by, received, requested, response_in}
@@ -65,7 +65,7 @@ brought p head bytes h =
     let end : length p.came + head.datal ≤ p.into = omega (arith, h.len, h.within) in
     rw (no_zero p.into h.wanted, equal_where head.datal (length bytes) h.len, placed_where head.datao (length p.came) p.into (length p.came + head.datal) h.next end) refl
 
-pub completed_now : (p : Pending) (response : Completion) → Completes p response → is_early (outstanding_of p) response.status ≡ false
+pub completed_now : (p : Pending) (response : CommandCompletion) → Completes p response → is_early (outstanding_of p) response.status ≡ false
 completed_now p response h = in_time (is_success response.status) (length p.came) p.into h
 
 -- ---- what is told
@@ -77,12 +77,12 @@ data_by s p head bytes true is h placed =
     let all : p.into ≤ length p.came + head.datal = omega (arith, h.len, h.all is) in
     rw (is, h.marked is, no_less (length p.came + head.datal) p.into all, placed) refl
 
-connect_by : (s : HostState) (bytes : List ℕ) (response : Completion) (a : Bool) → is_success response.status ≡ a
+connect_by : (s : HostState) (bytes : List ℕ) (response : CommandCompletion) (a : Bool) → is_success response.status ≡ a
     → told_by s bytes (connected response) ≡ connect_told response
 connect_by s bytes response true is = rw is refl
 connect_by s bytes response false is = rw is refl
 
-reply_by : (s : HostState) (p : Pending) (bytes : List ℕ) (response : Completion) → place s.commands response.cid ≡ Some p
+reply_by : (s : HostState) (p : Pending) (bytes : List ℕ) (response : CommandCompletion) → place s.commands response.cid ≡ Some p
     → told_by s bytes (decision.Complete response) ≡ reply_told response p.came
 reply_by s p bytes response placed = rw placed refl
 
@@ -119,7 +119,7 @@ reply_owed s pdu h =
     owed_connected s pdu types.CapsuleResp h.limits h.phase h.kind ∙ rw (h.placed, completed_now h.pending (response_in pdu) h.in_time) refl
 
 -- the data are the last where they stand for the completion
-abbrev pub with_success : Bool → ℕ → Decision
+abbrev pub with_success : Bool → ℕ → HostDecision
 with_success true cid = decision.ReceiveLast cid
 with_success false cid = decision.Receive cid
 

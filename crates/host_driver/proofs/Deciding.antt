@@ -12,9 +12,9 @@ use Rattle.pdu_codec.specs.declared.r2t.R2t as r2t
 use Rattle.pdu_codec.specs.DataHead.{data_head_of}
 use Rattle.pdu_codec.specs.Initialize.{ic_resp_of}
 use Rattle.pdu_codec.specs.R2t.{r2t_of}
-use Rattle.host_driver.specs.declared.decision.Completion.{Completion}
-use Rattle.host_driver.specs.declared.decision.Decision.{Decision}
-use Rattle.host_driver.specs.declared.decision.Decision.TheVariants as decision
+use Rattle.host_driver.specs.declared.decision.CommandCompletion.{CommandCompletion}
+use Rattle.host_driver.specs.declared.decision.HostDecision.{HostDecision}
+use Rattle.host_driver.specs.declared.decision.HostDecision.TheVariants as decision
 use Rattle.host_driver.specs.declared.outstanding.Outstanding.{Outstanding}
 use Rattle.host_driver.specs.declared.phase.Phase.{Phase}
 use Rattle.host_driver.specs.declared.phase.Phase.TheVariants.{Opened, Initialized, Connected, Failed}
@@ -46,7 +46,7 @@ all_where false early h e = cc
 -- ---- each PDU
 
 -- a decision on a PDU that names this command, as far as it is known, and carries so many bytes
-abbrev pub Rests : Option ℕ → Option Outstanding → ℕ → Decision → Type 0
+abbrev pub Rests : Option ℕ → Option Outstanding → ℕ → HostDecision → Type 0
 Rests named command n d = IsWithin command n d × Names named d × IsInTime command d
 
 initialize-rests : (named : Option ℕ) (command : Option Outstanding) (n : ℕ) (r : ic_resp.IcResp) → Rests named command n (initialize r)
@@ -98,14 +98,14 @@ requested-rests (Some command) request n = by (command.out == 0) (not (request.r
         let at = same_first request.r2to command.asked command.out (command.asked + request.r2tl) e in
         ((at, placed_where request.r2to command.asked command.out (command.asked + request.r2tl) e), refl, tt)
 
-connected-rests : (named : Option ℕ) (command : Option Outstanding) (n : ℕ) (response : Completion) → Rests named command n (connected response)
+connected-rests : (named : Option ℕ) (command : Option Outstanding) (n : ℕ) (response : CommandCompletion) → Rests named command n (connected response)
 connected-rests named command n response = by (is_success response.status)
   where
     by : (a : Bool) → Rests named command n (if a then decision.Connect (response.result % 2 ^ 16) else decision.Refuse response.status)
     by true = (tt, tt, tt)
     by false = (tt, tt, tt)
 
-answered-rests : (phase : Phase) (command : Outstanding) (n : ℕ) (response : Completion) → is_early command response.status ≡ false
+answered-rests : (phase : Phase) (command : Outstanding) (n : ℕ) (response : CommandCompletion) → is_early command response.status ≡ false
     → Rests (Some response.cid) (Some command) n (answered_in phase response)
 answered-rests Opened command n response late = connected-rests (Some response.cid) (Some command) n response
 answered-rests (Initialized limits) command n response late = connected-rests (Some response.cid) (Some command) n response
@@ -113,7 +113,7 @@ answered-rests (Connected limits) command n response late =
     (tt, refl, λ success. not_less command.came command.into (all_where (is_success response.status) (nat_lt command.came command.into) late success))
 answered-rests Failed command n response late = connected-rests (Some response.cid) (Some command) n response
 
-completed-rests : (phase : Phase) (command : Option Outstanding) (n : ℕ) (response : Completion) → Rests (Some response.cid) command n (completed phase command response)
+completed-rests : (phase : Phase) (command : Option Outstanding) (n : ℕ) (response : CommandCompletion) → Rests (Some response.cid) command n (completed phase command response)
 completed-rests phase None n response = (tt, tt, tt)
 completed-rests phase (Some command) n response = by (is_early command response.status) refl
   where
@@ -152,11 +152,11 @@ decide_rests Failed command pdu = next-rests pdu.kind Failed command pdu
 
 -- ---- for the decision that a function answers
 
-pub within : (phase : Phase) (command : Option Outstanding) (pdu : Pdu) (d : Decision) → d ≡ decide phase command pdu → IsWithin command (length (data_part pdu)) d
+pub within : (phase : Phase) (command : Option Outstanding) (pdu : Pdu) (d : HostDecision) → d ≡ decide phase command pdu → IsWithin command (length (data_part pdu)) d
 within phase command pdu d is = rw is (decide_rests phase command pdu).0
 
-pub names : (phase : Phase) (command : Option Outstanding) (pdu : Pdu) (d : Decision) → d ≡ decide phase command pdu → Names (cid_named pdu) d
+pub names : (phase : Phase) (command : Option Outstanding) (pdu : Pdu) (d : HostDecision) → d ≡ decide phase command pdu → Names (cid_named pdu) d
 names phase command pdu d is = rw is (decide_rests phase command pdu).1
 
-pub in_time : (phase : Phase) (command : Option Outstanding) (pdu : Pdu) (d : Decision) → d ≡ decide phase command pdu → IsInTime command d
+pub in_time : (phase : Phase) (command : Option Outstanding) (pdu : Pdu) (d : HostDecision) → d ≡ decide phase command pdu → IsInTime command d
 in_time phase command pdu d is = rw is (decide_rests phase command pdu).2

@@ -5,8 +5,8 @@ use Rattle.std.specs.Option.{option_map}
 use Rattle.tables.specs.NumberTable.{place}
 use Rattle.pdu_cut.specs.Front.{incomplete, whole, faulty}
 use Rattle.pdu_cut.specs.Pdu.{Pdu, data_part}
-use Rattle.host_driver.specs.declared.decision.Decision.{Decision}
-use Rattle.host_driver.specs.declared.decision.Decision.TheVariants as decision
+use Rattle.host_driver.specs.declared.decision.HostDecision.{HostDecision}
+use Rattle.host_driver.specs.declared.decision.HostDecision.TheVariants as decision
 use Rattle.host_driver.specs.Decision.{cid_named}
 use Rattle.host_driver.specs.Within.{Fits, IsWithin, Names}
 use Rattle.host_driver.proofs.Deciding.{decide_rests}
@@ -33,7 +33,7 @@ more (Some q) p bytes is fits =
     some_is : (a b : Pending) → Some a ≡ Some b → a ≡ b
     some_is a b h = cc
 
-fit_by : (s : HostState) (pdu : Pdu) (d : Decision)
+fit_by : (s : HostState) (pdu : Pdu) (d : HostDecision)
     → IsWithin (outstanding_at s.commands (cid_named pdu)) (length (data_part pdu)) d → Names (cid_named pdu) d → Fit s.commands
     → Fit (after_decision s (data_part pdu) d).commands
 fit_by s pdu (decision.Initialize limits) within names fit = fit

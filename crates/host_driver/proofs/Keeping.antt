@@ -10,8 +10,8 @@ use Rattle.pdu_cut.specs.Front.{incomplete, whole, faulty}
 use Rattle.pdu_cut.specs.Pdu.{Pdu, data_part, header_part}
 use Rattle.pdu_codec.specs.DataHead.{data_head_of}
 use Rattle.pdu_codec.specs.R2t.{r2t_of}
-use Rattle.host_driver.specs.declared.decision.Completion.{Completion}
-use Rattle.host_driver.specs.declared.decision.Decision.{Decision}
+use Rattle.host_driver.specs.declared.decision.CommandCompletion.{CommandCompletion}
+use Rattle.host_driver.specs.declared.decision.HostDecision.{HostDecision}
 use Rattle.host_driver.specs.declared.phase.Phase.{Phase}
 use Rattle.host_driver.specs.declared.phase.Phase.TheVariants.{Opened, Initialized, Connected, Failed}
 use Rattle.host_driver.specs.declared.phase.TransportLimits.{TransportLimits}
@@ -35,14 +35,14 @@ Responded (Connected limits) b = b ≡ true
 Responded Failed b = Unit {0}
 
 -- the same of a decision and a type that are equal to others
-far_by : (s : HostState) (bytes : List ℕ) (owed d : Decision) (kind is : PduType) (before : Bool) → owed ≡ d → kind ≡ is
+far_by : (s : HostState) (bytes : List ℕ) (owed d : HostDecision) (kind is : PduType) (before : Bool) → owed ≡ d → kind ≡ is
     → Responded (after_decision s bytes d).phase (is_response_by is || before) → Responded (after_decision s bytes owed).phase (is_response_by kind || before)
 far_by s bytes owed d kind is before owes same h = rw (owes, same) h
 
 stays_far : (old new : Phase) (before : Bool) → new ≡ old → Responded old before → Responded new before
 stays_far old new before same far = rw same far
 
-connected_leads : (s : HostState) (bytes : List ℕ) (response : Completion) (limits : TransportLimits) (succeeds : Bool) → s.phase ≡ Initialized limits
+connected_leads : (s : HostState) (bytes : List ℕ) (response : CommandCompletion) (limits : TransportLimits) (succeeds : Bool) → s.phase ≡ Initialized limits
     → is_success response.status ≡ succeeds → Responded (after_decision s bytes (connected response)).phase true
 connected_leads s bytes response limits true phase is = rw (is, phase) refl
 connected_leads s bytes response limits false phase is = rw is tt
@@ -142,7 +142,7 @@ for_own : (before : ℕ → List ℕ) (pdu : Pdu) (p : Pending) → p.came ≡ b
 for_own before pdu p came = rw (same_test (data_head_of (header_part pdu)).cccid) (ap (λ b. b ++ data_part pdu) came)
 
 -- the same of a decision and a type that are equal to others
-came_by : (s : HostState) (pdu : Pdu) (owed d : Decision) (kind is : PduType) (before : ℕ → List ℕ) → owed ≡ d → kind ≡ is
+came_by : (s : HostState) (pdu : Pdu) (owed d : HostDecision) (kind is : PduType) (before : ℕ → List ℕ) → owed ≡ d → kind ≡ is
     → Came (after_decision s (data_part pdu) d).commands (λ cid. before cid ++ brings_by is pdu cid)
     → Came (after_decision s (data_part pdu) owed).commands (λ cid. before cid ++ brings_by kind pdu cid)
 came_by s pdu owed d kind is before owes same h = rw (owes, same) h

@@ -2,8 +2,8 @@
 use Rattle.std.proofs.Common.{◌≡◌, ℕ, ◌==◌, Bool, true, false, if◌then◌else◌, List, [], ◌∷◌, replicate, refl, inl, inr}
 use Rattle.std.specs.Prelude.{Option, Some, None}
 use Rattle.tables.specs.NumberTable.{place}
-use Rattle.host_driver.specs.declared.decision.Decision.{Decision}
-use Rattle.host_driver.specs.declared.decision.Decision.TheVariants as decision
+use Rattle.host_driver.specs.declared.decision.HostDecision.{HostDecision}
+use Rattle.host_driver.specs.declared.decision.HostDecision.TheVariants as decision
 use Rattle.host_driver.specs.declared.params.HostParams.{HostParams}
 use Rattle.host_driver.specs.Command.{Command}
 use Rattle.host_driver.specs.Event.{History, data_at, submitted, taken}
@@ -17,7 +17,7 @@ abbrev IsOf : ℕ → (ℕ → Option Command) → ℕ → Pending → Type 0
 IsOf in_capsule f cid p = (p.out ≡ out_of in_capsule (f cid)) × (p.into ≡ into_of (f cid))
 
 -- what a decision does to the commands changes neither their data nor what they want
-kept_by : (in_capsule : ℕ) (f : ℕ → Option Command) (s : HostState) (bytes : List ℕ) (d : Decision) → Each (IsOf in_capsule f) s.commands
+kept_by : (in_capsule : ℕ) (f : ℕ → Option Command) (s : HostState) (bytes : List ℕ) (d : HostDecision) → Each (IsOf in_capsule f) s.commands
     → Each (IsOf in_capsule f) (after_decision s bytes d).commands
 kept_by n f s bytes (decision.Initialize limits) each = each
 kept_by n f s bytes (decision.Connect cntlid) each = each_without (IsOf n f) s.commands 0 each

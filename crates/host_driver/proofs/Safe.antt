@@ -4,15 +4,15 @@ use Rattle.pdu_cut.specs.Pdu.{Pdu, data_part}
 use Rattle.pdu_cut.specs.Front.{whole}
 use Rattle.std.specs.Prelude.{Option, Some, None}
 use Rattle.host_driver.specs.declared.outstanding.Outstanding.{Outstanding}
-use Rattle.host_driver.specs.declared.decision.Decision.{Decision}
-use Rattle.host_driver.specs.declared.decision.Decision.TheVariants as decision
+use Rattle.host_driver.specs.declared.decision.HostDecision.{HostDecision}
+use Rattle.host_driver.specs.declared.decision.HostDecision.TheVariants as decision
 use Rattle.host_driver.specs.Decision.{cid_named}
 use Rattle.host_driver.specs.Within.{Fills, Fits, IsWithin, Names}
 use Rattle.host_driver.specs.Pending.{outstanding_at}
 use Rattle.host_driver.specs.State.{HostState}
 use Rattle.host_driver.specs.Session.{IsSafe}
 
-pub is_safe : (s : HostState) (pdu : Pdu) (d : Decision) → IsWithin (outstanding_at s.commands (cid_named pdu)) (length (data_part pdu)) d
+pub is_safe : (s : HostState) (pdu : Pdu) (d : HostDecision) → IsWithin (outstanding_at s.commands (cid_named pdu)) (length (data_part pdu)) d
     → Names (cid_named pdu) d → IsSafe s (whole pdu) d
 is_safe s pdu (decision.Initialize limits) within names = within
 is_safe s pdu (decision.Connect cntlid) within names = tt

@@ -5,8 +5,8 @@ use Rattle.std.specs.Option.{option_map}
 use Rattle.tables.specs.NumberTable.{place}
 use Rattle.pdu_cut.specs.Front.{Front, incomplete, whole, faulty}
 use Rattle.pdu_cut.specs.Pdu.{Pdu, data_part}
-use Rattle.host_driver.specs.declared.decision.Decision.{Decision}
-use Rattle.host_driver.specs.declared.decision.Decision.TheVariants as decision
+use Rattle.host_driver.specs.declared.decision.HostDecision.{HostDecision}
+use Rattle.host_driver.specs.declared.decision.HostDecision.TheVariants as decision
 use Rattle.host_driver.specs.Decision.{cid_named, is_success}
 use Rattle.host_driver.specs.Within.{Fills, HasAll, IsInTime, IsWithin, Names}
 use Rattle.host_driver.proofs.Deciding.{decide_rests}
@@ -47,7 +47,7 @@ all_came (Some q) p is all fits =
     let came : length q.came ≡ length p.came = ap (λ (x : Pending). length x.came) same in
     omega (arith, all, into, came, fits)
 
-whole_by : (s : HostState) (pdu : Pdu) (d : Decision) (a : Answered) (p : Pending)
+whole_by : (s : HostState) (pdu : Pdu) (d : HostDecision) (a : Answered) (p : Pending)
     → IsWithin (outstanding_at s.commands (cid_named pdu)) (length (data_part pdu)) d → Names (cid_named pdu) d → IsInTime (outstanding_at s.commands (cid_named pdu)) d
     → Fit s.commands → told_by s (data_part pdu) d ≡ answers a → is_success a.status ≡ true → place s.commands a.cid ≡ Some p → length a.payload ≡ p.into
 whole_by s pdu (decision.Initialize limits) a p within names in_time fit told success is = cc

@@ -11,7 +11,7 @@ use Rattle.pdu_codec.specs.declared.r2t.R2t.{R2t}
 use Rattle.pdu_codec.specs.DataHead.{data_head_of}
 use Rattle.pdu_codec.specs.Initialize.{ic_resp_of}
 use Rattle.pdu_codec.specs.R2t.{r2t_of}
-use Rattle.host_driver.specs.declared.decision.Completion.{Completion}
+use Rattle.host_driver.specs.declared.decision.CommandCompletion.{CommandCompletion}
 use Rattle.host_driver.specs.declared.phase.Phase.TheVariants.{Opened, Initialized, Connected}
 use Rattle.host_driver.specs.declared.phase.TransportLimits.{TransportLimits}
 use Rattle.host_driver.specs.Decision.{is_success, response_in}
@@ -46,17 +46,17 @@ pub record BringsNext (p : Pending) (head : DataHead) (bytes : List ℕ) : Type 
   pub all : head.success ≡ true → length p.came + length bytes ≡ p.into
 
 -- a response to a command: one of success comes behind all of its data
-abbrev pub Completes : Pending → Completion → Type 0
+abbrev pub Completes : Pending → CommandCompletion → Type 0
 Completes p response = is_success response.status ≡ true → p.into ≤ length p.came
 
 -- ---- what the host makes of it
 
 -- the Connect's reply
-abbrev pub connect_told : Completion → Told
+abbrev pub connect_told : CommandCompletion → Told
 connect_told response = if is_success response.status then connects (response.result % 2 ^ 16) else refuses response.status
 
 -- the reply to a command, behind these data
-abbrev pub reply_told : Completion → List ℕ → Told
+abbrev pub reply_told : CommandCompletion → List ℕ → Told
 reply_told response came =
     answers (record { cid = response.cid; status = response.status; data_result = response.result; payload = came })
 

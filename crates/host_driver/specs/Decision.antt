@@ -16,9 +16,9 @@ use Rattle.pdu_codec.specs.Cqe.{completed_cid_of, completion_in, result_of, stat
 use Rattle.pdu_codec.specs.DataHead.{data_head_of}
 use Rattle.pdu_codec.specs.Initialize.{ic_resp_of}
 use Rattle.pdu_codec.specs.R2t.{r2t_of}
-use Rattle.host_driver.specs.declared.decision.Completion.{Completion}
-use Rattle.host_driver.specs.declared.decision.Decision.{Decision}
-use Rattle.host_driver.specs.declared.decision.Decision.TheVariants as decision
+use Rattle.host_driver.specs.declared.decision.CommandCompletion.{CommandCompletion}
+use Rattle.host_driver.specs.declared.decision.HostDecision.{HostDecision}
+use Rattle.host_driver.specs.declared.decision.HostDecision.TheVariants as decision
 use Rattle.host_driver.specs.declared.outstanding.Outstanding.{Outstanding}
 use Rattle.host_driver.specs.declared.phase.Phase.{Phase}
 use Rattle.host_driver.specs.declared.phase.Phase.TheVariants.{Opened, Initialized, Connected, Failed}
@@ -34,7 +34,7 @@ abbrev pub entry_in : Pdu → List ℕ
 entry_in pdu = completion_in (header_part pdu)
 
 -- .. and what it says of the command that it completes
-abbrev pub response_in : Pdu → Completion
+abbrev pub response_in : Pdu → CommandCompletion
 response_in pdu = record {
   cid = completed_cid_of (entry_in pdu);
   status = status_of (entry_in pdu);
@@ -56,11 +56,11 @@ is_success s = s.sct == 0 && s.sc == 0
 
 -- ---- the first PDU
 
-abbrev pub terminate : FatalErrorStatus → ℕ → Decision
+abbrev pub terminate : FatalErrorStatus → ℕ → HostDecision
 terminate fes fei = decision.Terminate (record { fes = fes; fei = fei })
 
 -- an ICResp that comes first
-abbrev pub initialize : ic_resp.IcResp → Decision
+abbrev pub initialize : ic_resp.IcResp → HostDecision
 initialize r =
     if not (r.pfv == 0) then terminate UnsupportedParameter 8 else
     if nat_lt 31 r.cpda then terminate InvalidHeaderField 10 else
@@ -68,7 +68,7 @@ initialize r =
     if nat_lt r.maxh2cdata 4096 || not (r.maxh2cdata % 4 == 0) then terminate InvalidHeaderField 12 else
     decision.Initialize (record { cpda = r.cpda; maxh2cdata = r.maxh2cdata })
 
-abbrev pub first_by : PduType → Pdu → Decision
+abbrev pub first_by : PduType → Pdu → HostDecision
 first_by IcResp pdu = initialize (ic_resp_of (header_part pdu))
 first_by C2hTermReq pdu = decision.Close (term_req_of (header_part pdu))
 first_by _ pdu = terminate SequenceError 0
@@ -80,24 +80,24 @@ abbrev pub is_early : Outstanding → Status → Bool
 is_early command status = is_success status && nat_lt command.came command.into
 
 -- the reply to the Connect: its result has the CNTLID in bits 15:0
-abbrev pub connected : Completion → Decision
+abbrev pub connected : CommandCompletion → HostDecision
 connected response =
     if is_success response.status then decision.Connect (response.result % 2 ^ 16) else
     decision.Refuse response.status
 
 -- a response, of the Connect until that succeeded
-abbrev pub answered_in : Phase → Completion → Decision
+abbrev pub answered_in : Phase → CommandCompletion → HostDecision
 answered_in (Connected limits) response = decision.Complete response
 answered_in _ response = connected response
 
-abbrev pub completed : Phase → Option Outstanding → Completion → Decision
+abbrev pub completed : Phase → Option Outstanding → CommandCompletion → HostDecision
 completed phase None response = terminate InvalidHeaderField 20
 completed phase (Some command) response =
     if is_early command response.status then terminate SequenceError 0 else
     answered_in phase response
 
 -- C2HData in their place, that end here
-abbrev pub accepted : Outstanding → DataHead → ℕ → Decision
+abbrev pub accepted : Outstanding → DataHead → ℕ → HostDecision
 accepted command head end =
     if not head.success then decision.Receive head.cccid else
     if not head.last_pdu then terminate InvalidHeaderField 1 else
@@ -105,7 +105,7 @@ accepted command head end =
     decision.ReceiveLast head.cccid
 
 -- C2HData that carry so many bytes
-abbrev pub received : Option Outstanding → DataHead → ℕ → Decision
+abbrev pub received : Option Outstanding → DataHead → ℕ → HostDecision
 received None head carried = terminate InvalidHeaderField 8
 received (Some command) head carried =
     if command.into == 0 then terminate InvalidHeaderField 8 else
@@ -113,14 +113,14 @@ received (Some command) head carried =
     if not (head.datao == command.came) || nat_lt command.into (command.came + head.datal) then terminate DataOutOfRange 0 else
     accepted command head (command.came + head.datal)
 
-abbrev pub requested : Option Outstanding → r2t.R2t → Decision
+abbrev pub requested : Option Outstanding → r2t.R2t → HostDecision
 requested None request = terminate InvalidHeaderField 8
 requested (Some command) request =
     if command.out == 0 then terminate InvalidHeaderField 8 else
     if not (request.r2to == command.asked) || nat_lt command.out (command.asked + request.r2tl) then terminate DataOutOfRange 0 else
     decision.Send request
 
-abbrev pub next_by : PduType → Phase → Option Outstanding → Pdu → Decision
+abbrev pub next_by : PduType → Phase → Option Outstanding → Pdu → HostDecision
 next_by C2hTermReq phase command pdu = decision.Close (term_req_of (header_part pdu))
 next_by CapsuleResp phase command pdu = completed phase command (response_in pdu)
 next_by C2hData phase command pdu =
@@ -129,7 +129,7 @@ next_by R2t phase command pdu = requested command (r2t_of (header_part pdu))
 next_by _ phase command pdu = terminate SequenceError 0
 
 -- a whole PDU, where this is the outstanding command that it names
-abbrev pub decide : Phase → Option Outstanding → Pdu → Decision
+abbrev pub decide : Phase → Option Outstanding → Pdu → HostDecision
 decide Opened command pdu = first_by pdu.kind pdu
 decide (Initialized limits) command pdu = next_by pdu.kind (Initialized limits) command pdu
 decide (Connected limits) command pdu = next_by pdu.kind (Connected limits) command pdu

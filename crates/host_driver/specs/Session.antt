@@ -1,8 +1,8 @@
 -- A queue without what came, and what its calls make of it.
 use Rattle.std.specs.Prelude.{◌≡◌, ℕ, ◌≤◌, nat_lt, ◌||◌, Bool, true, false, List, ◌++◌, length, Option, Some, None, Result, Ok, Err, is_none, position, if◌then◌else◌}
 use Rattle.pdu_cut.specs.Front.{Front}
-use Rattle.host_driver.specs.declared.decision.Decision.{Decision}
-use Rattle.host_driver.specs.declared.decision.Decision.TheVariants as decision
+use Rattle.host_driver.specs.declared.decision.HostDecision.{HostDecision}
+use Rattle.host_driver.specs.declared.decision.HostDecision.TheVariants as decision
 use Rattle.host_driver.specs.declared.phase.Phase.{Phase}
 use Rattle.host_driver.specs.declared.phase.Phase.TheVariants.{Opened, Initialized, Connected, Failed}
 use Rattle.host_driver.specs.declared.phase.TransportLimits.{TransportLimits}
@@ -103,7 +103,7 @@ pub record Tells (front : Front) (old : SessionState) (answer : Result (Option H
   pub told : told_of answer ≡ Some (tells old.state (taken front))
 
 -- what doing a decision may rest on
-abbrev pub IsSafe : HostState → Front → Decision → Type 0
+abbrev pub IsSafe : HostState → Front → HostDecision → Type 0
 IsSafe s front (decision.Initialize limits) = AreLimits limits
 IsSafe s front (decision.Receive cid) = Fits (outstanding_at s.commands (Some cid)) (length (data_at front))
 IsSafe s front (decision.ReceiveLast cid) = Fits (outstanding_at s.commands (Some cid)) (length (data_at front))
@@ -111,7 +111,7 @@ IsSafe s front (decision.Send request) = IsNext (outstanding_at s.commands (Some
 IsSafe s front _ = Unit {0}
 
 -- the room for what a decision sends
-abbrev pub decision_room : Decision → ℕ
+abbrev pub decision_room : HostDecision → ℕ
 decision_room (decision.Initialize limits) = 1224
 decision_room (decision.Send request) = requested_room request.r2tl
 decision_room (decision.Terminate t) = 152

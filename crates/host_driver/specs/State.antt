@@ -3,8 +3,8 @@ use Rattle.std.specs.Prelude.{ℕ, List, [], ◌∷◌}
 use Rattle.tables.specs.NumberTable.{with_value, without}
 use Rattle.pdu_cut.specs.Front.{Front, incomplete, whole, faulty}
 use Rattle.pdu_cut.specs.Pdu.{Pdu}
-use Rattle.host_driver.specs.declared.decision.Decision.{Decision}
-use Rattle.host_driver.specs.declared.decision.Decision.TheVariants as decision
+use Rattle.host_driver.specs.declared.decision.HostDecision.{HostDecision}
+use Rattle.host_driver.specs.declared.decision.HostDecision.TheVariants as decision
 use Rattle.host_driver.specs.declared.phase.Phase.{Phase}
 use Rattle.host_driver.specs.declared.phase.Phase.TheVariants.{Opened, Initialized, Connected, Failed}
 use Rattle.host_driver.specs.Decision.{cid_named, decide, terminate}
@@ -33,17 +33,17 @@ connected_from (Initialized limits) = Connected limits
 connected_from phase = phase
 
 -- what is owed to a PDU
-abbrev pub owed_pdu : HostState → Pdu → Decision
+abbrev pub owed_pdu : HostState → Pdu → HostDecision
 owed_pdu s pdu = decide s.phase (outstanding_at s.commands (cid_named pdu)) pdu
 
 -- .. and to what stands at the front of what came; less than a PDU is not taken
-abbrev pub owed : HostState → Front → Decision
+abbrev pub owed : HostState → Front → HostDecision
 owed s incomplete = decision.Close (record { fes = 0; fei = 0 })
 owed s (whole pdu) = owed_pdu s pdu
 owed s (faulty fault head) = terminate fault.fes fault.fei
 
 -- where a decision about a front with these data leads
-abbrev pub after_decision : HostState → List ℕ → Decision → HostState
+abbrev pub after_decision : HostState → List ℕ → HostDecision → HostState
 after_decision s bytes (decision.Initialize limits) = in_phase (Initialized limits) s
 after_decision s bytes (decision.Connect cntlid) = record { phase = connected_from s.phase; commands = without s.commands 0 }
 after_decision s bytes (decision.Refuse status) = in_phase Failed s

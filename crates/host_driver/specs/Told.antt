@@ -6,8 +6,8 @@ use Rattle.nvt_fields.specs.declared.status.Status.{Status}
 use Rattle.nvt_fields.specs.declared.termination.FatalErrorStatus.{FatalErrorStatus}
 use Rattle.pdu_codec.specs.declared.r2t.R2t.{R2t}
 use Rattle.pdu_codec.specs.TermReq.{h2c_term_req}
-use Rattle.host_driver.specs.declared.decision.Decision.{Decision}
-use Rattle.host_driver.specs.declared.decision.Decision.TheVariants as decision
+use Rattle.host_driver.specs.declared.decision.HostDecision.{HostDecision}
+use Rattle.host_driver.specs.declared.decision.HostDecision.TheVariants as decision
 use Rattle.host_driver.specs.declared.phase.Phase.{Phase}
 use Rattle.host_driver.specs.declared.phase.Phase.TheVariants.{Opened, Initialized, Connected, Failed}
 use Rattle.host_driver.specs.declared.phase.TransportLimits.{TransportLimits}
@@ -35,7 +35,7 @@ requested_in Opened commands request = []
 requested_in Failed commands request = []
 
 -- a decision about a front of this header
-abbrev pub sends_by : HostParams → HostState → List ℕ → Decision → List ℕ
+abbrev pub sends_by : HostParams → HostState → List ℕ → HostDecision → List ℕ
 sends_by params s head (decision.Initialize limits) = connect_of limits.cpda params
 sends_by params s head (decision.Send request) = requested_in s.phase s.commands request
 sends_by params s head (decision.Terminate t) = h2c_term_req (fatal_code_of t.fes) t.fei head
@@ -76,7 +76,7 @@ came_by (Some p) = p.came
 abbrev pub success : Status
 success = record { sct = 0; sc = 0; dnr = false }
 
-abbrev pub told_by : HostState → List ℕ → Decision → Told
+abbrev pub told_by : HostState → List ℕ → HostDecision → Told
 told_by s bytes (decision.Connect cntlid) = connects cntlid
 told_by s bytes (decision.Refuse status) = refuses status
 told_by s bytes (decision.ReceiveLast cid) = answers (record {

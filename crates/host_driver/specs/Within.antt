@@ -2,8 +2,8 @@
 -- for are the next of that command's, within what it wants.
 use Rattle.std.specs.Prelude.{◌≡◌, ◌≤◌, ◌+◌, ◌%◌, ℕ, true, Option, Some, None}
 use Rattle.pdu_codec.specs.declared.r2t.R2t.{R2t}
-use Rattle.host_driver.specs.declared.decision.Decision.{Decision}
-use Rattle.host_driver.specs.declared.decision.Decision.TheVariants as decision
+use Rattle.host_driver.specs.declared.decision.HostDecision.{HostDecision}
+use Rattle.host_driver.specs.declared.decision.HostDecision.TheVariants as decision
 use Rattle.host_driver.specs.declared.outstanding.Outstanding.{Outstanding}
 use Rattle.host_driver.specs.declared.phase.TransportLimits.{TransportLimits}
 use Rattle.host_driver.specs.Decision.{is_success}
@@ -28,7 +28,7 @@ abbrev pub AreLimits : TransportLimits → Type 0
 AreLimits limits = (limits.cpda ≤ 31) × (4096 ≤ limits.maxh2cdata) × (limits.maxh2cdata % 4 ≡ 0)
 
 -- a decision on a PDU that carries so many bytes of data
-abbrev pub IsWithin : Option Outstanding → ℕ → Decision → Type 0
+abbrev pub IsWithin : Option Outstanding → ℕ → HostDecision → Type 0
 IsWithin command carried (decision.Initialize limits) = AreLimits limits
 IsWithin command carried (decision.Receive cid) = Fits command carried
 IsWithin command carried (decision.ReceiveLast cid) = Fills command carried
@@ -41,12 +41,12 @@ HasAll None = ⊥
 HasAll (Some command) = command.into ≤ command.came
 
 -- a command is completed with success once all of its data came
-abbrev pub IsInTime : Option Outstanding → Decision → Type 0
+abbrev pub IsInTime : Option Outstanding → HostDecision → Type 0
 IsInTime command (decision.Complete response) = is_success response.status ≡ true → HasAll command
 IsInTime command _ = Unit {0}
 
 -- a decision on a PDU that names this command
-abbrev pub Names : Option ℕ → Decision → Type 0
+abbrev pub Names : Option ℕ → HostDecision → Type 0
 Names named (decision.Receive cid) = named ≡ Some cid
 Names named (decision.ReceiveLast cid) = named ≡ Some cid
 Names named (decision.Complete response) = named ≡ Some response.cid

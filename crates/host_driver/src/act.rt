@@ -11,7 +11,7 @@ use crate::answer::{Answer, HostStep, Told};
 use crate::fault::HostFault;
 use crate::state::State;
 use crate::{
-    CONNECT_ROOM, Decision, HostParams, Termination, cid_named, decide, requested_room,
+    CONNECT_ROOM, HostDecision, HostParams, HostTermination, cid_named, decide, requested_room,
     write_connect,
 };
 use bytes::BytesMut;
@@ -24,34 +24,34 @@ const TERM_REQ_MAX: usize = 152;
 
 /// What is owed to a front.
 #[tactic(auto, using(crate::proofs::Safe::is_safe))]
-pub(crate) fn owed(state: &State, front: &Cut<'_>) -> Decision
+pub(crate) fn owed(state: &State, front: &Cut<'_>) -> HostDecision
     ensures owed { result ≡ owed state.now (front_shown front.now) }
     ensures safe { IsSafe state.now (front_shown front.now) result }
 {
     match front {
         Cut::Pdu(pdu) => decide(state.phase(), state.outstanding(cid_named(pdu)), pdu),
-        Cut::Fault { fes, fei, .. } => Decision::Terminate(Termination {
+        Cut::Fault { fes, fei, .. } => HostDecision::Terminate(HostTermination {
             fes: *fes,
             fei: *fei,
         }),
-        Cut::More => Decision::Close(TermReq { fes: 0, fei: 0 }),
+        Cut::More => HostDecision::Close(TermReq { fes: 0, fei: 0 }),
     }
 }
 
 /// The room that a decision needs at most for what it sends.
-pub(crate) fn room_of(decision: &Decision) -> usize
+pub(crate) fn room_of(decision: &HostDecision) -> usize
     ensures { result ≡ decision_room decision.now }
 {
     match decision {
-        Decision::Initialize(_) => CONNECT_ROOM,
-        Decision::Send(request) => requested_room(request.r2tl),
-        Decision::Terminate(_) => TERM_REQ_MAX,
-        Decision::Connect { .. }
-        | Decision::Refuse(_)
-        | Decision::Receive { .. }
-        | Decision::ReceiveLast { .. }
-        | Decision::Complete(_)
-        | Decision::Close(_) => 0,
+        HostDecision::Initialize(_) => CONNECT_ROOM,
+        HostDecision::Send(request) => requested_room(request.r2tl),
+        HostDecision::Terminate(_) => TERM_REQ_MAX,
+        HostDecision::Connect { .. }
+        | HostDecision::Refuse(_)
+        | HostDecision::Receive { .. }
+        | HostDecision::ReceiveLast { .. }
+        | HostDecision::Complete(_)
+        | HostDecision::Close(_) => 0,
     }
 }
 
@@ -61,7 +61,7 @@ pub(crate) fn act(
     params: &HostParams,
     state: &mut State,
     output: &mut BytesMut,
-    decision: &Decision,
+    decision: &HostDecision,
     front: &Cut<'_>,
 ) -> Told
     requires head { length (head_at (front_shown front.now)) ≤ 128 }
@@ -73,42 +73,42 @@ pub(crate) fn act(
     ensures told { told_of result ≡ Some (told_by state.old (data_at (front_shown front.now)) decision.now) }
 {
     match *decision {
-        Decision::Initialize(limits) => {
+        HostDecision::Initialize(limits) => {
             write_connect(params, limits.cpda, output);
             state.initialize(limits);
             Ok(None)
         }
-        Decision::Connect { cntlid } => {
+        HostDecision::Connect { cntlid } => {
             state.connect();
             Ok(Some(HostStep::Connected { cntlid }))
         }
-        Decision::Refuse(status) => {
+        HostDecision::Refuse(status) => {
             state.fail();
             Err(HostFault::Refused(status))
         }
-        Decision::Receive { cid } => {
+        HostDecision::Receive { cid } => {
             state.receive(cid, data_of(front));
             Ok(None)
         }
-        Decision::ReceiveLast { cid } => {
+        HostDecision::ReceiveLast { cid } => {
             let payload = state.finish(cid, data_of(front));
             Ok(Some(HostStep::Done(success(cid, payload))))
         }
-        Decision::Complete(completion) => Ok(Some(HostStep::Done(Answer {
+        HostDecision::Complete(completion) => Ok(Some(HostStep::Done(Answer {
             cid: completion.cid,
             status: completion.status,
             result: completion.result,
             payload: state.complete(completion.cid),
         }))),
-        Decision::Send(request) => {
+        HostDecision::Send(request) => {
             state.send(request, output);
             Ok(None)
         }
-        Decision::Close(TermReq { fes, fei }) => {
+        HostDecision::Close(TermReq { fes, fei }) => {
             state.fail();
             Err(HostFault::Term { fes, fei })
         }
-        Decision::Terminate(Termination { fes, fei }) => {
+        HostDecision::Terminate(HostTermination { fes, fei }) => {
             TermReq::write_h2c(output, fes, fei, head_of(front)).unwrap();
             state.fail();
             Err(HostFault::Fault { fes, fei })

@@ -2,13 +2,13 @@
 ghost use Rattle.std.specs.Prelude.{◌≡◌};
 ghost use Rattle.host_driver.specs.Decision.{accepted, received, requested};
 
-use crate::decision::{Decision, terminate};
+use crate::decision::{HostDecision, terminate};
 use crate::outstanding::Outstanding;
 use nvt_fields::FatalErrorStatus;
 use pdu_codec::{DataHead, R2t};
 
 /// What is owed to a C2HData that carries so many bytes, by the command that it names.
-pub(crate) fn receive(command: Option<Outstanding>, head: DataHead, carried: usize) -> Decision
+pub(crate) fn receive(command: Option<Outstanding>, head: DataHead, carried: usize) -> HostDecision
     ensures { result ≡ received command head carried }
 {
     let Some(command) = command else {
@@ -28,11 +28,11 @@ pub(crate) fn receive(command: Option<Outstanding>, head: DataHead, carried: usi
 }
 
 // C2HData that are in their place, up to this end.
-fn accept(command: Outstanding, head: DataHead, end: u64) -> Decision
+fn accept(command: Outstanding, head: DataHead, end: u64) -> HostDecision
     ensures { result ≡ accepted command head end }
 {
     if !head.success {
-        return Decision::Receive { cid: head.cccid };
+        return HostDecision::Receive { cid: head.cccid };
     }
     if !head.last_pdu {
         return terminate(FatalErrorStatus::InvalidHeaderField, 1);
@@ -40,11 +40,11 @@ fn accept(command: Outstanding, head: DataHead, end: u64) -> Decision
     if end < u64::from(command.into) {
         return terminate(FatalErrorStatus::SequenceError, 0);
     }
-    Decision::ReceiveLast { cid: head.cccid }
+    HostDecision::ReceiveLast { cid: head.cccid }
 }
 
 /// What is owed to an R2T, by the command that it names.
-pub(crate) fn request(command: Option<Outstanding>, request: R2t) -> Decision
+pub(crate) fn request(command: Option<Outstanding>, request: R2t) -> HostDecision
     ensures { result ≡ requested command request }
 {
     let Some(command) = command else {
@@ -57,5 +57,5 @@ pub(crate) fn request(command: Option<Outstanding>, request: R2t) -> Decision
     if request.r2to != command.asked || end > u64::from(command.out) {
         return terminate(FatalErrorStatus::DataOutOfRange, 0);
     }
-    Decision::Send(request)
+    HostDecision::Send(request)
 }

@@ -8,7 +8,7 @@ use pdu_codec::{R2t, TermReq};
 
 /// What a queue owes to a whole PDU.
 #[derive(Clone, Copy)]
-pub enum Decision {
+pub enum HostDecision {
     /// The ICResp is accepted: the Connect is sent.
     Initialize(TransportLimits),
     /// The Connect succeeded, for the controller of this identifier.
@@ -20,18 +20,18 @@ pub enum Decision {
     /// Data of this command came, and stand for its completion with success too.
     ReceiveLast { cid: u16 },
     /// A command is completed.
-    Complete(Completion),
+    Complete(CommandCompletion),
     /// Data of a command are asked for, and sent at once.
     Send(R2t),
     /// The controller terminated the connection: the queue fails, and nothing is sent.
     Close(TermReq),
     /// The queue fails by an H2CTermReq.
-    Terminate(Termination),
+    Terminate(HostTermination),
 }
 
 /// What a response says of the command that it completes.
 #[derive(Clone, Copy, Debug, PartialEq, Eq)]
-pub struct Completion {
+pub struct CommandCompletion {
     pub cid: u16,
     pub status: Status,
     /// What the command defines, in dwords 0 and 1 of the entry.
@@ -40,14 +40,14 @@ pub struct Completion {
 
 /// Why a queue terminates its connection (TCP Transport 1.0, section 3.6).
 #[derive(Clone, Copy, Debug, PartialEq, Eq)]
-pub struct Termination {
+pub struct HostTermination {
     pub fes: FatalErrorStatus,
     /// The offset of the field in error, where the status asks for one.
     pub fei: u32,
 }
 
-pub(crate) fn terminate(fes: FatalErrorStatus, fei: u32) -> Decision
+pub(crate) fn terminate(fes: FatalErrorStatus, fei: u32) -> HostDecision
     ensures { result ≡ terminate fes fei }
 {
-    Decision::Terminate(Termination { fes, fei })
+    HostDecision::Terminate(HostTermination { fes, fei })
 }

@@ -2,7 +2,7 @@
 ghost use Rattle.std.specs.Prelude.{◌≡◌};
 ghost use Rattle.host_driver.specs.Decision.{initialize};
 
-use crate::decision::{Decision, terminate};
+use crate::decision::{HostDecision, terminate};
 use crate::phase::TransportLimits;
 use nvt_fields::FatalErrorStatus;
 use pdu_codec::IcResp;
@@ -14,7 +14,7 @@ const MAXH2CDATA_LEAST: u32 = 4096;
 const CPDA_GREATEST: u8 = 31;
 
 /// What is owed to an ICResp that comes first.
-pub(crate) fn initialize(response: IcResp) -> Decision
+pub(crate) fn initialize(response: IcResp) -> HostDecision
     ensures { result ≡ initialize response }
 {
     if response.pfv != 0 {
@@ -29,7 +29,7 @@ pub(crate) fn initialize(response: IcResp) -> Decision
     if response.maxh2cdata < MAXH2CDATA_LEAST || response.maxh2cdata % 4 != 0 {
         return terminate(FatalErrorStatus::InvalidHeaderField, 12);
     }
-    Decision::Initialize(TransportLimits {
+    HostDecision::Initialize(TransportLimits {
         cpda: response.cpda,
         maxh2cdata: response.maxh2cdata,
     })

@@ -32,7 +32,7 @@ pub use answer::{Answer, HostStep};
 pub use capsule::{capsule_room, write_capsule};
 pub use command::{Data, HostCommand};
 pub use connect::{CONNECT_ROOM, write_connect};
-pub use decision::{Completion, Decision, Termination};
+pub use decision::{CommandCompletion, HostDecision, HostTermination};
 pub use fault::HostFault;
 pub use host_pages::{
     AnaLog, BadPage, Discover, DiscoverFault, DiscoveryPage, GetLog, NsList, Progress,

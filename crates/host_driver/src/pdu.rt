@@ -5,7 +5,7 @@ ghost use Rattle.host_driver.specs.Decision.{cid_named, decide, first_by, next_b
 ghost use Rattle.host_driver.specs.Within.{IsInTime, IsWithin, Names};
 
 use crate::data::{receive, request};
-use crate::decision::{Decision, terminate};
+use crate::decision::{HostDecision, terminate};
 use crate::initialize::initialize;
 use crate::outstanding::Outstanding;
 use crate::phase::Phase;
@@ -33,7 +33,7 @@ pub fn cid_named(pdu: &PduView<'_>) -> Option<u16>
 
 /// What is owed to a whole PDU, where `command` is the outstanding command that it names, if there is
 /// one: the faults of the transport come in a fixed order, and the first is answered.
-pub fn decide(phase: Phase, command: Option<Outstanding>, pdu: &PduView<'_>) -> Decision
+pub fn decide(phase: Phase, command: Option<Outstanding>, pdu: &PduView<'_>) -> HostDecision
     ensures owed { result ≡ decide phase command pdu.now }
     ensures within { IsWithin command (length (data_part pdu.now)) result }
     ensures names { Names (cid_named pdu.now) result }
@@ -46,12 +46,12 @@ pub fn decide(phase: Phase, command: Option<Outstanding>, pdu: &PduView<'_>) -> 
 }
 
 // The first PDU of a connection.
-fn first(pdu: &PduView<'_>) -> Decision
+fn first(pdu: &PduView<'_>) -> HostDecision
     ensures { result ≡ first_by pdu.now.kind pdu.now }
 {
     match pdu.kind() {
         PduType::IcResp => initialize(IcResp::read(pdu.header())),
-        PduType::C2hTermReq => Decision::Close(TermReq::read(pdu.header())),
+        PduType::C2hTermReq => HostDecision::Close(TermReq::read(pdu.header())),
         PduType::IcReq
         | PduType::H2cTermReq
         | PduType::CapsuleCmd
@@ -63,11 +63,11 @@ fn first(pdu: &PduView<'_>) -> Decision
 }
 
 // A PDU after the first.
-fn next(phase: Phase, command: Option<Outstanding>, pdu: &PduView<'_>) -> Decision
+fn next(phase: Phase, command: Option<Outstanding>, pdu: &PduView<'_>) -> HostDecision
     ensures { result ≡ next_by pdu.now.kind phase command pdu.now }
 {
     match pdu.kind() {
-        PduType::C2hTermReq => Decision::Close(TermReq::read(pdu.header())),
+        PduType::C2hTermReq => HostDecision::Close(TermReq::read(pdu.header())),
         PduType::CapsuleResp => complete(phase, command, response(pdu)),
         PduType::C2hData => { receive(command, DataHead::read(pdu.header()), pdu.data().len()) }
         PduType::R2t => request(command, R2t::read(pdu.header())),

@@ -5,7 +5,7 @@ ghost use Rattle.host_driver.specs.Queue.{IsOpened, ReceiveAgrees, StepsBy, Step
 
 use crate::answer::{HostStep, Told};
 use crate::fault::HostFault;
-use crate::session::Session;
+use crate::session::QueueSession;
 use crate::{HostCommand, HostParams};
 use pdu_cut::{Cut, OfHost, Stream};
 use std::alloc::{AllocError, Global};
@@ -14,7 +14,7 @@ use std::marker::Model;
 /// One queue of a host, over one connection.
 #[derive(Debug)]
 pub struct HostQueue {
-    session: Session,
+    session: QueueSession,
     stream: Stream<OfHost>,
 }
 
@@ -54,7 +54,7 @@ impl HostQueue {
         ensures { IfOk result (IsOpened params) }
     {
         Ok(HostQueue {
-            session: Session::start(alloc, params)?,
+            session: QueueSession::start(alloc, params)?,
             stream: Stream::new(alloc)?,
         })
     }

@@ -2,7 +2,7 @@
 ghost use Rattle.std.specs.Prelude.{◌≡◌};
 ghost use Rattle.host_driver.specs.Decision.{completed, connected, is_early, response_in};
 
-use crate::decision::{Completion, Decision, terminate};
+use crate::decision::{CommandCompletion, HostDecision, terminate};
 use crate::outstanding::Outstanding;
 use crate::phase::Phase;
 use nvt_fields::{FatalErrorStatus, PduType, Status};
@@ -10,13 +10,13 @@ use pdu_codec::Cqe;
 use pdu_cut::PduView;
 
 /// The response that a CapsuleResp brings.
-pub(crate) fn response(pdu: &PduView<'_>) -> Completion
+pub(crate) fn response(pdu: &PduView<'_>) -> CommandCompletion
     requires { pdu.now.kind ≡ PduType.CapsuleResp }
     ensures { result ≡ response_in pdu.now }
 {
     let header = <&[u8; 24]>::try_from(pdu.header()).unwrap();
     let entry = Cqe::read(header);
-    Completion {
+    CommandCompletion {
         cid: entry.cid(),
         status: entry.status(),
         result: entry.result(),
@@ -24,7 +24,11 @@ pub(crate) fn response(pdu: &PduView<'_>) -> Completion
 }
 
 /// What is owed to a response, by the command that it names.
-pub(crate) fn complete(phase: Phase, command: Option<Outstanding>, response: Completion) -> Decision
+pub(crate) fn complete(
+    phase: Phase,
+    command: Option<Outstanding>,
+    response: CommandCompletion,
+) -> HostDecision
     ensures { result ≡ completed phase command response }
 {
     let Some(command) = command else {
@@ -34,7 +38,7 @@ pub(crate) fn complete(phase: Phase, command: Option<Outstanding>, response: Com
         return terminate(FatalErrorStatus::SequenceError, 0);
     }
     match phase {
-        Phase::Connected(_) => Decision::Complete(response),
+        Phase::Connected(_) => HostDecision::Complete(response),
         Phase::Opened | Phase::Initialized(_) | Phase::Failed => connect(response),
     }
 }
@@ -47,14 +51,14 @@ fn is_early(command: Outstanding, status: Status) -> bool
 }
 
 // The reply to the Connect.
-fn connect(response: Completion) -> Decision
+fn connect(response: CommandCompletion) -> HostDecision
     ensures { result ≡ connected response }
 {
     if response.status.sct == 0 && response.status.sc == 0 {
-        Decision::Connect {
+        HostDecision::Connect {
             cntlid: (response.result % 0x1_0000) as u16,
         }
     } else {
-        Decision::Refuse(response.status)
+        HostDecision::Refuse(response.status)
     }
 }

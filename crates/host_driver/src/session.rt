@@ -27,14 +27,14 @@ const IC_REQ_LEN: usize = 128;
 
 /// What a queue was opened with, how far it has come, and what it has to send.
 #[derive(Debug, Drop)]
-pub(crate) struct Session {
+pub(crate) struct QueueSession {
     alloc: Global,
     params: HostParams,
     state: State,
     output: BytesMut,
 }
 
-impl Model for Session {
+impl Model for QueueSession {
     ghost use Rattle.std.specs.Prelude.{◌≡◌, length};
     ghost use Rattle.host_driver.specs.Session.{AreParams, SessionState};
 
@@ -45,9 +45,9 @@ impl Model for Session {
     ghost invariant = { λ s. AreParams s.params };
 }
 
-impl Session {
+impl QueueSession {
     /// A queue whose ICReq is to be sent.
-    pub(crate) fn start(alloc: Global, params: HostParams) -> Result<Session, AllocError>
+    pub(crate) fn start(alloc: Global, params: HostParams) -> Result<QueueSession, AllocError>
         requires { AreParams params }
         ensures { IfOk result (IsFirst params) }
     {
@@ -60,7 +60,7 @@ impl Session {
             maxr2t: 0,
         };
         request.write(&mut output).unwrap();
-        Ok(Session {
+        Ok(QueueSession {
             alloc,
             params,
             state,

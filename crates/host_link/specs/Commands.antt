@@ -2,8 +2,8 @@
 use Rattle.std.specs.Prelude.{ℕ, ◌+◌, ◌-◌, ◌*◌, ◌/◌, ◌%◌, ◌^◌, List, [], ◌∷◌}
 use Rattle.host_driver.specs.Command.{Command}
 use Rattle.host_link.specs.declared.blocks.Blocks.{Blocks}
-use Rattle.host_link.specs.declared.commands.Property.{Property}
-use Rattle.host_link.specs.declared.commands.Property.TheVariants.{ControllerConfiguration, ControllerStatus}
+use Rattle.host_link.specs.declared.commands.ControllerProperty.{ControllerProperty}
+use Rattle.host_link.specs.declared.commands.ControllerProperty.TheVariants.{ControllerConfiguration, ControllerStatus}
 
 -- a command without data to send
 abbrev pub with_dwords : ℕ → ℕ → List ℕ → ℕ → Command
@@ -15,14 +15,14 @@ four d10 d11 d12 d13 = d10 ∷ d11 ∷ d12 ∷ d13 ∷ 0 ∷ 0 ∷ []
 
 -- ---- Fabrics commands: opcode 7Fh, with their type for an identifier of a namespace
 
-abbrev pub offset_of : Property → ℕ
+abbrev pub offset_of : ControllerProperty → ℕ
 offset_of ControllerConfiguration = 20
 offset_of ControllerStatus = 28
 
-abbrev pub property_set : Property → ℕ → Command
+abbrev pub property_set : ControllerProperty → ℕ → Command
 property_set property value = with_dwords 127 0 (four 0 (offset_of property) value 0) 0
 
-abbrev pub property_get : Property → Command
+abbrev pub property_get : ControllerProperty → Command
 property_get property = with_dwords 127 4 (four 0 (offset_of property) 0 0) 0
 
 -- ---- admin commands

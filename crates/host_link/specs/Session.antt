@@ -10,7 +10,7 @@ use Rattle.host_driver.specs.Queue.{IsOpened, SubmitsOn}
 use Rattle.host_driver.specs.Session.{submit_fault}
 use Rattle.host_link.specs.declared.fault.SessionFault.{SessionFault}
 use Rattle.host_link.specs.declared.fault.SessionFault.TheVariants as fault
-use Rattle.host_link.specs.declared.commands.Property.TheVariants.{ControllerConfiguration, ControllerStatus}
+use Rattle.host_link.specs.declared.commands.ControllerProperty.TheVariants.{ControllerConfiguration, ControllerStatus}
 use Rattle.host_link.specs.Commands.{property_get, property_set}
 use Rattle.host_link.specs.Conversation.{Conversation}
 use Rattle.host_link.specs.Fault.{of_queue}

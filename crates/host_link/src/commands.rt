@@ -33,27 +33,27 @@ pub const CONTROLLER_ENABLED: u32 = 0x0046_0001;
 
 /// A property of a controller, of 4 bytes.
 #[derive(Clone, Copy, Debug, PartialEq, Eq)]
-pub enum Property {
+pub enum ControllerProperty {
     /// CC.
     ControllerConfiguration,
     /// CSTS.
     ControllerStatus,
 }
 
-impl Property {
+impl ControllerProperty {
     /// Its offset, in bytes.
     pub fn offset(self) -> u32
         ensures { result ≡ offset_of self }
     {
         match self {
-            Property::ControllerConfiguration => 0x14,
-            Property::ControllerStatus => 0x1C,
+            ControllerProperty::ControllerConfiguration => 0x14,
+            ControllerProperty::ControllerStatus => 0x1C,
         }
     }
 }
 
 /// Property Set (NVMe over Fabrics 1.1, section 3.5).
-pub fn property_set(alloc: Global, property: Property, value: u32) -> HostCommand
+pub fn property_set(alloc: Global, property: ControllerProperty, value: u32) -> HostCommand
     ensures { result ≡ property_set property value }
 {
     plain(
@@ -66,7 +66,7 @@ pub fn property_set(alloc: Global, property: Property, value: u32) -> HostComman
 }
 
 /// Property Get (NVMe over Fabrics 1.1, section 3.4). The value is the answer's result.
-pub fn property_get(alloc: Global, property: Property) -> HostCommand
+pub fn property_get(alloc: Global, property: ControllerProperty) -> HostCommand
     ensures { result ≡ property_get property }
 {
     plain(

@@ -13,4 +13,4 @@ pub mod session;
 pub use blocks::Blocks;
 pub use fault::SessionFault;
 pub use link::{Link, LinkFault};
-pub use session::Session;
+pub use session::LinkSession;

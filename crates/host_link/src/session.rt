@@ -5,7 +5,7 @@ ghost use Rattle.host_link.specs.Calls.{MovesBy, ReceivesBy, SendsBy, StepsOnce,
 ghost use Rattle.host_link.specs.Session.{Answers, Connects, Enables, Executes, IsSuccess, Requests, SubmitsBy, answer_of};
 ghost use Rattle.host_link.specs.Waiting.{Waits, is_asked};
 
-use crate::commands::{CONTROLLER_ENABLED, Property, property_get, property_set};
+use crate::commands::{CONTROLLER_ENABLED, ControllerProperty, property_get, property_set};
 use crate::fault::SessionFault;
 use crate::link::Link;
 use crate::piece::Piece;
@@ -24,7 +24,7 @@ const READY: u64 = 1;
 ///
 /// A turn is one send, one receive, and steps until the queue is idle. Each call takes the turns that it needs from
 /// those that are left, and ends with `Turns` where there is none.
-pub struct Session<L: Link> {
+pub struct LinkSession<L: Link> {
     alloc: Global,
     link: L,
     queue: HostQueue,
@@ -36,9 +36,9 @@ pub struct Session<L: Link> {
 }
 
 // Written out, and not derived, so that whoever lets a session fall proves one call.
-impl<L: Link + Drop> Drop for Session<L> {
+impl<L: Link + Drop> Drop for LinkSession<L> {
     fn drop(self) {
-        let Session {
+        let LinkSession {
             alloc: _,
             link,
             queue,
@@ -53,7 +53,7 @@ impl<L: Link + Drop> Drop for Session<L> {
     }
 }
 
-impl<L: Link> Model for Session<L> {
+impl<L: Link> Model for LinkSession<L> {
     ghost use Rattle.host_link.specs.Conversation.{Conversation};
 
     ghost Value = { Conversation };
@@ -68,7 +68,7 @@ impl<L: Link> Model for Session<L> {
     } };
 }
 
-impl<L: Link + Drop> Session<L> {
+impl<L: Link + Drop> LinkSession<L> {
     /// Opens a queue over a link, and waits until it is connected. SQSIZE is from 1 to 63, and `in_capsule` at most
     /// 8,192: that is the caller's to keep.
     pub fn connect(
@@ -76,11 +76,11 @@ impl<L: Link + Drop> Session<L> {
         link: L,
         params: HostParams,
         turns: u64,
-    ) -> Result<Session<L>, SessionFault>
+    ) -> Result<LinkSession<L>, SessionFault>
         requires { AreParams params }
         ensures { Connects params (L.state link) turns result }
     {
-        let mut session = Session {
+        let mut session = LinkSession {
             alloc,
             link,
             queue: HostQueue::start(alloc, params)?,
@@ -119,11 +119,11 @@ impl<L: Link + Drop> Session<L> {
     {
         let enable = property_set(
             self.alloc,
-            Property::ControllerConfiguration,
+            ControllerProperty::ControllerConfiguration,
             CONTROLLER_ENABLED,
         );
         self.execute(&enable)?;
-        let status = property_get(self.alloc, Property::ControllerStatus);
+        let status = property_get(self.alloc, ControllerProperty::ControllerStatus);
         loop {
             if self.execute(&status)?.result % 2 == READY {
                 return Ok(());

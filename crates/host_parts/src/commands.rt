@@ -4,7 +4,7 @@ ghost use Rattle.std.specs.Fmt.{decimal};
 ghost use Rattle.std.specs.Process.{command_args, command_program};
 ghost use Rattle.host_parts.specs.Started.{Starts, host_words, reader_words, target_words, writer_words};
 
-use crate::course::Plan;
+use crate::course::LabPlan;
 use itoa::Buffer;
 use std::alloc::{AllocError, Global};
 use std::process::{Command, Stdio};
@@ -14,7 +14,7 @@ const SUBSYSTEM: &str = "nqn.2026-01.test:a";
 const HOST: &str = "nqn.2026-01.test:h1";
 
 /// The target, without an edit of its own.
-pub fn target_command(alloc: Global, plan: &Plan<'_>) -> Result<Command, AllocError>
+pub fn target_command(alloc: Global, plan: &LabPlan<'_>) -> Result<Command, AllocError>
     ensures { IfOk result (Starts plan.now.target.now (target_words plan.now)) }
 {
     let mut command = Command::new(alloc, plan.target)?;
@@ -24,7 +24,7 @@ pub fn target_command(alloc: Global, plan: &Plan<'_>) -> Result<Command, AllocEr
 }
 
 /// Host 1, which writes blocks once a line says so.
-pub fn writer_command(alloc: Global, plan: &Plan<'_>) -> Result<Command, AllocError>
+pub fn writer_command(alloc: Global, plan: &LabPlan<'_>) -> Result<Command, AllocError>
     ensures { IfOk result (Starts plan.now.host.now (writer_words plan.now)) }
 {
     let mut command = host_command(alloc, plan, "write")?;
@@ -34,7 +34,7 @@ pub fn writer_command(alloc: Global, plan: &Plan<'_>) -> Result<Command, AllocEr
 }
 
 /// Host 2, which reads a block.
-pub fn reader_command(alloc: Global, plan: &Plan<'_>) -> Result<Command, AllocError>
+pub fn reader_command(alloc: Global, plan: &LabPlan<'_>) -> Result<Command, AllocError>
     ensures { IfOk result (Starts plan.now.host.now (reader_words plan.now)) }
 {
     let mut command = host_command(alloc, plan, "read")?;
@@ -44,7 +44,7 @@ pub fn reader_command(alloc: Global, plan: &Plan<'_>) -> Result<Command, AllocEr
 }
 
 // A command of a host, on namespace 1 from block 0 on.
-fn host_command(alloc: Global, plan: &Plan<'_>, verb: &str) -> Result<Command, AllocError>
+fn host_command(alloc: Global, plan: &LabPlan<'_>, verb: &str) -> Result<Command, AllocError>
     ensures { IfOk result (Starts plan.now.host.now (host_words verb.now plan.now)) }
 {
     let mut command = Command::new(alloc, plan.host)?;
@@ -52,7 +52,7 @@ fn host_command(alloc: Global, plan: &Plan<'_>, verb: &str) -> Result<Command, A
     Ok(with_pipes(command))
 }
 
-fn push_target_words(command: &mut Command, plan: &Plan<'_>) -> Result<(), AllocError>
+fn push_target_words(command: &mut Command, plan: &LabPlan<'_>) -> Result<(), AllocError>
     ensures program { OnOk result (command_program command.new ≡ command_program command.old) }
     ensures words { OnOk result (command_args command.new ≡ command_args command.old ++ target_words plan.now) }
 {
@@ -61,7 +61,7 @@ fn push_target_words(command: &mut Command, plan: &Plan<'_>) -> Result<(), Alloc
     push_option(command, "--turns", plan.turns)
 }
 
-fn push_host_words(command: &mut Command, plan: &Plan<'_>, verb: &str) -> Result<(), AllocError>
+fn push_host_words(command: &mut Command, plan: &LabPlan<'_>, verb: &str) -> Result<(), AllocError>
     ensures program { OnOk result (command_program command.new ≡ command_program command.old) }
     ensures words { OnOk result (command_args command.new ≡ command_args command.old ++ host_words verb.now plan.now) }
 {
@@ -71,7 +71,7 @@ fn push_host_words(command: &mut Command, plan: &Plan<'_>, verb: &str) -> Result
 }
 
 // The verb, and where the target is.
-fn push_way(command: &mut Command, plan: &Plan<'_>, verb: &str) -> Result<(), AllocError>
+fn push_way(command: &mut Command, plan: &LabPlan<'_>, verb: &str) -> Result<(), AllocError>
     ensures program { OnOk result (command_program command.new ≡ command_program command.old) }
     ensures words { OnOk result (command_args command.new ≡ command_args command.old
         ++ verb.now ∷ codes "--turns" ∷ decimal plan.now.turns ∷ codes "127.0.0.1" ∷ decimal plan.now.port ∷ []) }

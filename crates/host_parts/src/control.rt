@@ -2,7 +2,7 @@
 ghost use Rattle.std.specs.Prelude.{◌++◌, ◌∷◌, [], OnOk};
 ghost use Rattle.std.specs.Io.KnownBytes.{Appends};
 
-use crate::course::{LabFault, Plan};
+use crate::course::{LabFault, LabPlan};
 use crate::lines::{echo, next_line};
 use std::io::{self, Eprint, Read, Write};
 use std::net::{IpAddr, Ipv4Addr, Net, SocketAddr};
@@ -26,7 +26,7 @@ const PAUSE: u64 = 1000;
 /// Has the target listen for hosts, and show one of them a disk.
 pub fn configure<R: Processes + Net + Clock + Eprint + AllocGlobal>(
     rt: &R,
-    plan: &Plan<'_>,
+    plan: &LabPlan<'_>,
     target: &mut Child<R::Started>,
 ) -> Result<(), LabFault> {
     match connected(rt, plan, target) {
@@ -38,7 +38,7 @@ pub fn configure<R: Processes + Net + Clock + Eprint + AllocGlobal>(
 // A connection to the control port, once the target listens.
 fn connected<R: Net + Clock, P: OpenProcess + Drop>(
     rt: &R,
-    plan: &Plan<'_>,
+    plan: &LabPlan<'_>,
     target: &mut Child<P>,
 ) -> Option<R::Stream> {
     let address = SocketAddr::new(IpAddr::V4(Ipv4Addr::new(127, 0, 0, 1)), plan.control);
@@ -60,7 +60,7 @@ fn is_ended<P: OpenProcess + Drop>(target: &mut Child<P>) -> bool {
 
 fn make_edits<R: Eprint + AllocGlobal, S: Read + Write>(
     rt: &R,
-    plan: &Plan<'_>,
+    plan: &LabPlan<'_>,
     stream: &mut S,
 ) -> Result<(), LabFault> {
     let port = plan.port;

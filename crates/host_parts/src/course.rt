@@ -16,7 +16,7 @@ pub struct LabFault;
 
 /// What is run, and where it meets.
 #[derive(Clone, Copy)]
-pub struct Plan<'a> {
+pub struct LabPlan<'a> {
     /// The program of the target, and that of the hosts.
     pub target: &'a str,
     pub host: &'a str,
@@ -30,7 +30,7 @@ pub struct Plan<'a> {
 /// Starts the target, and has two hosts write and read beside each other.
 pub fn lab<R: Processes + Net + Clock + Eprint + AllocGlobal>(
     rt: &R,
-    plan: &Plan<'_>,
+    plan: &LabPlan<'_>,
 ) -> Result<(), LabFault> {
     let mut target = started(start_target(rt, plan))?;
     let ran = with_target(rt, plan, &mut target);
@@ -40,14 +40,14 @@ pub fn lab<R: Processes + Net + Clock + Eprint + AllocGlobal>(
 
 fn start_target<R: Processes + AllocGlobal>(
     rt: &R,
-    plan: &Plan<'_>,
+    plan: &LabPlan<'_>,
 ) -> io::Result<Child<R::Started>> {
     target_command(rt.alloc(), plan)?.spawn(rt)
 }
 
 fn with_target<R: Processes + Net + Clock + Eprint + AllocGlobal>(
     rt: &R,
-    plan: &Plan<'_>,
+    plan: &LabPlan<'_>,
     target: &mut Child<R::Started>,
 ) -> Result<(), LabFault> {
     configure(rt, plan, target)?;

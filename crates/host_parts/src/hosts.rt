@@ -4,7 +4,7 @@ ghost use Rattle.host_parts.specs.Watched.{HasSucceeded, IsZeros};
 
 use crate::children::{await_success, end, expect_line, give_line, line_of, started};
 use crate::commands::{reader_command, writer_command};
-use crate::course::{LabFault, Plan};
+use crate::course::{LabFault, LabPlan};
 use std::io::{self, Eprint};
 use std::process::{Child, OpenProcess, Processes};
 
@@ -14,7 +14,7 @@ const DIGITS: usize = 1024;
 /// Has host 1 write blocks, of which host 2 reads one before they have come.
 pub fn run_hosts<R: Processes + Eprint + AllocGlobal>(
     rt: &R,
-    plan: &Plan<'_>,
+    plan: &LabPlan<'_>,
 ) -> Result<(), LabFault> {
     let mut writer = started(start_writer(rt, plan))?;
     let ran = with_writer(rt, plan, &mut writer);
@@ -24,7 +24,7 @@ pub fn run_hosts<R: Processes + Eprint + AllocGlobal>(
 
 fn with_writer<R: Processes + Eprint + AllocGlobal>(
     rt: &R,
-    plan: &Plan<'_>,
+    plan: &LabPlan<'_>,
     writer: &mut Child<R::Started>,
 ) -> Result<(), LabFault>
     ensures { OnOk result (HasSucceeded writer.new) }
@@ -38,7 +38,7 @@ fn with_writer<R: Processes + Eprint + AllocGlobal>(
 
 fn read_zeros<R: Processes + Eprint + AllocGlobal>(
     rt: &R,
-    plan: &Plan<'_>,
+    plan: &LabPlan<'_>,
 ) -> Result<(), LabFault> {
     let mut reader = started(start_reader(rt, plan))?;
     let ran = with_reader(rt, &mut reader);
@@ -74,14 +74,14 @@ fn are_zeros(digits: &[u8]) -> bool
 
 fn start_writer<R: Processes + AllocGlobal>(
     rt: &R,
-    plan: &Plan<'_>,
+    plan: &LabPlan<'_>,
 ) -> io::Result<Child<R::Started>> {
     writer_command(rt.alloc(), plan)?.spawn(rt)
 }
 
 fn start_reader<R: Processes + AllocGlobal>(
     rt: &R,
-    plan: &Plan<'_>,
+    plan: &LabPlan<'_>,
 ) -> io::Result<Child<R::Started>> {
     reader_command(rt.alloc(), plan)?.spawn(rt)
 }

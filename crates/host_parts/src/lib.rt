@@ -13,5 +13,5 @@ mod hosts;
 mod lines;
 mod tcp_link;
 
-pub use course::{LabFault, Plan, lab};
+pub use course::{LabFault, LabPlan, lab};
 pub use tcp_link::TcpLink;

@@ -11,7 +11,7 @@ use crate::opened::open_admin;
 use crate::peers::Peers;
 use crate::printed::print;
 use host_link::commands::get_log_page;
-use host_link::{Link, Session, SessionFault};
+use host_link::{Link, LinkSession, SessionFault};
 use host_pages::{AnaGroup, AnaLog, Groups};
 use std::alloc::Global;
 use std::io::Write;
@@ -38,7 +38,7 @@ pub fn ana<L: Link + Drop, W: Write>(
 
 fn tell_groups<L: Link + Drop, W: Write>(
     alloc: Global,
-    session: &mut Session<L>,
+    session: &mut LinkSession<L>,
     out: &mut W,
 ) -> Result<(), SessionFault>
     ensures { TellsGroups session.old result (W.contents out.old) (W.contents out.new) }

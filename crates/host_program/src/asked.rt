@@ -3,11 +3,11 @@ ghost use Rattle.std.specs.Prelude.{Err, MatchResult, Ok};
 ghost use Rattle.host_program.specs.Asking.{Asks, payload_of, result_of};
 
 use host_driver::HostCommand;
-use host_link::{Link, Session, SessionFault};
+use host_link::{Link, LinkSession, SessionFault};
 
 /// The data of the answer to a command.
 pub(crate) fn ask<L: Link + Drop>(
-    session: &mut Session<L>,
+    session: &mut LinkSession<L>,
     command: &HostCommand,
 ) -> Result<Vec<u8>, SessionFault>
     ensures { MatchResult result
@@ -22,7 +22,7 @@ pub(crate) fn ask<L: Link + Drop>(
 
 /// The result of a command, whose answer has no data.
 pub(crate) fn ask_result<L: Link + Drop>(
-    session: &mut Session<L>,
+    session: &mut LinkSession<L>,
     command: &HostCommand,
 ) -> Result<u64, SessionFault>
     ensures { Asks result_of command.now result session.old session.new }

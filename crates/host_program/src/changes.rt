@@ -9,7 +9,7 @@ use crate::opened::open_admin;
 use crate::peers::Peers;
 use crate::printed::print;
 use host_link::commands::{event_request, get_log_page, set_features};
-use host_link::{Link, Session, SessionFault};
+use host_link::{Link, LinkSession, SessionFault};
 use host_pages::NsList;
 use std::alloc::Global;
 use std::io::Write;
@@ -46,7 +46,7 @@ pub fn changed<L: Link + Drop, W: Write>(
 
 fn tell_change<L: Link + Drop, W: Write>(
     alloc: Global,
-    session: &mut Session<L>,
+    session: &mut LinkSession<L>,
     out: &mut W,
 ) -> Result<(), SessionFault>
     ensures { TellsChange session.old result (W.contents out.old) (W.contents out.new) }
@@ -58,7 +58,7 @@ fn tell_change<L: Link + Drop, W: Write>(
 
 fn await_change<L: Link + Drop, W: Write>(
     alloc: Global,
-    session: &mut Session<L>,
+    session: &mut LinkSession<L>,
     out: &mut W,
 ) -> Result<(), SessionFault>
     ensures { AwaitsChange session.old result (W.contents out.old) (W.contents out.new) }
@@ -72,7 +72,7 @@ fn await_change<L: Link + Drop, W: Write>(
 
 fn tell_list<L: Link + Drop, W: Write>(
     alloc: Global,
-    session: &mut Session<L>,
+    session: &mut LinkSession<L>,
     out: &mut W,
 ) -> Result<(), SessionFault>
     ensures { TellsList session.old result (W.contents out.old) (W.contents out.new) }

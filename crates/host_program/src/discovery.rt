@@ -13,7 +13,7 @@ use crate::opened::open_admin;
 use crate::peers::Peers;
 use crate::printed::print;
 use host_link::commands::get_log_page;
-use host_link::{Link, Session, SessionFault};
+use host_link::{Link, LinkSession, SessionFault};
 use host_pages::{Discover, DiscoveryPage, DiscoveryRecord, Progress, Records};
 use nvt_fields::Nqn;
 use std::alloc::Global;
@@ -51,7 +51,7 @@ fn discover_as<L: Link + Drop, W: Write>(
 
 fn tell_records<L: Link + Drop, W: Write>(
     alloc: Global,
-    session: &mut Session<L>,
+    session: &mut LinkSession<L>,
     out: &mut W,
 ) -> Result<(), CommandFault>
     ensures { TellsRecords session.old result (W.contents out.old) (W.contents out.new) }
@@ -61,13 +61,13 @@ fn tell_records<L: Link + Drop, W: Write>(
     match reading.page() {
         Some(page) => print_had(alloc, &page, out),
         // It was read to its end.
-        None => Err(CommandFault::Session(SessionFault::BadPage)),
+        None => Err(CommandFault::LinkSession(SessionFault::BadPage)),
     }
 }
 
 fn read_page<L: Link + Drop>(
     alloc: Global,
-    session: &mut Session<L>,
+    session: &mut LinkSession<L>,
     reading: &mut Discover,
 ) -> Result<(), CommandFault>
     requires { reading.old ≡ asks 0 [] }
@@ -84,7 +84,7 @@ fn read_page<L: Link + Drop>(
 // Reads what is asked for next.
 fn read_part<L: Link + Drop>(
     alloc: Global,
-    session: &mut Session<L>,
+    session: &mut LinkSession<L>,
     reading: &mut Discover,
 ) -> Result<Progress, CommandFault>
     ensures reads { ReadsPart reading.old result reading.new session.old session.new }
@@ -95,7 +95,7 @@ fn read_part<L: Link + Drop>(
     match ask(session, &command) {
         Ok(bytes) => Ok(reading.answer(Ok(&bytes))?),
         Err(SessionFault::Status(status)) => Ok(reading.answer(Err(status))?),
-        Err(fault) => Err(CommandFault::Session(fault)),
+        Err(fault) => Err(CommandFault::LinkSession(fault)),
     }
 }
 

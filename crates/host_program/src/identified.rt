@@ -5,7 +5,7 @@ ghost use Rattle.host_program.specs.Asking.{AsksBlockLen};
 
 use crate::asked::ask;
 use host_link::commands::identify;
-use host_link::{Link, Session, SessionFault};
+use host_link::{Link, LinkSession, SessionFault};
 use std::alloc::Global;
 
 /// Identify: a namespace (Base 2.0, section 5.17.2.1).
@@ -19,7 +19,7 @@ const LBA_FORMATS: usize = 128;
 /// The length of the blocks of a namespace, in bytes.
 pub(crate) fn ask_block_len<L: Link + Drop>(
     alloc: Global,
-    session: &mut Session<L>,
+    session: &mut LinkSession<L>,
     nsid: u32,
 ) -> Result<u32, SessionFault>
     ensures asks { AsksBlockLen nsid result session.old session.new }

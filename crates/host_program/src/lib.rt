@@ -23,7 +23,7 @@ pub use changes::changed;
 pub use discovery::discover;
 pub use fault::CommandFault;
 pub use host_link::{Blocks, SessionFault};
-pub use links::Links;
+pub use links::HostLinks;
 pub use namespaces::list;
 pub use peers::Peers;
 pub use reading::read;

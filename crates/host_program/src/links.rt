@@ -2,7 +2,7 @@
 
 /// Two links to one controller.
 #[derive(Drop)]
-pub struct Links<A, L> {
+pub struct HostLinks<A, L> {
     /// For its admin queue.
     pub admin: A,
     /// For an I/O queue.

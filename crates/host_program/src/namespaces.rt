@@ -10,7 +10,7 @@ use crate::opened::open_admin;
 use crate::peers::Peers;
 use crate::printed::print;
 use host_link::commands::identify;
-use host_link::{Link, Session, SessionFault};
+use host_link::{Link, LinkSession, SessionFault};
 use host_pages::{ListedNsids, NsList};
 use std::alloc::Global;
 use std::io::Write;
@@ -40,7 +40,7 @@ pub fn list<L: Link + Drop, W: Write>(
 
 fn tell_namespaces<L: Link + Drop, W: Write>(
     alloc: Global,
-    session: &mut Session<L>,
+    session: &mut LinkSession<L>,
     out: &mut W,
 ) -> Result<(), SessionFault>
     ensures { TellsNamespaces session.old result (W.contents out.old) (W.contents out.new) }
@@ -57,7 +57,7 @@ fn tell_namespaces<L: Link + Drop, W: Write>(
 
 fn tell_namespaces_above<L: Link + Drop, W: Write>(
     alloc: Global,
-    session: &mut Session<L>,
+    session: &mut LinkSession<L>,
     above: u32,
     out: &mut W,
 ) -> Result<Option<u32>, SessionFault>

@@ -5,7 +5,7 @@ ghost use Rattle.host_program.specs.Asking.{OpensAdmin};
 ghost use Rattle.host_program.specs.Peers.{io_queue};
 
 use crate::peers::Peers;
-use host_link::{Link, Session, SessionFault};
+use host_link::{Link, LinkSession, SessionFault};
 use std::alloc::Global;
 
 /// The admin queue of a new controller, which is enabled.
@@ -14,11 +14,11 @@ pub(crate) fn open_admin<L: Link + Drop>(
     link: L,
     peers: &Peers,
     turns: u64,
-) -> Result<Session<L>, SessionFault>
+) -> Result<LinkSession<L>, SessionFault>
     ensures { OpensAdmin peers.now (L.state link) turns result }
 {
     let params = peers.admin_queue()?;
-    let mut session = Session::connect(alloc, link, params, turns)?;
+    let mut session = LinkSession::connect(alloc, link, params, turns)?;
     session.enable()?;
     Ok(session)
 }
@@ -28,12 +28,12 @@ pub(crate) fn open_io<A: Link + Drop, L: Link + Drop>(
     alloc: Global,
     link: L,
     peers: &Peers,
-    admin: &Session<A>,
+    admin: &LinkSession<A>,
     in_capsule: u32,
-) -> Result<Session<L>, SessionFault>
+) -> Result<LinkSession<L>, SessionFault>
     requires { in_capsule ≤ 8192 }
     ensures { Connects (io_queue peers.now admin.now.cntlid in_capsule) (L.state link) admin.now.turns result }
 {
     let params = peers.io_queue(admin.cntlid(), in_capsule)?;
-    Session::connect(alloc, link, params, admin.turns())
+    LinkSession::connect(alloc, link, params, admin.turns())
 }

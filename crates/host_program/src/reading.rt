@@ -7,18 +7,18 @@ ghost use Rattle.host_program.specs.Printed.{Prints, blocks_text};
 use crate::asked::ask;
 use crate::identified::ask_block_len;
 use crate::lines::push_hex;
-use crate::links::Links;
+use crate::links::HostLinks;
 use crate::opened::{open_admin, open_io};
 use crate::peers::{IN_CAPSULE, Peers};
 use crate::printed::print;
-use host_link::{Blocks, Link, Session, SessionFault, commands};
+use host_link::{Blocks, Link, LinkSession, SessionFault, commands};
 use std::alloc::Global;
 use std::io::Write;
 
 /// Reads blocks, over two links to one controller, and prints each in hex, one a line.
 pub fn read<A: Link + Drop, L: Link + Drop, W: Write>(
     alloc: Global,
-    links: Links<A, L>,
+    links: HostLinks<A, L>,
     peers: &Peers,
     blocks: Blocks,
     turns: u64,
@@ -33,7 +33,7 @@ pub fn read<A: Link + Drop, L: Link + Drop, W: Write>(
 
 fn read_beside<A: Link + Drop, L: Link + Drop, W: Write>(
     alloc: Global,
-    admin: &mut Session<A>,
+    admin: &mut LinkSession<A>,
     link: L,
     peers: &Peers,
     blocks: Blocks,
@@ -48,7 +48,7 @@ fn read_beside<A: Link + Drop, L: Link + Drop, W: Write>(
 
 fn tell_blocks<L: Link + Drop, W: Write>(
     alloc: Global,
-    io: &mut Session<L>,
+    io: &mut LinkSession<L>,
     blocks: Blocks,
     block_len: u32,
     out: &mut W,

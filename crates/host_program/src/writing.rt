@@ -7,12 +7,12 @@ ghost use Rattle.host_program.specs.Holding.{Holds, HoldsBeside, HoldsBlocks, Ho
 use crate::asked::ask_result;
 use crate::awaited_line::pass_line;
 use crate::identified::ask_block_len;
-use crate::links::Links;
+use crate::links::HostLinks;
 use crate::opened::{open_admin, open_io};
 use crate::peers::{IN_CAPSULE, Peers};
 use crate::printed::{print_text, written};
 use host_driver::HostCommand;
-use host_link::{Blocks, Link, Session, SessionFault, commands};
+use host_link::{Blocks, Link, LinkSession, SessionFault, commands};
 use std::alloc::{AllocError, Global};
 use std::io::{Read, Write};
 
@@ -26,7 +26,7 @@ pub struct Fill {
 /// Writes blocks, over two links to one controller, and prints `ok`.
 pub fn write<A: Link + Drop, L: Link + Drop, W: Write>(
     alloc: Global,
-    links: Links<A, L>,
+    links: HostLinks<A, L>,
     peers: &Peers,
     fill: Fill,
     turns: u64,
@@ -41,7 +41,7 @@ pub fn write<A: Link + Drop, L: Link + Drop, W: Write>(
 
 fn write_beside<A: Link + Drop, L: Link + Drop, W: Write>(
     alloc: Global,
-    admin: &mut Session<A>,
+    admin: &mut LinkSession<A>,
     link: L,
     peers: &Peers,
     fill: Fill,
@@ -56,7 +56,7 @@ fn write_beside<A: Link + Drop, L: Link + Drop, W: Write>(
 
 fn write_over<L: Link + Drop, W: Write>(
     alloc: Global,
-    io: &mut Session<L>,
+    io: &mut LinkSession<L>,
     fill: Fill,
     block_len: u32,
     out: &mut W,
@@ -74,7 +74,7 @@ fn write_over<L: Link + Drop, W: Write>(
 /// `held`, and waits for a line before it sends any: up to its end, to the end of what is read, or to 1,024 bytes.
 pub fn write_held<A: Link + Drop, L: Link + Drop, R: Read, W: Write>(
     alloc: Global,
-    links: Links<A, L>,
+    links: HostLinks<A, L>,
     peers: &Peers,
     fill: Fill,
     turns: u64,
@@ -90,7 +90,7 @@ pub fn write_held<A: Link + Drop, L: Link + Drop, R: Read, W: Write>(
 
 fn hold_beside<A: Link + Drop, L: Link + Drop, R: Read, W: Write>(
     alloc: Global,
-    admin: &mut Session<A>,
+    admin: &mut LinkSession<A>,
     link: L,
     peers: &Peers,
     fill: Fill,
@@ -107,7 +107,7 @@ fn hold_beside<A: Link + Drop, L: Link + Drop, R: Read, W: Write>(
 
 fn hold_over<L: Link + Drop, R: Read, W: Write>(
     alloc: Global,
-    io: &mut Session<L>,
+    io: &mut LinkSession<L>,
     fill: Fill,
     block_len: u32,
     lines: &mut R,
@@ -125,7 +125,7 @@ fn hold_over<L: Link + Drop, R: Read, W: Write>(
 
 // Waits until data are asked for, then for a line, and then for the answer; where the answer comes first, for that.
 fn hold<L: Link + Drop, R: Read, W: Write>(
-    io: &mut Session<L>,
+    io: &mut LinkSession<L>,
     lines: &mut R,
     out: &mut W,
 ) -> Result<(), SessionFault>
@@ -140,7 +140,7 @@ fn hold<L: Link + Drop, R: Read, W: Write>(
 }
 
 fn hold_data<L: Link + Drop, R: Read, W: Write>(
-    io: &mut Session<L>,
+    io: &mut LinkSession<L>,
     lines: &mut R,
     out: &mut W,
 ) -> Result<(), SessionFault>
@@ -155,7 +155,7 @@ fn hold_data<L: Link + Drop, R: Read, W: Write>(
 }
 
 // Whether data are asked for, and not the answer there.
-fn is_requested<L: Link + Drop>(io: &mut Session<L>) -> Result<bool, SessionFault>
+fn is_requested<L: Link + Drop>(io: &mut LinkSession<L>) -> Result<bool, SessionFault>
     ensures { IsRequested result io.old io.new }
 {
     match io.request() {
@@ -164,7 +164,7 @@ fn is_requested<L: Link + Drop>(io: &mut Session<L>) -> Result<bool, SessionFaul
     }
 }
 
-fn await_answer<L: Link + Drop>(io: &mut Session<L>) -> Result<(), SessionFault>
+fn await_answer<L: Link + Drop>(io: &mut LinkSession<L>) -> Result<(), SessionFault>
     ensures { IsAnswered result io.old io.new }
 {
     match io.answer() {

@@ -4,7 +4,7 @@ use crate::command_line;
 use clap::ArgMatches;
 use host_program::{Blocks, Fill, Peers, SessionFault};
 use nvt_fields::{Nqn, NqnFault};
-use program_words::{Refusal, number, parsed, refusal_of, take_words};
+use program_words::{ArgumentsRefusal, number, parsed, refusal_of, take_words};
 use std::alloc::{AllocError, Global};
 use std::net::{IpAddr, SocketAddr};
 use std::rt::Env;
@@ -71,12 +71,12 @@ fn read_words<R: Print + AllocGlobal>(rt: &R, words: &[String]) -> Result<Usage,
     }
 }
 
-fn refused(refusal: Refusal) -> Result<Usage, SessionFault> {
+fn refused(refusal: ArgumentsRefusal) -> Result<Usage, SessionFault> {
     match refusal {
-        Refusal::Help => Ok(Usage::Help),
-        Refusal::Bad => Ok(Usage::Bad),
-        Refusal::Io => Err(SessionFault::Io),
-        Refusal::Memory => Err(SessionFault::Memory),
+        ArgumentsRefusal::Help => Ok(Usage::Help),
+        ArgumentsRefusal::Bad => Ok(Usage::Bad),
+        ArgumentsRefusal::Io => Err(SessionFault::Io),
+        ArgumentsRefusal::Memory => Err(SessionFault::Memory),
     }
 }
 

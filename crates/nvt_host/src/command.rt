@@ -2,7 +2,7 @@
 use crate::arguments::{HostArguments, Verb};
 use host_parts::TcpLink;
 use host_program::{
-    CommandFault, Links, SessionFault, ana, changed, discover, list, read, write, write_held,
+    CommandFault, HostLinks, SessionFault, ana, changed, discover, list, read, write, write_held,
 };
 use std::io::{self, BufWriter, ErrorKind, Write};
 use std::net::{Net, SocketAddr};
@@ -66,8 +66,8 @@ fn both<'a, R: Net + Clock>(
     rt: &'a R,
     address: SocketAddr,
     admin: TcpLink<&'a R>,
-) -> Result<Links<TcpLink<&'a R>, TcpLink<&'a R>>, SessionFault> {
-    Ok(Links {
+) -> Result<HostLinks<TcpLink<&'a R>, TcpLink<&'a R>>, SessionFault> {
+    Ok(HostLinks {
         admin,
         io: connect(rt, address)?,
     })

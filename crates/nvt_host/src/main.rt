@@ -8,7 +8,7 @@ mod command_line;
 mod help;
 
 use arguments::{LabArguments, Usage};
-use host_parts::{Plan, lab};
+use host_parts::{LabPlan, lab};
 use std::fmt::Display;
 use std::net::Net;
 use std::process::{ExitCode, Processes};
@@ -45,8 +45,8 @@ fn finish_lab<R: Processes + Net + Clock + Print + Eprint + AllocGlobal>(
     }
 }
 
-fn plan_of(arguments: &LabArguments) -> Plan<'_> {
-    Plan {
+fn plan_of(arguments: &LabArguments) -> LabPlan<'_> {
+    LabPlan {
         target: arguments.target.as_str(),
         host: arguments.own.as_str(),
         port: arguments.port,

@@ -4,8 +4,8 @@ use Rattle.std.specs.Prelude.{slice_get}
 use Rattle.std.proofs.lemmas.Bool.{cases_Bool, cases_eq, cases_lt}
 use Rattle.std.proofs.lemmas.Bool.Decides.{nat_tests}
 use Rattle.std.proofs.lemmas.Option.{slice_get-get_or}
-use Rattle.nvt_ports.specs.declared.turn_order.Outcome.{Outcome}
-use Rattle.nvt_ports.specs.declared.turn_order.Outcome.TheVariants.{Found, Vain, Rests}
+use Rattle.nvt_ports.specs.declared.turn_order.LookOutcome.{LookOutcome}
+use Rattle.nvt_ports.specs.declared.turn_order.LookOutcome.TheVariants.{Found, Vain, Rests}
 use Rattle.nvt_ports.specs.Lately.{CanBeTried, Order, after_look, behind, due, last_tried, number_in, plan, tired, tried_in_round, with_heard, without}
 use Rattle.nvt_ports.specs.Waiting.{AnyTries, AreLooks, EachIsTried, IsInOrder, IsTried, IsTriedOrNearer, Look, WaitsAreShort, is_among, place_of, steps_to, wait_of}
 use Rattle.nvt_ports.proofs.Places.{among-last, among-tired, among-tired-false, among-without, length-tired, length-with_heard, place-last, place-spoke, place-tired, place-without, place_within, stands_there}
@@ -169,13 +169,13 @@ module _ (tried : ℕ) (o : Order) (s : ℕ) (kept : IsInOrder o) (small : s < 9
       ]
 
 -- past the round
-untried : (tried : ℕ) (outcome : Outcome) (o : Order) (s : ℕ) → IsInOrder o → s < 97 → tried_in_round tried o < steps_to s o.last
+untried : (tried : ℕ) (outcome : LookOutcome) (o : Order) (s : ℕ) → IsInOrder o → s < 97 → tried_in_round tried o < steps_to s o.last
     → CanBeTried tried outcome o → IsTriedOrNearer tried o (after_look tried outcome o) s
 untried tried Found o s kept small ahead can = found tried o s kept small ahead can.0 can.1
 untried tried Vain o s kept small ahead can = in_vain tried o s kept small ahead (after_look tried Vain o) can (among-tired-false (tried - due o) s o.lately) refl (inl refl)
 untried tried Rests o s kept small ahead can = in_vain tried o s kept small ahead (after_look tried Rests o) can (λ _. refl) refl (inr refl)
 
-pub tried_or_nearer : (tried : ℕ) (outcome : Outcome) (o : Order) (s : ℕ) → IsInOrder o → CanBeTried tried outcome o → s < 97
+pub tried_or_nearer : (tried : ℕ) (outcome : LookOutcome) (o : Order) (s : ℕ) → IsInOrder o → CanBeTried tried outcome o → s < 97
     → IsTriedOrNearer tried o (after_look tried outcome o) s
 tried_or_nearer tried outcome o s kept can small =
     elim (cases_lt (tried_in_round tried o) (steps_to s o.last)) [
@@ -198,7 +198,7 @@ keeps_order tried o after kept few last-is cause credit-is =
       ];
     }
 
-pub after_in_order : (tried : ℕ) (outcome : Outcome) (o : Order) → IsInOrder o → CanBeTried tried outcome o → IsInOrder (after_look tried outcome o)
+pub after_in_order : (tried : ℕ) (outcome : LookOutcome) (o : Order) → IsInOrder o → CanBeTried tried outcome o → IsInOrder (after_look tried outcome o)
 after_in_order tried Found o kept can =
     keeps_order tried o (after_look tried Found o) kept
     (length-with_heard (last_tried tried o) (tired (tried - 1 - due o) o.lately) (omega (arith, kept.few, length-tired (tried - 1 - due o) o.lately)))

@@ -2,8 +2,8 @@
 use Rattle.std.specs.Prelude.{◌≡◌, ◌≤◌, ◌<◌, ℕ, zero, suc, ◌+◌, ◌-◌, ◌*◌, ◌/◌, ◌%◌, List, [], ◌∷◌, ◌++◌, filter, length, map, min, nat_eq, nat_lt, not, slice_index, if◌then◌else◌}
 use Rattle.std.specs.List.{range_with_len}
 use Rattle.nvt_ports.specs.declared.turn_order.Lately.{Lately}
-use Rattle.nvt_ports.specs.declared.turn_order.Outcome.{Outcome}
-use Rattle.nvt_ports.specs.declared.turn_order.Outcome.TheVariants.{Found, Vain, Rests}
+use Rattle.nvt_ports.specs.declared.turn_order.LookOutcome.{LookOutcome}
+use Rattle.nvt_ports.specs.declared.turn_order.LookOutcome.TheVariants.{Found, Vain, Rests}
 use Rattle.nvt_ports.specs.Speaker.{speaker_of, patience_of}
 
 -- those who spoke lately, each with how often it is still tried in vain; whom the round of all came to last; and how
@@ -61,18 +61,18 @@ abbrev pub tried_in_round : ℕ → Order → ℕ
 tried_in_round tried o = min tried (due o)
 
 -- The others were of those who spoke lately. Before a pause all count as silent: behind it all are tried.
-abbrev pub lately_after : ℕ → Outcome → Order → List Lately
+abbrev pub lately_after : ℕ → LookOutcome → Order → List Lately
 lately_after tried Found o = with_heard (last_tried tried o) (tired (tried - 1 - due o) o.lately)
 lately_after tried Vain o = tired (tried - due o) o.lately
 lately_after tried Rests o = []
 
 -- after a pause all 97 are due
-abbrev pub credit_after : ℕ → Outcome → Order → ℕ
+abbrev pub credit_after : ℕ → LookOutcome → Order → ℕ
 credit_after tried Found o = o.credit + 1 - 4 * tried_in_round tried o
 credit_after tried Vain o = o.credit + 1 - 4 * tried_in_round tried o
 credit_after tried Rests o = 388
 
-abbrev pub after_look : ℕ → Outcome → Order → Order
+abbrev pub after_look : ℕ → LookOutcome → Order → Order
 after_look tried outcome o = record {
   lately = lately_after tried outcome o;
   last = behind o.last (tried_in_round tried o);
@@ -80,7 +80,7 @@ after_look tried outcome o = record {
 }
 
 -- all in vain, or all but the last, which had something
-abbrev pub CanBeTried : ℕ → Outcome → Order → Type 0
+abbrev pub CanBeTried : ℕ → LookOutcome → Order → Type 0
 CanBeTried tried Found o = (0 < tried) × (tried ≤ length (plan o))
 CanBeTried tried Vain o = tried ≡ length (plan o)
 CanBeTried tried Rests o = tried ≡ length (plan o)

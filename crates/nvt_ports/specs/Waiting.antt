@@ -1,7 +1,7 @@
 -- How long a speaker may go untried, whatever the others do.
 use Rattle.std.specs.Prelude.{◌≡◌, ◌≤◌, ◌<◌, ◌⊎◌, ℕ, ◌+◌, ◌-◌, ◌*◌, Bool, true, false, List, [], ◌∷◌, Some, length, nat_eq, nat_lt, slice_get, if◌then◌else◌}
 use Rattle.nvt_ports.specs.declared.turn_order.Lately.{Lately}
-use Rattle.nvt_ports.specs.declared.turn_order.Outcome.{Outcome}
+use Rattle.nvt_ports.specs.declared.turn_order.LookOutcome.{LookOutcome}
 use Rattle.nvt_ports.specs.Lately.{Order, plan, after_look, CanBeTried}
 
 -- what holds of each order of turns
@@ -42,7 +42,7 @@ IsTriedOrNearer tried before after number = IsTried tried before number ⊎ (wai
 -- how many a look tried, and what came of it
 pub record Look : Type 0 where
   pub tried : ℕ
-  pub outcome : Outcome
+  pub outcome : LookOutcome
 
 -- looks, one after another, each of the order that the one before it left
 abbrev pub AreLooks : Order → List Look → Type 0

@@ -35,20 +35,20 @@ const BEFORE_LEN: u8 = 4;
 /// How far the stream of a host was read: where in the header of a PDU, with as much of its length as came, or how many
 /// bytes of it are still to come.
 #[derive(Clone, Copy)]
-pub struct Walk {
+pub struct StreamWalk {
     pub place: u8,
     pub len: [u8; 4],
     pub left: u32,
 }
 
-impl Walk {
+impl StreamWalk {
     ghost use Rattle.nvt_ports.specs.Portion.{at_first, begun_in, headed, walked};
 
     /// A PDU begins with the next byte.
-    pub fn new() -> Walk
+    pub fn new() -> StreamWalk
         ensures { result ≡ at_first }
     {
-        Walk {
+        StreamWalk {
             place: 0,
             len: [0; 4],
             left: 0,

@@ -23,7 +23,7 @@ pub struct Lately {
 
 /// What came of a look.
 #[derive(Clone, Copy, PartialEq, Eq)]
-pub enum Outcome {
+pub enum LookOutcome {
     /// The last one that was tried had something.
     Found,
     /// None had.
@@ -115,23 +115,23 @@ impl TurnOrder {
 
     /// So many were tried in this look: all in vain, or all but the last, which had something. Each speaker that was
     /// not tried has a shorter wait now.
-    pub fn looked(&mut self, tried: usize, outcome: Outcome)
+    pub fn looked(&mut self, tried: usize, outcome: LookOutcome)
         requires { CanBeTried tried outcome self.old }
         ensures after { self.new ≡ after_look tried outcome self.old }
         ensures nearer { (number : ℕ) → number < 97 → IsTriedOrNearer tried self.old self.new number }
         ensures in_order { IsInOrder self.new }
     {
         match outcome {
-            Outcome::Found => self.found(tried),
-            Outcome::Vain => self.in_vain(tried),
-            Outcome::Rests => self.rests(tried),
+            LookOutcome::Found => self.found(tried),
+            LookOutcome::Vain => self.in_vain(tried),
+            LookOutcome::Rests => self.rests(tried),
         }
     }
 
     // The last one that was tried had something.
     fn found(&mut self, tried: usize)
-        requires { CanBeTried tried Outcome.Found self.old }
-        ensures after { self.new ≡ after_look tried Outcome.Found self.old }
+        requires { CanBeTried tried LookOutcome.Found self.old }
+        ensures after { self.new ≡ after_look tried LookOutcome.Found self.old }
         ensures in_order { IsInOrder self.old }
     {
         let due = self.due();
@@ -145,8 +145,8 @@ impl TurnOrder {
 
     // None had.
     fn in_vain(&mut self, tried: usize)
-        requires { CanBeTried tried Outcome.Vain self.old }
-        ensures after { self.new ≡ after_look tried Outcome.Vain self.old }
+        requires { CanBeTried tried LookOutcome.Vain self.old }
+        ensures after { self.new ≡ after_look tried LookOutcome.Vain self.old }
         ensures in_order { IsInOrder self.old }
     {
         let due = self.due();
@@ -157,8 +157,8 @@ impl TurnOrder {
 
     // None had, and a pause follows.
     fn rests(&mut self, tried: usize)
-        requires { CanBeTried tried Outcome.Rests self.old }
-        ensures after { self.new ≡ after_look tried Outcome.Rests self.old }
+        requires { CanBeTried tried LookOutcome.Rests self.old }
+        ensures after { self.new ≡ after_look tried LookOutcome.Rests self.old }
         ensures in_order { IsInOrder self.old }
     {
         let due = self.due();

@@ -1,8 +1,8 @@
 //! Hosts whose slot was closed before all that was taken for them was sent.
 ghost use Rattle.std.specs.Prelude.{◌≡◌, ◌<◌, length};
 
-use crate::host::Host;
-use crate::hosts::Hosts;
+use crate::host::HostSocket;
+use crate::hosts::HostSockets;
 use crate::network::{Network, Received};
 use nvt_ports::{Linger, Lingering, LingeringHost, SLOTS};
 use std::alloc::{AllocError, Global};
@@ -10,7 +10,7 @@ use std::alloc::{AllocError, Global};
 /// A host that was put aside, or none.
 #[derive(Drop)]
 struct Aside<S> {
-    host: Host<S>,
+    host: HostSocket<S>,
     linger: Linger,
     // Whether it was told that nothing more is sent.
     is_shut: bool,
@@ -71,7 +71,7 @@ impl<S: Drop> Asides<S> {
         let mut asides = Vec::with_capacity(alloc, SLOTS)?;
         for _ in 0..SLOTS {
             asides.push(Aside {
-                host: Host::new(alloc)?,
+                host: HostSocket::new(alloc)?,
                 linger: Linger::begun(0),
                 is_shut: false,
             })?;
@@ -85,7 +85,7 @@ impl<S: Drop> Asides<S> {
     }
 
     /// Puts the host of a slot aside, so that the slot is free.
-    pub fn put(&mut self, hosts: &mut Hosts<S>, slot: usize, now: u64)
+    pub fn put(&mut self, hosts: &mut HostSockets<S>, slot: usize, now: u64)
         requires { slot < 64 }
     {
         let free = (!self.taken).trailing_zeros() as usize;

@@ -4,8 +4,8 @@ ghost use Rattle.nvt_sockets.specs.HandsOut.{FitsPiece};
 
 use crate::network::{Network, Received};
 use nvt_ports::{
-    ConnectWatch, GivenUp, Outbox, PortFault, Portion, Sending, Taking, Tenure, TenureStanding,
-    Walk, piece_len,
+    ConnectWatch, GivenUp, Outbox, PortFault, Portion, Sending, StreamWalk, Taking, Tenure,
+    TenureStanding, piece_len,
 };
 use std::alloc::{AllocError, Global};
 use std::mem;
@@ -25,7 +25,7 @@ enum Peer<S> {
 
 /// What came of a call for a host.
 #[derive(Clone, Copy)]
-pub struct Sent {
+pub struct SentBytes {
     /// What became of the bytes that waited.
     pub sending: Sending,
     /// How many were taken since the call before.
@@ -36,9 +36,9 @@ pub struct Sent {
 
 /// A host, or none, with the bytes that were taken for it.
 #[derive(Drop)]
-pub struct Host<S> {
+pub struct HostSocket<S> {
     peer: Peer<S>,
-    walk: Walk,
+    walk: StreamWalk,
     portion: Portion,
     outbox: Outbox,
     // Whether not all was taken that was offered last.
@@ -47,17 +47,17 @@ pub struct Host<S> {
     tenure: Tenure,
 }
 
-impl<S: Drop> Host<S> {
+impl<S: Drop> HostSocket<S> {
     ghost use Rattle.nvt_sockets.specs.Host.{has_socket};
     ghost use Rattle.nvt_ports.specs.Kept.{room_of};
     ghost use Rattle.nvt_ports.specs.Outbox.{standing_of};
     ghost use Rattle.nvt_ports.specs.Sending.{Decides};
 
     /// None yet.
-    pub fn new(alloc: Global) -> Result<Host<S>, AllocError> {
-        Ok(Host {
+    pub fn new(alloc: Global) -> Result<HostSocket<S>, AllocError> {
+        Ok(HostSocket {
             peer: Peer::Absent,
-            walk: Walk::new(),
+            walk: StreamWalk::new(),
             portion: Portion::new(),
             outbox: Outbox::new(alloc)?,
             is_stuck: false,
@@ -75,7 +75,7 @@ impl<S: Drop> Host<S> {
     /// Closes its socket, and forgets what is kept.
     pub fn forget(&mut self) {
         self.peer = Peer::Absent;
-        self.walk = Walk::new();
+        self.walk = StreamWalk::new();
         self.portion = Portion::new();
         self.outbox.clear();
         self.is_stuck = false;
@@ -226,7 +226,7 @@ impl<S: Drop> Host<S> {
     }
 
     /// A call begins: what is kept is sent, is joined with more, or waits.
-    pub fn call<N: Network<Stream = S>>(&mut self, network: &mut N, is_answered: bool) -> Sent
+    pub fn call<N: Network<Stream = S>>(&mut self, network: &mut N, is_answered: bool) -> SentBytes
         ensures sending { Decides result.sending (standing_of is_answered self.old.outbox) }
         ensures taken { result.taken ≡ self.old.outbox.taken }
         ensures stays { result.sending ≢ Sending.Now → self.new.outbox.kept ≡ self.old.outbox.kept }
@@ -234,7 +234,7 @@ impl<S: Drop> Host<S> {
         let taken = self.outbox.taken;
         let sending = self.outbox.call(is_answered);
         let is_moving = sending == Sending::Now && self.send(network);
-        Sent {
+        SentBytes {
             sending,
             taken,
             is_moving,

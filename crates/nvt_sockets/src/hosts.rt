@@ -2,7 +2,7 @@
 ghost use Rattle.std.specs.Prelude.{◌≡◌, ◌<◌, ◌≤◌, IfOk, length};
 ghost use Rattle.nvt_sockets.specs.HandsOut.{FitsPiece};
 
-use crate::host::{Host, Sent};
+use crate::host::{HostSocket, SentBytes};
 use crate::network::{Network, Received};
 use nvt_ports::{GivenUp, PIECE_MAX, PortFault, SLOTS, Sending};
 use std::alloc::{AllocError, Global};
@@ -20,21 +20,21 @@ pub struct Calls {
 
 /// A host, or none, in each slot.
 #[derive(Drop)]
-pub struct Hosts<S> {
-    hosts: Vec<Host<S>>,
+pub struct HostSockets<S> {
+    hosts: Vec<HostSocket<S>>,
     // A bit for each slot for whose host something is kept.
     kept: u64,
     ghost whole: { length hosts.items ≡ 64 },
 }
 
-impl<S: Drop> Hosts<S> {
+impl<S: Drop> HostSockets<S> {
     /// None yet.
-    pub fn new(alloc: Global) -> Result<Hosts<S>, AllocError> {
+    pub fn new(alloc: Global) -> Result<HostSockets<S>, AllocError> {
         let mut hosts = Vec::with_capacity(alloc, SLOTS)?;
         for _ in 0..SLOTS {
-            hosts.push(Host::new(alloc)?)?;
+            hosts.push(HostSocket::new(alloc)?)?;
         }
-        Ok(Hosts { hosts, kept: 0 })
+        Ok(HostSockets { hosts, kept: 0 })
     }
 
     /// One has connected, in a slot that is free.
@@ -112,7 +112,7 @@ impl<S: Drop> Hosts<S> {
         network: &mut N,
         slot: usize,
         is_answered: bool,
-    ) -> Sent
+    ) -> SentBytes
         requires { slot < 64 }
     {
         let sent = self.hosts[slot].call(network, is_answered);
@@ -131,7 +131,7 @@ impl<S: Drop> Hosts<S> {
     }
 
     /// Leaves the host of a slot in the place of another, which is none.
-    pub fn swap_out(&mut self, slot: usize, place: &mut Host<S>)
+    pub fn swap_out(&mut self, slot: usize, place: &mut HostSocket<S>)
         requires { slot < 64 }
     {
         place.forget();
@@ -147,7 +147,7 @@ fn bit(slot: usize) -> u64
 }
 
 // With what came of the call for one host more.
-fn with(calls: Calls, sent: Sent) -> Calls {
+fn with(calls: Calls, sent: SentBytes) -> Calls {
     let joins = sent.sending == Sending::Joins;
     Calls {
         joins: calls.joins || joins,

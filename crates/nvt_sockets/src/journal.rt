@@ -24,7 +24,7 @@ pub enum Log {
 
 /// What is known of the connection of a slot.
 #[derive(Drop)]
-struct Entry {
+struct JournalEntry {
     number: u64,
     watch: ConnectionWatch,
     // How it ended, where that is known before its slot is closed.
@@ -67,7 +67,7 @@ impl Pen {
 #[derive(Drop)]
 pub struct Journal {
     // One for each slot; none where nothing is told.
-    entries: Vec<Entry>,
+    entries: Vec<JournalEntry>,
     // How many hosts connected.
     opened: u64,
     // The line of edits that was handed out last.
@@ -198,14 +198,14 @@ pub fn ending_of(why: GivenUp) -> Ending {
     }
 }
 
-fn make_entries(alloc: Global, log: Log) -> Result<Vec<Entry>, AllocError> {
+fn make_entries(alloc: Global, log: Log) -> Result<Vec<JournalEntry>, AllocError> {
     let count = match log {
         Log::Printed => SLOTS,
         Log::Quiet => 0,
     };
     let mut entries = Vec::with_capacity(alloc, count)?;
     for _ in 0..count {
-        entries.push(Entry {
+        entries.push(JournalEntry {
             number: 0,
             watch: ConnectionWatch::new(alloc)?,
             ending: None,

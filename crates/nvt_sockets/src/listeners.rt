@@ -22,7 +22,7 @@ struct Listener<L> {
 
 /// A host that connected, and the port of the configuration that it connected to.
 #[derive(Drop)]
-pub struct Accepted<S> {
+pub struct AcceptedHost<S> {
     pub stream: S,
     pub peer: SocketAddr,
     pub port: u16,
@@ -106,12 +106,12 @@ impl<L: Drop> Listeners<L> {
         &self,
         network: &mut N,
         place: usize,
-    ) -> Option<Accepted<N::Stream>> {
+    ) -> Option<AcceptedHost<N::Stream>> {
         let listener = self.listeners.get(place)?;
         match &listener.socket {
             Some(socket) => {
                 let (stream, peer) = network.accept(socket)?;
-                Some(Accepted {
+                Some(AcceptedHost {
                     stream,
                     peer,
                     port: listener.port,

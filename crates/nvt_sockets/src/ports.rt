@@ -13,7 +13,7 @@ use arrayvec::ArrayString;
 use connection_log::Ending;
 use nvt_config::Config;
 use nvt_ports::{
-    EditPace, GivenUp, Looks, Outcome, PIECE_MAX, Pause, PortEvent, PortFault, Ports, SLOTS,
+    EditPace, GivenUp, LookOutcome, Looks, PIECE_MAX, Pause, PortEvent, PortFault, Ports, SLOTS,
     Speaker, TurnOrder,
 };
 use std::alloc::Global;
@@ -273,7 +273,7 @@ impl<N: Network + Drop> SocketPorts<N> {
         ensures in_use { self.new.sockets.in_use ≡ self.old.sockets.in_use }
         ensures faults { self.new.faults ≡ self.old.faults }
     {
-        self.order.looked(tried, Outcome::Found);
+        self.order.looked(tried, LookOutcome::Found);
         self.pause = Pause::new();
         if calls.joins {
             self.looks.looked(true);
@@ -290,15 +290,15 @@ impl<N: Network + Drop> SocketPorts<N> {
             self.looks.looked(false);
         }
         if calls.joins || calls.is_moving {
-            self.order.looked(tried, Outcome::Vain);
+            self.order.looked(tried, LookOutcome::Vain);
             return;
         }
         match self.next_pause() {
             Some(micros) => {
                 self.network.sleep(micros);
-                self.order.looked(tried, Outcome::Rests);
+                self.order.looked(tried, LookOutcome::Rests);
             }
-            None => self.order.looked(tried, Outcome::Vain),
+            None => self.order.looked(tried, LookOutcome::Vain),
         }
     }
 

@@ -5,9 +5,9 @@ ghost use Rattle.nvt_sockets.specs.HandsOut.{Tries};
 use crate::aside::Asides;
 use crate::control::Control;
 use crate::editor::Heard;
-use crate::hosts::{Calls, Hosts};
+use crate::hosts::{Calls, HostSockets};
 use crate::journal::Journal;
-use crate::listeners::{Accepted, Listeners};
+use crate::listeners::{AcceptedHost, Listeners};
 use crate::network::{Network, Received};
 use crate::speech::Speech;
 use connection_log::Ending;
@@ -36,7 +36,7 @@ pub struct Sockets<L, S> {
     pub gone: u64,
     control: Control<L, S>,
     listeners: Listeners<L>,
-    hosts: Hosts<S>,
+    hosts: HostSockets<S>,
     asides: Asides<S>,
 }
 
@@ -54,7 +54,7 @@ impl<L: Drop, S: Drop> Sockets<L, S> {
             gone: 0,
             control: Control::open(network, alloc, control)?,
             listeners: Listeners::new(alloc)?,
-            hosts: Hosts::new(alloc)?,
+            hosts: HostSockets::new(alloc)?,
             asides: Asides::new(alloc)?,
         })
     }
@@ -121,7 +121,7 @@ impl<L: Drop, S: Drop> Sockets<L, S> {
         ensures { Tries self.old.in_use room.now (length buf.old) result self.new.in_use }
     {
         match speaker {
-            Speaker::Host(slot) => self.try_host(network, journal, slot, room, buf),
+            Speaker::HostSocket(slot) => self.try_host(network, journal, slot, room, buf),
             Speaker::Port(place) => self.try_port(network, journal, place),
             Speaker::Control => {
                 if self.control.accept(network, buf) {
@@ -186,7 +186,7 @@ impl<L: Drop, S: Drop> Sockets<L, S> {
     ) -> Tried
         ensures { (room : List ℕ) → (len : ℕ) → Tries self.old.in_use room len result self.new.in_use }
     {
-        let Some(Accepted { stream, peer, port }) = self.listeners.accept(network, place) else {
+        let Some(AcceptedHost { stream, peer, port }) = self.listeners.accept(network, place) else {
             return Tried::Nothing;
         };
         let Some(slot) = free_slot(&self.in_use) else {

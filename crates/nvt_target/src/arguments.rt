@@ -2,7 +2,7 @@
 
 use crate::command_line;
 use clap::ArgMatches;
-use program_words::{Refusal, number, parsed, refusal_of, take_words};
+use program_words::{ArgumentsRefusal, number, parsed, refusal_of, take_words};
 use std::alloc::{AllocError, Global};
 use std::rt::Env;
 use target_programs::{
@@ -37,12 +37,12 @@ fn read_words<R: Print + AllocGlobal>(rt: &R, words: &[String]) -> Result<Usage,
     }
 }
 
-fn refused(refusal: Refusal) -> Result<Usage, ReplayFault> {
+fn refused(refusal: ArgumentsRefusal) -> Result<Usage, ReplayFault> {
     match refusal {
-        Refusal::Help => Ok(Usage::Help),
-        Refusal::Bad => Ok(Usage::Bad),
-        Refusal::Io => Err(ReplayFault::Io),
-        Refusal::Memory => Err(ReplayFault::Memory),
+        ArgumentsRefusal::Help => Ok(Usage::Help),
+        ArgumentsRefusal::Bad => Ok(Usage::Bad),
+        ArgumentsRefusal::Io => Err(ReplayFault::Io),
+        ArgumentsRefusal::Memory => Err(ReplayFault::Memory),
     }
 }
 

@@ -8,7 +8,7 @@ use std::{env, io};
 
 /// How a program ends whose words are none of its commands.
 #[derive(Clone, Copy, Debug, PartialEq, Eq)]
-pub enum Refusal {
+pub enum ArgumentsRefusal {
     /// The help was asked for, and is printed.
     Help,
     /// The words are bad.
@@ -48,13 +48,13 @@ pub fn parsed<'a>(
 }
 
 /// How a program ends by this error of its words: prints the help, where they ask for it.
-pub fn refusal_of<R: Print>(rt: &R, error: &Error) -> Refusal {
+pub fn refusal_of<R: Print>(rt: &R, error: &Error) -> ArgumentsRefusal {
     match error.kind() {
         ErrorKind::DisplayHelp => match rt.print(error) {
-            Ok(()) => Refusal::Help,
-            Err(_) => Refusal::Io,
+            Ok(()) => ArgumentsRefusal::Help,
+            Err(_) => ArgumentsRefusal::Io,
         },
-        ErrorKind::OutOfMemory => Refusal::Memory,
-        _ => Refusal::Bad,
+        ErrorKind::OutOfMemory => ArgumentsRefusal::Memory,
+        _ => ArgumentsRefusal::Bad,
     }
 }

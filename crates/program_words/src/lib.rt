@@ -7,5 +7,5 @@ mod given;
 mod numbers;
 
 pub use declared::{port_option, turns, with, with_command};
-pub use given::{Refusal, parsed, refusal_of, take_words};
+pub use given::{ArgumentsRefusal, parsed, refusal_of, take_words};
 pub use numbers::number;

@@ -3,7 +3,7 @@ use crate::commands::base::target_after;
 use crate::links::{SharedTarget, TURNS, TargetLink};
 use host_driver::HostParams;
 use host_link::commands::get_log_page;
-use host_link::{Link, Session, SessionFault};
+use host_link::{Link, LinkSession, SessionFault};
 use host_pages::{Discover, DiscoverFault, GetLog, Progress};
 use nvt_config::{Access, Family};
 use nvt_fields::{DISCOVERY_NQN, Nqn};
@@ -37,7 +37,7 @@ fn done(reads: usize, genctr: u64, records: u16) -> Ran {
 }
 
 // An admin queue of a discovery controller, for host H1.
-fn opened(alloc: Global, target: &SharedTarget) -> Option<Session<TargetLink<'_>>> {
+fn opened(alloc: Global, target: &SharedTarget) -> Option<LinkSession<TargetLink<'_>>> {
     let params = HostParams {
         qid: 0,
         sqsize: 31,
@@ -49,7 +49,7 @@ fn opened(alloc: Global, target: &SharedTarget) -> Option<Session<TargetLink<'_>
         in_capsule: 8192,
     };
     let link = target.link().ok()?;
-    let mut session = Session::connect(alloc, link, params, TURNS).ok()?;
+    let mut session = LinkSession::connect(alloc, link, params, TURNS).ok()?;
     session.enable().ok()?;
     Some(session)
 }
@@ -57,7 +57,7 @@ fn opened(alloc: Global, target: &SharedTarget) -> Option<Session<TargetLink<'_>
 // Gives a reading what the target answers.
 fn answer<L: Link + Drop>(
     alloc: Global,
-    session: &mut Session<L>,
+    session: &mut LinkSession<L>,
     reading: &mut Discover,
 ) -> Option<Result<Progress, DiscoverFault>> {
     let GetLog { offset, len } = reading.ask();

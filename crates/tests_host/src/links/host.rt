@@ -2,7 +2,7 @@
 use crate::links::joined::{EditedLink, TargetLink};
 use crate::links::target::SharedTarget;
 use host_program::{
-    Blocks, CommandFault, Fill, Links, Peers, SessionFault, ana, changed, discover, list, read,
+    Blocks, CommandFault, Fill, HostLinks, Peers, SessionFault, ana, changed, discover, list, read,
     write, write_held,
 };
 use nvt_fields::{Nqn, NqnFault};
@@ -46,8 +46,8 @@ impl<'a> JoinedHost<'a> {
     }
 
     // Two links to the target.
-    fn links(&self) -> Result<Links<TargetLink<'a>, TargetLink<'a>>, SessionFault> {
-        Ok(Links {
+    fn links(&self) -> Result<HostLinks<TargetLink<'a>, TargetLink<'a>>, SessionFault> {
+        Ok(HostLinks {
             admin: self.target.link()?,
             io: self.target.link()?,
         })

@@ -1,6 +1,6 @@
 use Rattle.std.proofs.Common.{◌≡◌, ◌+◌, ◌-◌, ◌*◌, length, min, ap, sym, subst, ◌∙◌, arith}
 use Rattle.std.proofs.lemmas.Option.{get_or_from_slice_get}
-use Rattle.nvt_ports.specs.declared.turn_order.Outcome.TheVariants.{Found}
+use Rattle.nvt_ports.specs.declared.turn_order.LookOutcome.TheVariants.{Found}
 use Rattle.nvt_ports.specs.Lately.{Order, after_look, behind, due, last_tried, plan, tired, tried_in_round, with_heard}
 use Rattle.nvt_ports.specs.Waiting.{IsInOrder}
 use Rattle.nvt_ports.proofs.Plans.{length-plan, same_order}

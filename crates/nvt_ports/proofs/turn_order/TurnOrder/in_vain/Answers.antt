@@ -1,5 +1,5 @@
 use Rattle.std.proofs.Common.{◌≡◌, ◌+◌, ◌-◌, ◌*◌, length, ap, sym, subst, ◌∙◌, arith}
-use Rattle.nvt_ports.specs.declared.turn_order.Outcome.TheVariants.{Vain}
+use Rattle.nvt_ports.specs.declared.turn_order.LookOutcome.TheVariants.{Vain}
 use Rattle.nvt_ports.specs.Lately.{Order, after_look, behind, due, tired, tried_in_round}
 use Rattle.nvt_ports.specs.Waiting.{IsInOrder}
 use Rattle.nvt_ports.proofs.Plans.{length-plan, same_order}

@@ -1,15 +1,15 @@
 use Rattle.std.proofs.Common.{◌≡◌, ◌<◌, ℕ, sym, subst}
-use Rattle.nvt_ports.specs.declared.turn_order.Outcome.{Outcome}
-use Rattle.nvt_ports.specs.declared.turn_order.Outcome.TheVariants.{Found, Vain, Rests}
+use Rattle.nvt_ports.specs.declared.turn_order.LookOutcome.{LookOutcome}
+use Rattle.nvt_ports.specs.declared.turn_order.LookOutcome.TheVariants.{Found, Vain, Rests}
 use Rattle.nvt_ports.specs.Lately.{CanBeTried, Order, after_look}
 use Rattle.nvt_ports.specs.Waiting.{IsInOrder, IsTriedOrNearer}
 use Rattle.nvt_ports.proofs.Waits.{after_in_order, tried_or_nearer}
 use Rattle.nvt_ports.proofs.turn_order.TurnOrder.looked.Goals as goal
 
-can_be : (tried : ℕ) (outcome this : Outcome) (o : Order) → outcome ≡ this → CanBeTried tried outcome o → CanBeTried tried this o
-can_be tried outcome this o is can = subst (λ (other : Outcome). CanBeTried tried other o) is can
+can_be : (tried : ℕ) (outcome this : LookOutcome) (o : Order) → outcome ≡ this → CanBeTried tried outcome o → CanBeTried tried this o
+can_be tried outcome this o is can = subst (λ (other : LookOutcome). CanBeTried tried other o) is can
 
-nearer : (tried : ℕ) (outcome : Outcome) (o after : Order) → after ≡ after_look tried outcome o → IsInOrder o → CanBeTried tried outcome o
+nearer : (tried : ℕ) (outcome : LookOutcome) (o after : Order) → after ≡ after_look tried outcome o → IsInOrder o → CanBeTried tried outcome o
     → (s : ℕ) → s < 97 → IsTriedOrNearer tried o after s
 nearer tried outcome o after is kept can s small =
     subst (λ (p : Order). IsTriedOrNearer tried o p s) (sym is) (tried_or_nearer tried outcome o s kept can small)

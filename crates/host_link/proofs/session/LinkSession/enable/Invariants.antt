@@ -1,5 +1,5 @@
 use Rattle.host_link.proofs.Asking.{Asking}
-use Rattle.host_link.proofs.session.Session.enable.Given as goal
+use Rattle.host_link.proofs.session.LinkSession.enable.Given as goal
 
 abbrev pub invariant-loop-status : goal.invariant-loop-status
 invariant-loop-status g l = Asking l.initial.self l.self

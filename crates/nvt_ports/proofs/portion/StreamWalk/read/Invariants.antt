@@ -1,6 +1,6 @@
 use Rattle.std.proofs.Common.{◌≡◌, ◌≤◌, ◌+◌, ◌-◌, length, drop}
 use Rattle.nvt_ports.specs.Portion.{begun_in, walked}
-use Rattle.nvt_ports.proofs.portion.Walk.read.Given as goal
+use Rattle.nvt_ports.proofs.portion.StreamWalk.read.Given as goal
 
 -- what was counted, and what is still to be, are all; and the way left leads to where the whole way does
 abbrev pub invariant-loop-at : goal.invariant-loop-at

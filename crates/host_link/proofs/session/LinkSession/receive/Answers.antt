@@ -1,6 +1,6 @@
 use Rattle.std.proofs.lemmas.Result.{err_from_is_err_and}
 use Rattle.host_link.proofs.Parts.{receives_err, receives_ok}
-use Rattle.host_link.proofs.session.Session.receive.Goals as goal
+use Rattle.host_link.proofs.session.LinkSession.receive.Goals as goal
 
 pub returns-in_err-received : goal.returns-in_err-received
 returns-in_err-received g c =

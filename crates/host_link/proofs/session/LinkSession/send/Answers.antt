@@ -1,5 +1,5 @@
 use Rattle.host_link.proofs.Parts.{sends_some}
-use Rattle.host_link.proofs.session.Session.send.Goals as goal
+use Rattle.host_link.proofs.session.LinkSession.send.Goals as goal
 
 pub returns : goal.returns
 returns g c =

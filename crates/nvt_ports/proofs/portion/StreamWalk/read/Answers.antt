@@ -1,6 +1,6 @@
 use Rattle.std.proofs.Common.{◌≤◌, ◌-◌, ◌+◌, ◌∙◌, length, ap, arith}
 use Rattle.nvt_ports.proofs.Walks.{begun_in-drop, walked-drop}
-use Rattle.nvt_ports.proofs.portion.Walk.read.Goals as goal
+use Rattle.nvt_ports.proofs.portion.StreamWalk.read.Goals as goal
 
 pub loop-at-preserved : goal.loop-at-preserved
 loop-at-preserved c =

@@ -2,7 +2,7 @@ use Rattle.std.proofs.Common.{Ok, Err, refl, arith}
 use Rattle.std.proofs.lemmas.Result.{err_from_is_err_and}
 use Rattle.host_driver.specs.declared.answer.HostStep.TheVariants as step
 use Rattle.host_link.proofs.Turning.{steps_end, telling, tells_more}
-use Rattle.host_link.proofs.session.Session.steps.Goals as goal
+use Rattle.host_link.proofs.session.LinkSession.steps.Goals as goal
 
 pub returns-in_err-step : goal.returns-in_err-step
 returns-in_err-step g c =

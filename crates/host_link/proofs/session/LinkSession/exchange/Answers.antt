@@ -2,7 +2,7 @@ use Rattle.std.proofs.Common.{Ok, Err, refl}
 use Rattle.std.specs.Prelude.{Some, None}
 use Rattle.std.proofs.lemmas.Result.{err_from_is_err_and}
 use Rattle.host_link.proofs.Turning.{moves, moves_faulty}
-use Rattle.host_link.proofs.session.Session.exchange.Goals as goal
+use Rattle.host_link.proofs.session.LinkSession.exchange.Goals as goal
 
 pub returns-in_err-sent-in-Ok-None : goal.returns-in_err-sent-in-Ok-None
 returns-in_err-sent-in-Ok-None g c =

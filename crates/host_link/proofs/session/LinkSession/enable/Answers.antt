@@ -1,5 +1,5 @@
 use Rattle.host_link.proofs.Asking.{asks_on}
-use Rattle.host_link.proofs.session.Session.enable.Goals as goal
+use Rattle.host_link.proofs.session.LinkSession.enable.Goals as goal
 
 pub loop-status-preserved : goal.loop-status-preserved
 loop-status-preserved g c =

@@ -3,7 +3,7 @@ use Rattle.std.proofs.lemmas.Result.{err_from_is_err_and}
 use Rattle.host_link.specs.Session.{request_by}
 use Rattle.host_link.specs.Waiting.{is_asked}
 use Rattle.host_link.proofs.Waited.{requests_told, waits_on}
-use Rattle.host_link.proofs.session.Session.request.Goals as goal
+use Rattle.host_link.proofs.session.LinkSession.request.Goals as goal
 
 pub returns-in_err-step-clause-does : goal.returns-in_err-step-clause-does
 returns-in_err-step-clause-does g c =
