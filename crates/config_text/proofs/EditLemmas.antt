@@ -24,8 +24,8 @@ use Rattle.config_text.specs.EditLine.{IsEditOf, IsLineOf, IsSayable, command_of
 use Rattle.config_text.specs.Said.{IsSaidBy}
 use Rattle.config_text.specs.Operand.{IsSaid, Value, access, allows, family, form_of, kind_of, name, number, state, text, uuid, visibility, word_of}
 use Rattle.config_text.specs.Words.{command_fault, forms_fault, line_fault, verb_fault, words, words_fault}
-use Rattle.config_text.specs.declared.command.Command.{Command}
-use Rattle.config_text.specs.declared.command.Command.TheVariants as command
+use Rattle.config_text.specs.declared.command.EditCommand.{EditCommand}
+use Rattle.config_text.specs.declared.command.EditCommand.TheVariants as command
 use Rattle.config_text.specs.declared.fault.LineFaultKind.TheVariants.{UnknownWord}
 use Rattle.config_text.specs.declared.operand.Form.{Form}
 use Rattle.config_text.specs.declared.operand.Form.TheVariants as form
@@ -41,13 +41,13 @@ words-join word [] all = slice_split_none (λ b. b == 32) word (all.0).no_space
 words-join word (next ∷ ws) all = slice_split_at (λ b. b == 32) word 32 (join_with_byte 32 (next ∷ ws)) (all.0).no_space refl ∙ ap (λ l. word ∷ l) (words-join next ws all.1)
 
 -- the two words that a command begins with are plain, the first is known, and no other command begins with both
-record HasWords (c : Command) : Type 0 where
+record HasWords (c : EditCommand) : Type 0 where
   noun : is_plain (grammar_of c).noun ≡ true
   verb : is_plain (grammar_of c).verb ≡ true
   known_noun : is_noun (grammar_of c).noun ≡ true
   known : command_from (grammar_of c).noun (grammar_of c).verb ≡ Some c
 
-has_words : (c : Command) → HasWords c
+has_words : (c : EditCommand) → HasWords c
 has_words command.SubsystemAdd = record { noun = refl; verb = refl; known_noun = refl; known = refl }
 has_words command.SubsystemSet = record { noun = refl; verb = refl; known_noun = refl; known = refl }
 has_words command.SubsystemDel = record { noun = refl; verb = refl; known_noun = refl; known = refl }
@@ -143,7 +143,7 @@ abbrev namespace_of : List Value → NewNamespace
 namespace_of vs = record { subsystem = bytes_of (at vs 0); nsid = number_of (at vs 1); disk = number_of (at vs 2); blocks = number_of (at vs 3); block_size = number_of (at vs 4); uuid = bytes_of (at vs 5); group = number_of (at vs 6) }
 
 -- the edit of a command and values
-abbrev edit_of : Command → List Value → Edit
+abbrev edit_of : EditCommand → List Value → Edit
 edit_of command.SubsystemAdd vs = edit.SubsystemAdd (bytes_of (at vs 0)) (bytes_of (at vs 1)) (access_of (at vs 2))
 edit_of command.SubsystemSet vs = edit.SubsystemSet (bytes_of (at vs 0)) (access_of (at vs 1))
 edit_of command.SubsystemDel vs = edit.SubsystemDel (bytes_of (at vs 0))
@@ -346,7 +346,7 @@ one_edit line e f is_e is_f =
     same_edit e f is_e.sayable is_f.sayable (sym (words-line_of e is_e.sayable) ∙ ap words (sym is_e.is_line ∙ is_f.is_line) ∙ words-line_of f is_f.sayable)
 
 -- what a line without a fault says is the edit that is made of it
-pub line_from : (line : List ℕ) (c : Command) (vs : List Value) (e : Edit) → IsSaidBy line c vs → IsEditOf c vs e → IsLineOf line e
+pub line_from : (line : List ℕ) (c : EditCommand) (vs : List Value) (e : Edit) → IsSaidBy line c vs → IsEditOf c vs e → IsLineOf line e
 line_from line c vs e said is = record {
   sayable = subst (AllByRecursion IsSaid) (sym is.values_are) said.said;
   is_line = sym (join_with_byte-slice_split 32 line) ∙ ap (join_with_byte 32) said.words_are

@@ -10,7 +10,7 @@ use Rattle.std.proofs.lemmas.List.Sums.{fails_before_first}
 use Rattle.std.specs.Borrow.{Bor}
 use Rattle.config_text.specs.Command.{command_from, commands, grammar_of, is_noun}
 use Rattle.config_text.specs.Words.{absence, fault, forms_fault, verb_fault, word_fault, words, words_fault, words_in}
-use Rattle.config_text.specs.declared.command.Command.{Command}
+use Rattle.config_text.specs.declared.command.EditCommand.{EditCommand}
 use Rattle.config_text.specs.declared.fault.LineFault.{LineFault}
 use Rattle.config_text.specs.declared.fault.LineFaultKind.{LineFaultKind}
 use Rattle.config_text.specs.declared.fault.LineFaultKind.TheVariants.{Empty, UnknownWord}
@@ -76,7 +76,7 @@ find_some : {X : Type 0} (p : X → Bool) (xs : List X) (x : X) → find p xs �
 find_some p [] x is = cc
 find_some p (y ∷ ys) x is = by_first p y ys x (find_some p ys x) (p y) refl is
 
-pub command_words : (noun verb : List ℕ) (command : Command) → command_from noun verb ≡ Some command → ((grammar_of command).noun ≡ noun) × ((grammar_of command).verb ≡ verb)
+pub command_words : (noun verb : List ℕ) (command : EditCommand) → command_from noun verb ≡ Some command → ((grammar_of command).noun ≡ noun) × ((grammar_of command).verb ≡ verb)
 command_words noun verb command is =
     let passes = find_some (λ c. bytes_eq (grammar_of c).noun noun && bytes_eq (grammar_of c).verb verb) commands command is in
     let both = both_true (bytes_eq (grammar_of command).noun noun) (bytes_eq (grammar_of command).verb verb) passes in

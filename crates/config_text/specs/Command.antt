@@ -2,8 +2,8 @@
 use Rattle.std.specs.Prelude.{ℕ, Bool, ◌&&◌, List, [], ◌∷◌, codes, Option, find}
 use Rattle.std.specs.List.{list_any}
 use Rattle.std.specs.Str.{bytes_eq}
-use Rattle.config_text.specs.declared.command.Command.{Command}
-use Rattle.config_text.specs.declared.command.Command.TheVariants.{SubsystemAdd, SubsystemSet, SubsystemDel, NamespaceAdd, NamespaceSize, NamespaceGroup, NamespaceDel, NamespaceView, NamespaceShow, NamespaceHide, PortAdd, PortSet, PortDel, LinkAdd, LinkDel, HostAdd, HostDel, AllowAdd, AllowDel, AnaSet, ReferralAdd, ReferralSet, ReferralDel}
+use Rattle.config_text.specs.declared.command.EditCommand.{EditCommand}
+use Rattle.config_text.specs.declared.command.EditCommand.TheVariants.{SubsystemAdd, SubsystemSet, SubsystemDel, NamespaceAdd, NamespaceSize, NamespaceGroup, NamespaceDel, NamespaceView, NamespaceShow, NamespaceHide, PortAdd, PortSet, PortDel, LinkAdd, LinkDel, HostAdd, HostDel, AllowAdd, AllowDel, AnaSet, ReferralAdd, ReferralSet, ReferralDel}
 use Rattle.config_text.specs.declared.operand.Form.{Form}
 use Rattle.config_text.specs.declared.operand.Form.TheVariants.{Number, Name, Text, Uuid, Family, Access, Visibility, State}
 
@@ -16,7 +16,7 @@ pub record Grammar : Type 0 where
 abbrev endpoint : List Form
 endpoint = Number ∷ Family ∷ Text ∷ Number ∷ []
 
-abbrev pub grammar_of : Command → Grammar
+abbrev pub grammar_of : EditCommand → Grammar
 grammar_of SubsystemAdd = record { noun = codes "subsys"; verb = codes "add"; forms = Name ∷ Text ∷ Access ∷ [] }
 grammar_of SubsystemSet = record { noun = codes "subsys"; verb = codes "set"; forms = Name ∷ Access ∷ [] }
 grammar_of SubsystemDel = record { noun = codes "subsys"; verb = codes "del"; forms = Name ∷ [] }
@@ -41,7 +41,7 @@ grammar_of ReferralAdd = record { noun = codes "ref"; verb = codes "add"; forms 
 grammar_of ReferralSet = record { noun = codes "ref"; verb = codes "set"; forms = endpoint }
 grammar_of ReferralDel = record { noun = codes "ref"; verb = codes "del"; forms = Number ∷ [] }
 
-abbrev pub commands : List Command
+abbrev pub commands : List EditCommand
 commands =
     SubsystemAdd ∷ SubsystemSet ∷ SubsystemDel
     ∷ NamespaceAdd ∷ NamespaceSize ∷ NamespaceGroup ∷ NamespaceDel
@@ -54,6 +54,6 @@ abbrev pub is_noun : List ℕ → Bool
 is_noun word = list_any (λ command. bytes_eq (grammar_of command).noun word) commands
 
 -- the command that begins with the two words
-abbrev pub command_from : List ℕ → List ℕ → Option Command
+abbrev pub command_from : List ℕ → List ℕ → Option EditCommand
 command_from noun verb =
     find (λ command. bytes_eq (grammar_of command).noun noun && bytes_eq (grammar_of command).verb verb) commands

@@ -7,10 +7,10 @@ use Rattle.config_lists.specs.declared.edit.Endpoint.{Endpoint}
 use Rattle.config_lists.specs.declared.edit.NewNamespace.{NewNamespace}
 use Rattle.config_text.specs.Operand.{IsSaid, Value, access, family, name, number, state, text, uuid, visibility}
 use Rattle.config_text.specs.Said.{said_words}
-use Rattle.config_text.specs.declared.command.Command.{Command}
-use Rattle.config_text.specs.declared.command.Command.TheVariants.{SubsystemAdd, SubsystemSet, SubsystemDel, NamespaceAdd, NamespaceSize, NamespaceGroup, NamespaceDel, NamespaceView, NamespaceShow, NamespaceHide, PortAdd, PortSet, PortDel, LinkAdd, LinkDel, HostAdd, HostDel, AllowAdd, AllowDel, AnaSet, ReferralAdd, ReferralSet, ReferralDel}
+use Rattle.config_text.specs.declared.command.EditCommand.{EditCommand}
+use Rattle.config_text.specs.declared.command.EditCommand.TheVariants.{SubsystemAdd, SubsystemSet, SubsystemDel, NamespaceAdd, NamespaceSize, NamespaceGroup, NamespaceDel, NamespaceView, NamespaceShow, NamespaceHide, PortAdd, PortSet, PortDel, LinkAdd, LinkDel, HostAdd, HostDel, AllowAdd, AllowDel, AnaSet, ReferralAdd, ReferralSet, ReferralDel}
 
-abbrev pub command_of : Edit → Command
+abbrev pub command_of : Edit → EditCommand
 command_of (edit.SubsystemAdd n s a) = SubsystemAdd
 command_of (edit.SubsystemSet n a) = SubsystemSet
 command_of (edit.SubsystemDel n) = SubsystemDel
@@ -69,7 +69,7 @@ values_of (edit.ReferralSet endpoint) = endpoint_values endpoint
 values_of (edit.ReferralDel id) = number id ∷ []
 
 -- the edit is of this command and says these values
-pub record IsEditOf (command : Command) (values : List Value) (e : Edit) : Type 0 where
+pub record IsEditOf (command : EditCommand) (values : List Value) (e : Edit) : Type 0 where
   pub command_is : command_of e ≡ command
   pub values_are : values_of e ≡ values
 

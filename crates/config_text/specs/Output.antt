@@ -3,11 +3,11 @@ use Rattle.std.specs.Prelude.{◌≡◌, ℕ, ◌+◌, ◌<◌, ◌≤◌, List,
 use Rattle.bytes.specs.Filled.{Filled}
 use Rattle.config_text.specs.Command.{grammar_of}
 use Rattle.config_text.specs.Operand.{Value, word_of}
-use Rattle.config_text.specs.declared.command.Command.{Command}
+use Rattle.config_text.specs.declared.command.EditCommand.{EditCommand}
 use Rattle.config_text.specs.declared.write.Full.{Full}
 
 -- the first two words, with the space between
-abbrev pub head_of : Command → List ℕ
+abbrev pub head_of : EditCommand → List ℕ
 head_of command = (grammar_of command).noun ++ 32 ∷ (grammar_of command).verb
 
 -- the words of some values, each after a space

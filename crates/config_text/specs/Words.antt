@@ -4,7 +4,7 @@ use Rattle.std.specs.Borrow.{Bor}
 use Rattle.std.specs.List.{slice_split}
 use Rattle.config_text.specs.Command.{command_from, grammar_of, is_noun}
 use Rattle.config_text.specs.Operand.{allows, kind_of}
-use Rattle.config_text.specs.declared.command.Command.{Command}
+use Rattle.config_text.specs.declared.command.EditCommand.{EditCommand}
 use Rattle.config_text.specs.declared.fault.LineFault.{LineFault}
 use Rattle.config_text.specs.declared.fault.LineFaultKind.{LineFaultKind}
 use Rattle.config_text.specs.declared.fault.LineFaultKind.TheVariants.{TooLong, Empty, UnknownWord, Missing, Extra}
@@ -49,7 +49,7 @@ forms_fault end column (form ∷ forms) (word ∷ words) =
     (forms_fault end (column + length word + 1) forms words)
 
 -- what follows the first two words
-abbrev pub command_fault : ℕ → ℕ → Option Command → List (List ℕ) → Option LineFault
+abbrev pub command_fault : ℕ → ℕ → Option EditCommand → List (List ℕ) → Option LineFault
 command_fault end column None words = None
 command_fault end column (Some command) words = forms_fault end column (grammar_of command).forms words
 

@@ -4,12 +4,12 @@ ghost use Rattle.config_text.specs.Command.{grammar_of};
 ghost use Rattle.config_text.specs.EditLine.{IsEditOf, endpoint_values, namespace_values};
 ghost use Rattle.config_text.specs.Operand.{form_of, name, text, values};
 ghost use Rattle.config_text.specs.declared.operand.Form.TheVariants as form;
-ghost use Rattle.config_text.specs.declared.command.Command.TheVariants as command;
+ghost use Rattle.config_text.specs.declared.command.EditCommand.TheVariants as command;
 
 use crate::operand::{
     access_at, family_at, name_at, number_at, state_at, text_at, uuid_at, visibility_at,
 };
-use crate::{Command, Operand};
+use crate::{EditCommand, Operand};
 use config_lists::{Edit, Endpoint, NewNamespace, Text};
 use nvt_fields::Nqn;
 use std::alloc::{AllocError, Global};
@@ -17,36 +17,36 @@ use std::alloc::{AllocError, Global};
 /// The edit of a command and the values that its line says.
 pub(crate) fn build(
     alloc: Global,
-    command: Command,
+    command: EditCommand,
     operands: &[Operand<'_>],
 ) -> Result<Edit, AllocError>
     requires { map form_of (values operands.now) ≡ (grammar_of command).forms }
     ensures { IfOk result (IsEditOf command (values operands.now)) }
 {
     match command {
-        Command::SubsystemAdd => subsystem_add(alloc, operands),
-        Command::SubsystemSet => subsystem_set(alloc, operands),
-        Command::SubsystemDel => subsystem_del(alloc, operands),
-        Command::NamespaceAdd => namespace_add(alloc, operands),
-        Command::NamespaceSize => namespace_size(alloc, operands),
-        Command::NamespaceGroup => namespace_group(alloc, operands),
-        Command::NamespaceDel => namespace_del(alloc, operands),
-        Command::NamespaceView => namespace_view(alloc, operands),
-        Command::NamespaceShow => namespace_show(alloc, operands),
-        Command::NamespaceHide => namespace_hide(alloc, operands),
-        Command::PortAdd => port_add(alloc, operands),
-        Command::PortSet => port_set(alloc, operands),
-        Command::PortDel => Ok(port_del(operands)),
-        Command::LinkAdd => link_add(alloc, operands),
-        Command::LinkDel => link_del(alloc, operands),
-        Command::HostAdd => host_add(alloc, operands),
-        Command::HostDel => host_del(alloc, operands),
-        Command::AllowAdd => allow_add(alloc, operands),
-        Command::AllowDel => allow_del(alloc, operands),
-        Command::AnaSet => ana_set(alloc, operands),
-        Command::ReferralAdd => referral_add(alloc, operands),
-        Command::ReferralSet => referral_set(alloc, operands),
-        Command::ReferralDel => Ok(referral_del(operands)),
+        EditCommand::SubsystemAdd => subsystem_add(alloc, operands),
+        EditCommand::SubsystemSet => subsystem_set(alloc, operands),
+        EditCommand::SubsystemDel => subsystem_del(alloc, operands),
+        EditCommand::NamespaceAdd => namespace_add(alloc, operands),
+        EditCommand::NamespaceSize => namespace_size(alloc, operands),
+        EditCommand::NamespaceGroup => namespace_group(alloc, operands),
+        EditCommand::NamespaceDel => namespace_del(alloc, operands),
+        EditCommand::NamespaceView => namespace_view(alloc, operands),
+        EditCommand::NamespaceShow => namespace_show(alloc, operands),
+        EditCommand::NamespaceHide => namespace_hide(alloc, operands),
+        EditCommand::PortAdd => port_add(alloc, operands),
+        EditCommand::PortSet => port_set(alloc, operands),
+        EditCommand::PortDel => Ok(port_del(operands)),
+        EditCommand::LinkAdd => link_add(alloc, operands),
+        EditCommand::LinkDel => link_del(alloc, operands),
+        EditCommand::HostAdd => host_add(alloc, operands),
+        EditCommand::HostDel => host_del(alloc, operands),
+        EditCommand::AllowAdd => allow_add(alloc, operands),
+        EditCommand::AllowDel => allow_del(alloc, operands),
+        EditCommand::AnaSet => ana_set(alloc, operands),
+        EditCommand::ReferralAdd => referral_add(alloc, operands),
+        EditCommand::ReferralSet => referral_set(alloc, operands),
+        EditCommand::ReferralDel => Ok(referral_del(operands)),
     }
 }
 

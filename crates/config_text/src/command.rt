@@ -8,7 +8,7 @@ use crate::operand::Form;
 
 /// What an edit does, apart from its values.
 #[derive(Clone, Copy)]
-pub enum Command {
+pub enum EditCommand {
     SubsystemAdd,
     SubsystemSet,
     SubsystemDel,
@@ -35,35 +35,35 @@ pub enum Command {
 }
 
 /// Each command once.
-pub const COMMANDS: &[Command] = &[
-    Command::SubsystemAdd,
-    Command::SubsystemSet,
-    Command::SubsystemDel,
-    Command::NamespaceAdd,
-    Command::NamespaceSize,
-    Command::NamespaceGroup,
-    Command::NamespaceDel,
-    Command::NamespaceView,
-    Command::NamespaceShow,
-    Command::NamespaceHide,
-    Command::PortAdd,
-    Command::PortSet,
-    Command::PortDel,
-    Command::LinkAdd,
-    Command::LinkDel,
-    Command::HostAdd,
-    Command::HostDel,
-    Command::AllowAdd,
-    Command::AllowDel,
-    Command::AnaSet,
-    Command::ReferralAdd,
-    Command::ReferralSet,
-    Command::ReferralDel,
+pub const COMMANDS: &[EditCommand] = &[
+    EditCommand::SubsystemAdd,
+    EditCommand::SubsystemSet,
+    EditCommand::SubsystemDel,
+    EditCommand::NamespaceAdd,
+    EditCommand::NamespaceSize,
+    EditCommand::NamespaceGroup,
+    EditCommand::NamespaceDel,
+    EditCommand::NamespaceView,
+    EditCommand::NamespaceShow,
+    EditCommand::NamespaceHide,
+    EditCommand::PortAdd,
+    EditCommand::PortSet,
+    EditCommand::PortDel,
+    EditCommand::LinkAdd,
+    EditCommand::LinkDel,
+    EditCommand::HostAdd,
+    EditCommand::HostDel,
+    EditCommand::AllowAdd,
+    EditCommand::AllowDel,
+    EditCommand::AnaSet,
+    EditCommand::ReferralAdd,
+    EditCommand::ReferralSet,
+    EditCommand::ReferralDel,
 ];
 
-impl Command {
+impl EditCommand {
     /// The command that a line begins with, by its first two words.
-    pub(crate) fn from_words(noun: &[u8], verb: &[u8]) -> Option<Command>
+    pub(crate) fn from_words(noun: &[u8], verb: &[u8]) -> Option<EditCommand>
         ensures { result ≡ command_from noun.now verb.now }
     {
         find_command(COMMANDS, noun, verb).copied()
@@ -74,20 +74,22 @@ impl Command {
         ensures { result.now ≡ (grammar_of self).noun }
     {
         match self {
-            Command::SubsystemAdd | Command::SubsystemSet | Command::SubsystemDel => b"subsys",
-            Command::NamespaceAdd
-            | Command::NamespaceSize
-            | Command::NamespaceGroup
-            | Command::NamespaceDel
-            | Command::NamespaceView
-            | Command::NamespaceShow
-            | Command::NamespaceHide => b"ns",
-            Command::PortAdd | Command::PortSet | Command::PortDel => b"port",
-            Command::LinkAdd | Command::LinkDel => b"link",
-            Command::HostAdd | Command::HostDel => b"host",
-            Command::AllowAdd | Command::AllowDel => b"allow",
-            Command::AnaSet => b"ana",
-            Command::ReferralAdd | Command::ReferralSet | Command::ReferralDel => b"ref",
+            EditCommand::SubsystemAdd | EditCommand::SubsystemSet | EditCommand::SubsystemDel =>
+                b"subsys",
+            EditCommand::NamespaceAdd
+            | EditCommand::NamespaceSize
+            | EditCommand::NamespaceGroup
+            | EditCommand::NamespaceDel
+            | EditCommand::NamespaceView
+            | EditCommand::NamespaceShow
+            | EditCommand::NamespaceHide => b"ns",
+            EditCommand::PortAdd | EditCommand::PortSet | EditCommand::PortDel => b"port",
+            EditCommand::LinkAdd | EditCommand::LinkDel => b"link",
+            EditCommand::HostAdd | EditCommand::HostDel => b"host",
+            EditCommand::AllowAdd | EditCommand::AllowDel => b"allow",
+            EditCommand::AnaSet => b"ana",
+            EditCommand::ReferralAdd | EditCommand::ReferralSet | EditCommand::ReferralDel =>
+                b"ref",
         }
     }
 
@@ -96,27 +98,29 @@ impl Command {
         ensures { result.now ≡ (grammar_of self).verb }
     {
         match self {
-            Command::SubsystemAdd
-            | Command::NamespaceAdd
-            | Command::PortAdd
-            | Command::LinkAdd
-            | Command::HostAdd
-            | Command::AllowAdd
-            | Command::ReferralAdd => b"add",
-            Command::SubsystemSet | Command::PortSet | Command::AnaSet | Command::ReferralSet =>
-                b"set",
-            Command::SubsystemDel
-            | Command::NamespaceDel
-            | Command::PortDel
-            | Command::LinkDel
-            | Command::HostDel
-            | Command::AllowDel
-            | Command::ReferralDel => b"del",
-            Command::NamespaceSize => b"size",
-            Command::NamespaceGroup => b"group",
-            Command::NamespaceView => b"view",
-            Command::NamespaceShow => b"show",
-            Command::NamespaceHide => b"hide",
+            EditCommand::SubsystemAdd
+            | EditCommand::NamespaceAdd
+            | EditCommand::PortAdd
+            | EditCommand::LinkAdd
+            | EditCommand::HostAdd
+            | EditCommand::AllowAdd
+            | EditCommand::ReferralAdd => b"add",
+            EditCommand::SubsystemSet
+            | EditCommand::PortSet
+            | EditCommand::AnaSet
+            | EditCommand::ReferralSet => b"set",
+            EditCommand::SubsystemDel
+            | EditCommand::NamespaceDel
+            | EditCommand::PortDel
+            | EditCommand::LinkDel
+            | EditCommand::HostDel
+            | EditCommand::AllowDel
+            | EditCommand::ReferralDel => b"del",
+            EditCommand::NamespaceSize => b"size",
+            EditCommand::NamespaceGroup => b"group",
+            EditCommand::NamespaceView => b"view",
+            EditCommand::NamespaceShow => b"show",
+            EditCommand::NamespaceHide => b"hide",
         }
     }
 
@@ -126,28 +130,28 @@ impl Command {
         ensures few { length result.now ≤ 7 }
     {
         match self {
-            Command::SubsystemAdd => &[Form::Name, Form::Text, Form::Access],
-            Command::SubsystemSet => &[Form::Name, Form::Access],
-            Command::NamespaceAdd => NAMESPACE,
-            Command::NamespaceSize | Command::NamespaceGroup => {
+            EditCommand::SubsystemAdd => &[Form::Name, Form::Text, Form::Access],
+            EditCommand::SubsystemSet => &[Form::Name, Form::Access],
+            EditCommand::NamespaceAdd => NAMESPACE,
+            EditCommand::NamespaceSize | EditCommand::NamespaceGroup => {
                 &[Form::Name, Form::Number, Form::Number]
             }
-            Command::NamespaceDel => &[Form::Name, Form::Number],
-            Command::NamespaceView => &[Form::Name, Form::Number, Form::Visibility],
-            Command::NamespaceShow | Command::NamespaceHide => {
+            EditCommand::NamespaceDel => &[Form::Name, Form::Number],
+            EditCommand::NamespaceView => &[Form::Name, Form::Number, Form::Visibility],
+            EditCommand::NamespaceShow | EditCommand::NamespaceHide => {
                 &[Form::Name, Form::Number, Form::Name]
             }
-            Command::PortAdd | Command::PortSet | Command::ReferralAdd | Command::ReferralSet => &[
-                Form::Number,
-                Form::Family,
-                Form::Text,
-                Form::Number,
+            EditCommand::PortAdd
+            | EditCommand::PortSet
+            | EditCommand::ReferralAdd
+            | EditCommand::ReferralSet => &[Form::Number, Form::Family, Form::Text, Form::Number],
+            EditCommand::LinkAdd | EditCommand::LinkDel => &[Form::Number, Form::Name],
+            EditCommand::AllowAdd | EditCommand::AllowDel => &[Form::Name, Form::Name],
+            EditCommand::AnaSet => &[Form::Number, Form::Name, Form::Number, Form::State],
+            EditCommand::PortDel | EditCommand::ReferralDel => &[Form::Number],
+            EditCommand::SubsystemDel | EditCommand::HostAdd | EditCommand::HostDel => &[
+                Form::Name,
             ],
-            Command::LinkAdd | Command::LinkDel => &[Form::Number, Form::Name],
-            Command::AllowAdd | Command::AllowDel => &[Form::Name, Form::Name],
-            Command::AnaSet => &[Form::Number, Form::Name, Form::Number, Form::State],
-            Command::PortDel | Command::ReferralDel => &[Form::Number],
-            Command::SubsystemDel | Command::HostAdd | Command::HostDel => &[Form::Name],
         }
     }
 }
@@ -170,7 +174,11 @@ pub(crate) fn is_noun(word: &[u8]) -> bool
     COMMANDS.iter().any(|command| command.noun() == word)
 }
 
-fn find_command<'a>(commands: &'a [Command], noun: &[u8], verb: &[u8]) -> Option<&'a Command>
+fn find_command<'a>(
+    commands: &'a [EditCommand],
+    noun: &[u8],
+    verb: &[u8],
+) -> Option<&'a EditCommand>
     ensures { option_copied result ≡ find
         (λ c. bytes_eq (grammar_of c).noun noun.now && bytes_eq (grammar_of c).verb verb.now)
         commands.now }

@@ -15,7 +15,7 @@ mod word;
 mod words;
 pub mod write;
 
-pub use command::{COMMANDS, Command};
+pub use command::{COMMANDS, EditCommand};
 pub use edit_line::{lines_are_read_back, read_edit};
 pub use fault::{LineFault, LineFaultKind};
 pub use lines::{Lines, find_byte};

@@ -5,7 +5,7 @@ ghost use Rattle.config_text.specs.Operand.{values};
 ghost use Rattle.config_text.specs.Said.{IsSaidBy};
 ghost use Rattle.config_text.specs.Words.{line_fault};
 
-use crate::command::Command;
+use crate::command::EditCommand;
 use crate::fault::{LineFault, LineFaultKind};
 use crate::operand::Operands;
 use crate::words::Words;
@@ -14,7 +14,7 @@ use arrayvec::ArrayVec;
 const LINE_MAX: usize = 1024;
 
 /// The command and the values that a line says, or its first fault. It takes no memory.
-pub fn read_words(line: &[u8]) -> Result<(Command, Operands<'_>), LineFault>
+pub fn read_words(line: &[u8]) -> Result<(EditCommand, Operands<'_>), LineFault>
     ensures fault { result_err result ≡ line_fault line.now }
     ensures said { IfOk result (λ said. IsSaidBy line.now said.0 (values said.1.items)) }
 {

@@ -10,7 +10,7 @@ ghost use Rattle.config_text.specs.Words.{absence, fault, forms_fault, left_len,
 ghost use Rattle.config_text.specs.Words.{words_fault, words_in};
 ghost use Rattle.config_text.specs.declared.operand.Form.{Form};
 
-use crate::command::{Command, is_noun};
+use crate::command::{EditCommand, is_noun};
 use crate::fault::{LineFault, LineFaultKind};
 use crate::lines::find_byte;
 use crate::operand::{Form, Operands};
@@ -44,7 +44,7 @@ impl<'a> Words<'a> {
     }
 
     /// The command that the first two words say.
-    pub(crate) fn command(&mut self) -> Result<Command, LineFault>
+    pub(crate) fn command(&mut self) -> Result<EditCommand, LineFault>
         requires { self.old.column ≡ 0 }
         ensures fault { IfErr result
             (λ fault. words_fault self.old.end (words_left self.old) ≡ Some fault) }
@@ -57,7 +57,7 @@ impl<'a> Words<'a> {
         check(is_noun(noun), 0, LineFaultKind::UnknownWord)?;
         let column = self.column;
         let verb = self.next_word()?;
-        match Command::from_words(noun, verb) {
+        match EditCommand::from_words(noun, verb) {
             Some(command) => Ok(command),
             None => Err(LineFault {
                 column,

@@ -5,7 +5,7 @@ ghost use Rattle.config_text.specs.EditLine.{values_of};
 ghost use Rattle.config_text.specs.Operand.{access, name, number, state, text, values, visibility};
 ghost use Rattle.config_text.specs.Output.{AppendsOrFull, head_of, spaced};
 
-use crate::{Command, Operand, Operands, Scratch};
+use crate::{EditCommand, Operand, Operands, Scratch};
 use arrayvec::ArrayVec;
 use bytes::BytesMut;
 use config_lists::{Access, AnaState, Edit, Endpoint, NewNamespace, Text, Visibility};
@@ -34,7 +34,11 @@ pub fn write_edit(edit: &Edit, out: &mut BytesMut) -> Result<(), Full>
     write_words(command_of(edit), &operands_of(edit), out)
 }
 
-fn write_words(command: Command, operands: &[Operand<'_>], out: &mut BytesMut) -> Result<(), Full>
+fn write_words(
+    command: EditCommand,
+    operands: &[Operand<'_>],
+    out: &mut BytesMut,
+) -> Result<(), Full>
     ensures { let line = head_of command ++ spaced (values operands.now) in
         AppendsOrFull out.old out.new line result }
 {
@@ -49,7 +53,7 @@ fn write_words(command: Command, operands: &[Operand<'_>], out: &mut BytesMut) -
 }
 
 // Whether the line fits in so much room.
-fn has_room(command: Command, operands: &[Operand<'_>], room: usize) -> bool
+fn has_room(command: EditCommand, operands: &[Operand<'_>], room: usize) -> bool
     ensures { result ≡ nat_le (length (head_of command ++ spaced (values operands.now))) room }
 {
     let head = command.noun().len() + 1 + command.verb().len();
@@ -88,33 +92,33 @@ fn append_operands(operands: &[Operand<'_>], out: &mut BytesMut)
     }
 }
 
-fn command_of(edit: &Edit) -> Command
+fn command_of(edit: &Edit) -> EditCommand
     ensures { result ≡ command_of edit.now }
 {
     match edit {
-        Edit::SubsystemAdd { .. } => Command::SubsystemAdd,
-        Edit::SubsystemSet { .. } => Command::SubsystemSet,
-        Edit::SubsystemDel { .. } => Command::SubsystemDel,
-        Edit::NamespaceAdd(_) => Command::NamespaceAdd,
-        Edit::NamespaceSize { .. } => Command::NamespaceSize,
-        Edit::NamespaceGroup { .. } => Command::NamespaceGroup,
-        Edit::NamespaceDel { .. } => Command::NamespaceDel,
-        Edit::NamespaceView { .. } => Command::NamespaceView,
-        Edit::NamespaceShow { .. } => Command::NamespaceShow,
-        Edit::NamespaceHide { .. } => Command::NamespaceHide,
-        Edit::PortAdd(_) => Command::PortAdd,
-        Edit::PortSet(_) => Command::PortSet,
-        Edit::PortDel { .. } => Command::PortDel,
-        Edit::LinkAdd { .. } => Command::LinkAdd,
-        Edit::LinkDel { .. } => Command::LinkDel,
-        Edit::HostAdd { .. } => Command::HostAdd,
-        Edit::HostDel { .. } => Command::HostDel,
-        Edit::AllowAdd { .. } => Command::AllowAdd,
-        Edit::AllowDel { .. } => Command::AllowDel,
-        Edit::AnaSet { .. } => Command::AnaSet,
-        Edit::ReferralAdd(_) => Command::ReferralAdd,
-        Edit::ReferralSet(_) => Command::ReferralSet,
-        Edit::ReferralDel { .. } => Command::ReferralDel,
+        Edit::SubsystemAdd { .. } => EditCommand::SubsystemAdd,
+        Edit::SubsystemSet { .. } => EditCommand::SubsystemSet,
+        Edit::SubsystemDel { .. } => EditCommand::SubsystemDel,
+        Edit::NamespaceAdd(_) => EditCommand::NamespaceAdd,
+        Edit::NamespaceSize { .. } => EditCommand::NamespaceSize,
+        Edit::NamespaceGroup { .. } => EditCommand::NamespaceGroup,
+        Edit::NamespaceDel { .. } => EditCommand::NamespaceDel,
+        Edit::NamespaceView { .. } => EditCommand::NamespaceView,
+        Edit::NamespaceShow { .. } => EditCommand::NamespaceShow,
+        Edit::NamespaceHide { .. } => EditCommand::NamespaceHide,
+        Edit::PortAdd(_) => EditCommand::PortAdd,
+        Edit::PortSet(_) => EditCommand::PortSet,
+        Edit::PortDel { .. } => EditCommand::PortDel,
+        Edit::LinkAdd { .. } => EditCommand::LinkAdd,
+        Edit::LinkDel { .. } => EditCommand::LinkDel,
+        Edit::HostAdd { .. } => EditCommand::HostAdd,
+        Edit::HostDel { .. } => EditCommand::HostDel,
+        Edit::AllowAdd { .. } => EditCommand::AllowAdd,
+        Edit::AllowDel { .. } => EditCommand::AllowDel,
+        Edit::AnaSet { .. } => EditCommand::AnaSet,
+        Edit::ReferralAdd(_) => EditCommand::ReferralAdd,
+        Edit::ReferralSet(_) => EditCommand::ReferralSet,
+        Edit::ReferralDel { .. } => EditCommand::ReferralDel,
     }
 }
 

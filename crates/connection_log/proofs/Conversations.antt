@@ -5,7 +5,7 @@ use Rattle.std.specs.Prelude.{if◌then◌else◌}
 use Rattle.std.proofs.lemmas.Bool.{cases_Bool}
 use Rattle.std.proofs.lemmas.List.{drop_all, length-take}
 use Rattle.std.proofs.Math.Seq.{take-length}
-use Rattle.pdu_words.specs.declared.explanation.Completion.{Completion}
+use Rattle.pdu_words.specs.declared.explanation.ResponseFields.{ResponseFields}
 use Rattle.connection_log.specs.declared.stage.Stage.{Stage}
 use Rattle.connection_log.specs.declared.stage.Stage.TheVariants.{Before, Waits, Over}
 use Rattle.connection_log.specs.declared.watch.ConnectionWatch.{ConnectionWatch}
@@ -60,18 +60,18 @@ IsSettled (Before ahead) = Unit {0}
 IsSettled (Waits ahead passed) = ⊥
 IsSettled Over = Unit {0}
 
-none_when_settled : (response : Option Completion) (stage : Stage) → IsSettled stage → told_by response stage ≡ None
+none_when_settled : (response : Option ResponseFields) (stage : Stage) → IsSettled stage → told_by response stage ≡ None
 none_when_settled response (Before ahead) settled = refl
 none_when_settled response (Waits ahead passed) settled = absurd settled
 none_when_settled response Over settled = refl
 
-settled_after : (response : Option Completion) (stage : Stage) → IsSettled stage → IsSettled (after_reply response stage)
+settled_after : (response : Option ResponseFields) (stage : Stage) → IsSettled stage → IsSettled (after_reply response stage)
 settled_after None stage settled = settled
 settled_after (Some completion) (Before ahead) settled = tt
 settled_after (Some completion) (Waits ahead passed) settled = absurd settled
 settled_after (Some completion) Over settled = tt
 
-settled_by : (response : Option Completion) (completion : Completion) (stage : Stage) → told_by response stage ≡ Some completion
+settled_by : (response : Option ResponseFields) (completion : ResponseFields) (stage : Stage) → told_by response stage ≡ Some completion
     → IsSettled (after_reply response stage)
 settled_by response completion (Before ahead) is = absurd (cc)
 settled_by None completion (Waits ahead passed) is = absurd (cc (is, none_told (Waits ahead passed)))
@@ -97,7 +97,7 @@ stays_settled w [] settled = settled
 stays_settled w (x ∷ a) settled =
     stays_settled (replied (with_byte x w.replies) w) a (settled_after (response_at (with_byte x w.replies)) w.stage settled)
 
-settled_first : (w : ConnectionWatch) (x : ℕ) (a : List ℕ) (completion : Completion) (first : Option Completion)
+settled_first : (w : ConnectionWatch) (x : ℕ) (a : List ℕ) (completion : ResponseFields) (first : Option ResponseFields)
     → told_at (with_byte x w.replies) w ≡ first
     → (told (replied (with_byte x w.replies) w) a ≡ Some completion → IsSettled (answered (replied (with_byte x w.replies) w) a).stage)
     → option_or first (told (replied (with_byte x w.replies) w) a) ≡ Some completion
@@ -106,7 +106,7 @@ settled_first w x a completion None same rest is = rest is
 settled_first w x a completion (Some c) same rest is =
     stays_settled (replied (with_byte x w.replies) w) a (settled_by (response_at (with_byte x w.replies)) c w.stage same)
 
-settled_once_told : (w : ConnectionWatch) (a : List ℕ) (completion : Completion) → told w a ≡ Some completion
+settled_once_told : (w : ConnectionWatch) (a : List ℕ) (completion : ResponseFields) → told w a ≡ Some completion
     → IsSettled (answered w a).stage
 settled_once_told w [] completion is = absurd (cc)
 settled_once_told w (x ∷ a) completion is =
@@ -134,7 +134,7 @@ event_over : (header : Option (List ℕ)) → after_event (request_event header)
 event_over None = refl
 event_over (Some header) = refl
 
-events_of_reply : (response : Option Completion) (stage : Stage) → stage_after stage (reply_events response) ≡ after_reply response stage
+events_of_reply : (response : Option ResponseFields) (stage : Stage) → stage_after stage (reply_events response) ≡ after_reply response stage
 events_of_reply None stage = refl
 events_of_reply (Some completion) stage = refl
 
@@ -169,7 +169,7 @@ response_whole : (pdu : List ℕ) → IsPdu pdu → response_at (with_bytes pdu 
 response_whole pdu is =
     rw (whole_pdu 24 pdu (lit≤ tt) is) (ap response_in (front_of_pdu 24 pdu (lit≤ tt) is))
 
-or_nothing : (o : Option Completion) → option_or o None ≡ o
+or_nothing : (o : Option ResponseFields) → option_or o None ≡ o
 or_nothing None = refl
 or_nothing (Some c) = refl
 
@@ -199,7 +199,7 @@ module _ (r p : Reading) (pdu : List ℕ) (is : IsPdu pdu) (at_r : next_pdu r �
       replied_up_to (length pdu) r p s pdu (some 24 p pdu (lit≤ tt) is at_p) (omega arith) (short_of_it 24 p pdu (lit≤ tt) is at_p)
       ∙ ap (answered (replied there (watch_of r p s))) (all_passed pdu)
       ∙ ap (λ (q : Reading). replied q (watch_of r p s)) (behind_it 24 p pdu (lit≤ tt) is at_p)
-      ∙ ap (λ (o : Option Completion). watch_of r (with_bytes pdu (at_first 24)) (after_reply o s)) (response_whole pdu is)
+      ∙ ap (λ (o : Option ResponseFields). watch_of r (with_bytes pdu (at_first 24)) (after_reply o s)) (response_whole pdu is)
 
   told_whole : (s : Stage) → told (watch_of r p s) pdu ≡ told_by (response_in (take 24 pdu)) s
   told_whole s =
@@ -208,7 +208,7 @@ module _ (r p : Reading) (pdu : List ℕ) (is : IsPdu pdu) (at_r : next_pdu r �
       ∙ ap (λ (l : List ℕ). option_or (told_at there (watch_of r p s)) (told (replied there (watch_of r p s)) l)) (all_passed pdu)
       ∙ or_nothing (told_at there (watch_of r p s))
       ∙ ap (λ (q : Reading). told_at q (watch_of r p s)) (behind_it 24 p pdu (lit≤ tt) is at_p)
-      ∙ ap (λ (o : Option Completion). told_by o s) (response_whole pdu is)
+      ∙ ap (λ (o : Option ResponseFields). told_by o s) (response_whole pdu is)
 
   host_at : (s : Stage) → Stands (heard (watch_of r p s) pdu) (after_event (request_event (capsule_header (take 1152 pdu))) s)
   host_at (Before ahead) =

@@ -4,7 +4,7 @@ use Rattle.std.specs.Option.{option_or}
 use Rattle.std.proofs.lemmas.Bool.{cases_Bool}
 use Rattle.std.proofs.lemmas.List.{drop-drop}
 use Rattle.std.proofs.Math.Seq.{take-add}
-use Rattle.pdu_words.specs.declared.explanation.Completion.{Completion}
+use Rattle.pdu_words.specs.declared.explanation.ResponseFields.{ResponseFields}
 use Rattle.connection_log.specs.declared.stage.Stage.{Stage}
 use Rattle.connection_log.specs.declared.stage.Stage.TheVariants.{Before, Waits, Over}
 use Rattle.connection_log.specs.declared.watch.ConnectionWatch.{ConnectionWatch}
@@ -59,7 +59,7 @@ told_up_to (suc (suc n)) r p stage (b ∷ bytes) some few short =
     rw (short 1 (omega arith) (omega arith), none_told stage)
     (told_up_to (suc n) r (with_byte b p) stage bytes (omega arith) (omega arith) (λ k more less. short (suc k) (omega arith) (omega arith)))
 
-pub or-assoc : (a b c : Option Completion) → option_or (option_or a b) c ≡ option_or a (option_or b c)
+pub or-assoc : (a b c : Option ResponseFields) → option_or (option_or a b) c ≡ option_or a (option_or b c)
 or-assoc None b c = refl
 or-assoc (Some x) b c = refl
 
@@ -111,7 +111,7 @@ module _ (bytes : List ℕ) (at n : ℕ) where
           ∙ sym (replied_up_to n w.requests old w.stage (drop at bytes) some_step of_rest.within of_rest.not_before)
           ∙ ap (λ (v : ConnectionWatch). answered v (drop at bytes)) (sym before_step)
 
-      pub told_step : (so_far : Option Completion)
+      pub told_step : (so_far : Option ResponseFields)
           → option_or (option_or so_far (told_at new w)) (told (replied new w) (drop (at + n) bytes)) ≡ option_or so_far (told w (drop at bytes))
       told_step so_far =
           or-assoc so_far (told_at new w) (told (replied new w) (drop (at + n) bytes))

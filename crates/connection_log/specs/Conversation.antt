@@ -2,7 +2,7 @@
 use Rattle.std.specs.Prelude.{ℕ, ◌+◌, ◌-◌, ◌<◌, ◌^◌, ◌≡◌, Bool, true, false, List, [], ◌∷◌, ◌++◌, length, take, slice_get, Option, Some, None}
 use Rattle.std.specs.Option.{option_or}
 use Rattle.pdu_codec.specs.Sqe.{entry_in}
-use Rattle.pdu_words.specs.declared.explanation.Completion.{Completion}
+use Rattle.pdu_words.specs.declared.explanation.ResponseFields.{ResponseFields}
 use Rattle.connection_log.specs.declared.stage.Stage.{Stage}
 use Rattle.connection_log.specs.declared.stage.Stage.TheVariants.{Before, Waits, Over}
 use Rattle.connection_log.specs.declared.watch.ConnectionWatch.{ConnectionWatch}
@@ -72,7 +72,7 @@ abbrev pub request_event : Option (List ℕ) → Event
 request_event None = sends
 request_event (Some header) = asks (is_connect (entry_in header))
 
-abbrev pub reply_events : Option Completion → List Event
+abbrev pub reply_events : Option ResponseFields → List Event
 reply_events None = []
 reply_events (Some completion) = answers (is_success completion.status) ∷ []
 
@@ -128,5 +128,5 @@ pub record SizesStay (old new : ConnectionWatch) : Type 0 where
 -- an answer is told once, whatever the target sends behind it
 abbrev pub IsToldOnce : Type 0
 IsToldOnce =
-    (w : ConnectionWatch) (a b : List ℕ) (completion : Completion) → told w a ≡ Some completion
+    (w : ConnectionWatch) (a b : List ℕ) (completion : ResponseFields) → told w a ≡ Some completion
     → told (answered w a) b ≡ None

@@ -8,7 +8,7 @@ use Rattle.connection_log.specs.declared.lines.Ending.TheVariants as ending
 use Rattle.connection_log.specs.declared.lines.LogLine.{LogLine}
 use Rattle.connection_log.specs.declared.lines.LogLine.TheVariants as line
 use Rattle.pdu_codec.specs.declared.termination.TermReq.{TermReq}
-use Rattle.pdu_words.specs.declared.explanation.Completion.{Completion}
+use Rattle.pdu_words.specs.declared.explanation.ResponseFields.{ResponseFields}
 use Rattle.pdu_words.specs.Words.{connect_answer_words, termination_words}
 
 -- ---- bytes that a peer chose
@@ -47,7 +47,7 @@ ending_by None None = ending.ByTarget
 abbrev pub connection_words : ℕ → List ℕ
 connection_words number = codes "connection " ++ decimal number ++ codes ": "
 
-abbrev pub answered_words : ℕ → Option Asked → Completion → List ℕ
+abbrev pub answered_words : ℕ → Option Asked → ResponseFields → List ℕ
 answered_words number asked completion =
     connection_words number ++ codes "Connect" ++ asked_words asked ++ codes ": " ++ connect_answer_words completion
 

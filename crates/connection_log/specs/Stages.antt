@@ -3,7 +3,7 @@ use Rattle.std.specs.Prelude.{ℕ, ◌+◌, ◌-◌, ◌^◌, ◌==◌, ◌&&◌
 use Rattle.nvt_fields.specs.declared.status.Status.{Status}
 use Rattle.pdu_codec.specs.Sqe.{entry_in, fctype_of, opcode_of}
 use Rattle.pdu_words.specs.Explanation.{explanation_of}
-use Rattle.pdu_words.specs.declared.explanation.Completion.{Completion}
+use Rattle.pdu_words.specs.declared.explanation.ResponseFields.{ResponseFields}
 use Rattle.pdu_words.specs.declared.explanation.Explanation.{Explanation}
 use Rattle.pdu_words.specs.declared.explanation.Explanation.TheVariants.{CapsuleResp}
 use Rattle.connection_log.specs.declared.stage.Stage.{Stage}
@@ -36,16 +36,16 @@ passed_over (Before ahead) = Before ahead
 passed_over (Waits ahead passed) = Waits ahead true
 passed_over Over = Over
 
-abbrev pub response_of : Explanation → Option Completion
+abbrev pub response_of : Explanation → Option ResponseFields
 response_of (CapsuleResp completion command) = Some completion
 response_of _ = None
 
 -- what the response says that begins with these bytes
-unfoldable pub response_in : List ℕ → Option Completion
+unfoldable pub response_in : List ℕ → Option ResponseFields
 response_in front = response_of (explanation_of front None)
 
 -- A response is told where none comes before that of the Connect.
-abbrev pub told_by : Option Completion → Stage → Option Completion
+abbrev pub told_by : Option ResponseFields → Stage → Option ResponseFields
 told_by response (Before ahead) = None
 told_by response (Waits ahead passed) = if ahead == 0 then response else None
 told_by response Over = None
@@ -62,6 +62,6 @@ after_response succeeded (Waits ahead passed) =
 after_response succeeded Over = Over
 
 -- after a whole PDU of the target
-abbrev pub after_reply : Option Completion → Stage → Stage
+abbrev pub after_reply : Option ResponseFields → Stage → Stage
 after_reply None s = s
 after_reply (Some completion) s = after_response (is_success completion.status) s

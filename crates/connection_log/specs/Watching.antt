@@ -1,7 +1,7 @@
 -- What is known of a connection after more bytes went by, as if they went by one at a time.
 use Rattle.std.specs.Prelude.{ℕ, ◌≤◌, ◌≡◌, List, [], ◌∷◌, ◌++◌, length, take, true, Option, None, if◌then◌else◌}
 use Rattle.std.specs.Option.{option_or}
-use Rattle.pdu_words.specs.declared.explanation.Completion.{Completion}
+use Rattle.pdu_words.specs.declared.explanation.ResponseFields.{ResponseFields}
 use Rattle.connection_log.specs.declared.stage.Stage.{Stage}
 use Rattle.connection_log.specs.declared.stage.Stage.TheVariants.{Before, Waits, Over}
 use Rattle.connection_log.specs.declared.watch.ConnectionWatch.{ConnectionWatch}
@@ -38,14 +38,14 @@ pub record HasReadSome (w : ConnectionWatch) (before bytes : List ℕ) : Type 0 
   pub all : (ahead : ℕ) → w.stage ≡ Before ahead → count ≡ length bytes
 
 -- the response that the target's PDU under way is, once it is whole
-abbrev pub response_at : Reading → Option Completion
+abbrev pub response_at : Reading → Option ResponseFields
 response_at r = if is_whole r then response_in r.front else None
 
 -- the target's PDU under way came so far
 abbrev pub replied : Reading → ConnectionWatch → ConnectionWatch
 replied r w = record w { replies = r; stage = after_reply (response_at r) w.stage }
 
-abbrev pub told_at : Reading → ConnectionWatch → Option Completion
+abbrev pub told_at : Reading → ConnectionWatch → Option ResponseFields
 told_at r w = told_by (response_at r) w.stage
 
 -- after bytes of the target
@@ -54,7 +54,7 @@ answered w [] = w
 answered w (b ∷ bytes) = answered (replied (with_byte b w.replies) w) bytes
 
 -- what they say to the Connect
-abbrev pub told : ConnectionWatch → List ℕ → Option Completion
+abbrev pub told : ConnectionWatch → List ℕ → Option ResponseFields
 told w [] = None
 told w (b ∷ bytes) =
     option_or (told_at (with_byte b w.replies) w) (told (replied (with_byte b w.replies) w) bytes)

@@ -5,7 +5,7 @@ ghost use Rattle.connection_log.specs.Lines.{answered_words, asked_words, edited
 
 use crate::asked::AskedFor;
 use pdu_codec::TermReq;
-use pdu_words::{Completion, ConnectAnswer, Explanation};
+use pdu_words::{ConnectAnswer, Explanation, ResponseFields};
 use std::fmt::{self, Formatter};
 use std::net::SocketAddr;
 
@@ -62,7 +62,7 @@ pub enum LogLine<'a> {
     Answered {
         number: u64,
         asked_for: Option<AskedFor<'a>>,
-        completion: Completion,
+        completion: ResponseFields,
     },
     Ended {
         number: u64,
@@ -122,7 +122,7 @@ fn write_answered<W: fmt::Write>(
     f: &mut Formatter<W>,
     number: u64,
     asked_for: &Option<AskedFor<'_>>,
-    completion: Completion,
+    completion: ResponseFields,
 ) -> fmt::Result
     ensures { WritesOnOk W.write_str_gives f.old result (answered_words number asked_for.now completion) f.new }
 {

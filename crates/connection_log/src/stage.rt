@@ -6,7 +6,7 @@ ghost use Rattle.connection_log.specs.Stages.{capsule_header, is_connect, is_suc
 
 use nvt_fields::Status;
 use pdu_codec::Sqe;
-use pdu_words::{Completion, Explanation, explain};
+use pdu_words::{Explanation, ResponseFields, explain};
 
 /// What is known of the Connect of a connection. An answer is a CapsuleResp, and each capsule of a command gets one.
 #[derive(Clone, Copy, Debug, PartialEq, Eq)]
@@ -68,7 +68,7 @@ pub(crate) fn is_connect(sqe: &Sqe) -> bool
 
 // What the response says that begins with these bytes.
 #[tactic(auto, unfolding(crate::specs::Stages::response_in))]
-pub(crate) fn response_in(front: &[u8]) -> Option<Completion>
+pub(crate) fn response_in(front: &[u8]) -> Option<ResponseFields>
     ensures { result ≡ response_in front.now }
 {
     match explain(front, None) {
@@ -78,7 +78,7 @@ pub(crate) fn response_in(front: &[u8]) -> Option<Completion>
 }
 
 // What is told of a whole PDU of the target, which may be a response.
-pub(crate) fn told_by(response: Option<Completion>, stage: Stage) -> Option<Completion>
+pub(crate) fn told_by(response: Option<ResponseFields>, stage: Stage) -> Option<ResponseFields>
     ensures { result ≡ told_by response stage }
 {
     match stage {
@@ -87,7 +87,7 @@ pub(crate) fn told_by(response: Option<Completion>, stage: Stage) -> Option<Comp
     }
 }
 
-pub(crate) fn after_reply(response: Option<Completion>, stage: Stage) -> Stage
+pub(crate) fn after_reply(response: Option<ResponseFields>, stage: Stage) -> Stage
     ensures { result ≡ after_reply response stage }
 {
     match response {

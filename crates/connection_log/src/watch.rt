@@ -10,7 +10,7 @@ use crate::asked::{AskedFor, asked_in, termination_of};
 use crate::pdu_front::PduFront;
 use crate::stage::{Stage, after_reply, after_request, response_in, told_by};
 use pdu_codec::TermReq;
-use pdu_words::Completion;
+use pdu_words::ResponseFields;
 use std::alloc::{AllocError, Global};
 
 // As many bytes of a PDU as a Connect has, with its data behind the zeros of any alignment.
@@ -72,7 +72,7 @@ impl ConnectionWatch {
 
     /// The target sent these bytes, behind those before. What it says to the Connect, where that is answered in them:
     /// at most one is.
-    pub fn given(&mut self, bytes: &[u8]) -> Option<Completion>
+    pub fn given(&mut self, bytes: &[u8]) -> Option<ResponseFields>
         ensures told { result ≡ told self.old bytes.now }
         ensures after { self.new ≡ answered self.old bytes.now }
         ensures stream { (before : List ℕ) → HasRead self.old.replies before
@@ -89,7 +89,7 @@ impl ConnectionWatch {
 
     // Takes the target's PDU under way, once it is whole, for a response, if it is one: what that says to the Connect that
     // waits. None is looked at once a Connect succeeded, so that no reply of data costs more than its length.
-    fn take_reply(&mut self) -> Option<Completion>
+    fn take_reply(&mut self) -> Option<ResponseFields>
         ensures told { result ≡ told_by (response_at self.old.replies) self.old.stage }
         ensures stage { self.new.stage ≡ after_reply (response_at self.old.replies) self.old.stage }
         ensures stays { self.new ≡ record self.old { stage = self.new.stage } }
@@ -133,7 +133,7 @@ fn requested(requests: &PduFront, ahead: u32) -> Stage
 }
 
 // The response that the target's PDU under way is, once it is whole.
-fn response_at(replies: &PduFront) -> Option<Completion>
+fn response_at(replies: &PduFront) -> Option<ResponseFields>
     ensures { result ≡ response_at replies.now }
 {
     if replies.is_whole() {

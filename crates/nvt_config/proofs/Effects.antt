@@ -17,7 +17,7 @@ use Rattle.nvt_config.specs.Accept.{accept, effect}
 use Rattle.nvt_config.specs.Valid.{IsValid}
 use Rattle.nvt_config.proofs.Refusals.{accept-effect, passed_all}
 use Rattle.nvt_config.proofs.Valid.{IsValid-accept}
-use Rattle.nvt_config.specs.declared.plan.Change.{Change}
+use Rattle.nvt_config.specs.declared.plan.ListChange.{ListChange}
 use Rattle.nvt_config.specs.declared.plan.Plan.{Plan}
 use Rattle.nvt_config.specs.Plan.{HasRoom, IsPlanOf, changed_by, made}
 
@@ -32,7 +32,7 @@ IsValid-made c d v edit same ok made valid =
     subst (λ r. IfOk r IsValid) accepted (IsValid-accept c edit valid)
 
 -- a plan of a change that makes the effect of an accepted edit, and has room for it, is one of that edit
-pub is_plan : (c v : Configuration) (edit : Edit) (plan : Plan) (change : Change) → c ≡ v → IsOk (accept v edit) → plan.change ≡ change → changed_by change c ≡ effect c edit → HasRoom change c → IsValid c → IsPlanOf v edit plan
+pub is_plan : (c v : Configuration) (edit : Edit) (plan : Plan) (change : ListChange) → c ≡ v → IsOk (accept v edit) → plan.change ≡ change → changed_by change c ≡ effect c edit → HasRoom change c → IsValid c → IsPlanOf v edit plan
 is_plan c v edit plan change same ok is makes room valid =
     let accepted : IsOk (accept c edit) = subst (λ w. IsOk (accept w edit)) (sym same) ok in
     let effects : made plan c ≡ effect c edit = ap (λ x. changed_by x c) is ∙ makes in

@@ -4,11 +4,11 @@ use Rattle.config_lists.specs.declared.edit.Edit.{Edit}
 use Rattle.nvt_config.specs.Accept.{accept}
 use Rattle.nvt_config.specs.Configuration.{Configuration, with_subsystem, with_access, without_subsystem, with_namespace, with_namespace_set, without_namespace, with_port, with_port_set, without_port, with_link, without_link, with_live, with_new_host, with_allow, without_allow, with_new_state, with_state_set, without_state, with_referral, with_referral_set, without_referral, with_show, without_show}
 use Rattle.nvt_config.specs.Valid.{IsValid}
-use Rattle.nvt_config.specs.declared.plan.Change.{Change}
-use Rattle.nvt_config.specs.declared.plan.Change.TheVariants.{AddSubsystem, SetAccess, RemoveSubsystem, AddNamespace, SetNamespace, RemoveNamespace, AddPort, ReplacePort, RemovePort, AddLink, RemoveLink, AddHost, SetLive, AddAllow, RemoveAllow, AddState, ReplaceState, RemoveState, AddReferral, ReplaceReferral, RemoveReferral, AddShow, RemoveShow}
+use Rattle.nvt_config.specs.declared.plan.ListChange.{ListChange}
+use Rattle.nvt_config.specs.declared.plan.ListChange.TheVariants.{AddSubsystem, SetAccess, RemoveSubsystem, AddNamespace, SetNamespace, RemoveNamespace, AddPort, ReplacePort, RemovePort, AddLink, RemoveLink, AddHost, SetLive, AddAllow, RemoveAllow, AddState, ReplaceState, RemoveState, AddReferral, ReplaceReferral, RemoveReferral, AddShow, RemoveShow}
 use Rattle.nvt_config.specs.declared.plan.Plan.{Plan}
 
-abbrev pub changed_by : Change → Configuration → Configuration
+abbrev pub changed_by : ListChange → Configuration → Configuration
 changed_by (AddSubsystem addition) c = with_subsystem c addition.item
 changed_by (SetAccess nqn access) c = with_access c nqn.now access
 changed_by (RemoveSubsystem nqn) c = without_subsystem c nqn.now
@@ -38,7 +38,7 @@ abbrev pub made : Plan → Configuration → Configuration
 made plan c = changed_by plan.change c
 
 -- what is added comes with room for the list that it makes longer
-abbrev pub HasRoom : Change → Configuration → Type 0
+abbrev pub HasRoom : ListChange → Configuration → Type 0
 HasRoom (AddSubsystem addition) c = length c.subsystems < vec_capacity addition.list
 HasRoom (SetAccess nqn access) c = Unit {0}
 HasRoom (RemoveSubsystem nqn) c = Unit {0}

@@ -14,7 +14,7 @@ mod copies;
 mod plans;
 
 use crate::fault::NewFault;
-use crate::plan::{Change, Plan};
+use crate::plan::{ListChange, Plan};
 use crate::{Lists, are_disks};
 use config_lists::allow::Allow;
 use config_lists::group_state::GroupState;
@@ -269,31 +269,37 @@ impl Config {
                 serial,
                 access,
             } => self.plan_subsystem(nqn, serial, *access),
-            Edit::SubsystemSet { nqn, access } => Ok(Plan::new(Change::SetAccess(nqn, *access))),
-            Edit::SubsystemDel { nqn } => Ok(Plan::new(Change::RemoveSubsystem(nqn))),
+            Edit::SubsystemSet { nqn, access } => Ok(Plan::new(ListChange::SetAccess(
+                nqn, *access,
+            ))),
+            Edit::SubsystemDel { nqn } => Ok(Plan::new(ListChange::RemoveSubsystem(nqn))),
             Edit::NamespaceAdd(namespace) => self.plan_namespace(namespace),
             Edit::NamespaceSize {
                 subsystem,
                 nsid,
                 blocks,
-            } => Ok(Plan::new(Change::SetNamespace(subsystem, *nsid, Setting::Blocks(*blocks)))),
+            } => Ok(Plan::new(ListChange::SetNamespace(
+                subsystem,
+                *nsid,
+                Setting::Blocks(*blocks),
+            ))),
             Edit::NamespaceGroup {
                 subsystem,
                 nsid,
                 group,
-            } => Ok(Plan::new(Change::SetNamespace(
+            } => Ok(Plan::new(ListChange::SetNamespace(
                 subsystem,
                 *nsid,
                 Setting::Group(*group as u32),
             ))),
-            Edit::NamespaceDel { subsystem, nsid } => Ok(Plan::new(Change::RemoveNamespace(
+            Edit::NamespaceDel { subsystem, nsid } => Ok(Plan::new(ListChange::RemoveNamespace(
                 subsystem, *nsid,
             ))),
             Edit::NamespaceView {
                 subsystem,
                 nsid,
                 visibility,
-            } => Ok(Plan::new(Change::SetNamespace(
+            } => Ok(Plan::new(ListChange::SetNamespace(
                 subsystem,
                 *nsid,
                 Setting::Visibility(*visibility),
@@ -307,18 +313,18 @@ impl Config {
                 subsystem,
                 nsid,
                 host,
-            } => Ok(Plan::new(Change::RemoveShow(subsystem, *nsid, host))),
+            } => Ok(Plan::new(ListChange::RemoveShow(subsystem, *nsid, host))),
             Edit::PortAdd(endpoint) => self.plan_port(endpoint),
             Edit::PortSet(endpoint) => self.plan_port_set(endpoint),
-            Edit::PortDel { id } => Ok(Plan::new(Change::RemovePort(*id))),
+            Edit::PortDel { id } => Ok(Plan::new(ListChange::RemovePort(*id))),
             Edit::LinkAdd { port, subsystem } => self.plan_link(*port, subsystem),
-            Edit::LinkDel { port, subsystem } => Ok(Plan::new(Change::RemoveLink(
+            Edit::LinkDel { port, subsystem } => Ok(Plan::new(ListChange::RemoveLink(
                 *port, subsystem,
             ))),
             Edit::HostAdd { nqn } => self.plan_host(nqn),
-            Edit::HostDel { nqn } => Ok(Plan::new(Change::SetLive(nqn, false))),
+            Edit::HostDel { nqn } => Ok(Plan::new(ListChange::SetLive(nqn, false))),
             Edit::AllowAdd { subsystem, host } => self.plan_allow(subsystem, host),
-            Edit::AllowDel { subsystem, host } => Ok(Plan::new(Change::RemoveAllow(
+            Edit::AllowDel { subsystem, host } => Ok(Plan::new(ListChange::RemoveAllow(
                 subsystem, host,
             ))),
             Edit::AnaSet {
@@ -329,7 +335,7 @@ impl Config {
             } => self.plan_state(*port, subsystem, *group, *state),
             Edit::ReferralAdd(endpoint) => self.plan_referral(endpoint),
             Edit::ReferralSet(endpoint) => self.plan_referral_set(endpoint),
-            Edit::ReferralDel { id } => Ok(Plan::new(Change::RemoveReferral(*id))),
+            Edit::ReferralDel { id } => Ok(Plan::new(ListChange::RemoveReferral(*id))),
         }
     }
 
@@ -339,31 +345,31 @@ impl Config {
         ensures { self.new ≡ made plan.entry self.old }
     {
         match plan.change {
-            Change::AddSubsystem(addition) => self.add_subsystem(addition),
-            Change::SetAccess(nqn, access) => self.set_access(nqn, access),
-            Change::RemoveSubsystem(nqn) => self.remove_subsystem(nqn),
-            Change::AddNamespace(addition) => self.add_namespace(addition),
-            Change::SetNamespace(nqn, nsid, value) => self.set_namespace(nqn, nsid, value),
-            Change::RemoveNamespace(nqn, nsid) => self.remove_namespace(nqn, nsid),
-            Change::AddPort(addition) => self.add_port(addition),
-            Change::ReplacePort(port) => self.replace_port(port),
-            Change::RemovePort(id) => self.remove_port(id),
-            Change::AddLink(addition) => self.add_link(addition),
-            Change::RemoveLink(port, nqn) => self.remove_link(port, nqn),
-            Change::AddHost(addition) => self.add_host(addition),
-            Change::SetLive(nqn, live) => self.set_live(nqn, live),
-            Change::AddAllow(addition) => self.add_allow(addition),
-            Change::RemoveAllow(nqn, host) => self.remove_allow(nqn, host),
-            Change::AddState(addition) => self.add_state(addition),
-            Change::ReplaceState(port, nqn, group, state) => {
+            ListChange::AddSubsystem(addition) => self.add_subsystem(addition),
+            ListChange::SetAccess(nqn, access) => self.set_access(nqn, access),
+            ListChange::RemoveSubsystem(nqn) => self.remove_subsystem(nqn),
+            ListChange::AddNamespace(addition) => self.add_namespace(addition),
+            ListChange::SetNamespace(nqn, nsid, value) => self.set_namespace(nqn, nsid, value),
+            ListChange::RemoveNamespace(nqn, nsid) => self.remove_namespace(nqn, nsid),
+            ListChange::AddPort(addition) => self.add_port(addition),
+            ListChange::ReplacePort(port) => self.replace_port(port),
+            ListChange::RemovePort(id) => self.remove_port(id),
+            ListChange::AddLink(addition) => self.add_link(addition),
+            ListChange::RemoveLink(port, nqn) => self.remove_link(port, nqn),
+            ListChange::AddHost(addition) => self.add_host(addition),
+            ListChange::SetLive(nqn, live) => self.set_live(nqn, live),
+            ListChange::AddAllow(addition) => self.add_allow(addition),
+            ListChange::RemoveAllow(nqn, host) => self.remove_allow(nqn, host),
+            ListChange::AddState(addition) => self.add_state(addition),
+            ListChange::ReplaceState(port, nqn, group, state) => {
                 self.replace_state(port, nqn, group, state)
             }
-            Change::RemoveState(port, nqn, group) => self.remove_state(port, nqn, group),
-            Change::AddReferral(addition) => self.add_referral(addition),
-            Change::ReplaceReferral(referral) => self.replace_referral(referral),
-            Change::RemoveReferral(id) => self.remove_referral(id),
-            Change::AddShow(addition) => self.add_show(addition),
-            Change::RemoveShow(nqn, nsid, host) => self.remove_show(nqn, nsid, host),
+            ListChange::RemoveState(port, nqn, group) => self.remove_state(port, nqn, group),
+            ListChange::AddReferral(addition) => self.add_referral(addition),
+            ListChange::ReplaceReferral(referral) => self.replace_referral(referral),
+            ListChange::RemoveReferral(id) => self.remove_referral(id),
+            ListChange::AddShow(addition) => self.add_show(addition),
+            ListChange::RemoveShow(nqn, nsid, host) => self.remove_show(nqn, nsid, host),
         }
     }
 

@@ -15,11 +15,11 @@ use std::alloc::{AllocError, Global};
 /// What an edit makes of the configuration that prepared it. It holds all the memory that this takes.
 #[derive(Drop)]
 pub struct Plan<'e> {
-    pub(crate) change: Change<'e>,
+    pub(crate) change: ListChange<'e>,
 }
 
 impl<'e> Plan<'e> {
-    pub(crate) fn new(change: Change<'e>) -> Plan<'e>
+    pub(crate) fn new(change: ListChange<'e>) -> Plan<'e>
         ensures { result.change ≡ change.entry }
     {
         Plan { change }
@@ -28,7 +28,7 @@ impl<'e> Plan<'e> {
 
 /// A change of one of the lists.
 #[derive(Drop)]
-pub(crate) enum Change<'e> {
+pub(crate) enum ListChange<'e> {
     AddSubsystem(Addition<Subsystem>),
     SetAccess(&'e Nqn, Access),
     RemoveSubsystem(&'e Nqn),

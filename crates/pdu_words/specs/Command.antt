@@ -1,8 +1,8 @@
 -- Which command a submission queue entry is (Base 2.0, sections 5 and 6; NVM Command Set 1.0, section 3.2).
 use Rattle.std.specs.Prelude.{ℕ, ◌%◌, ◌==◌, List, slice_index, if◌then◌else◌}
 use Rattle.pdu_codec.specs.Sqe.{opcode_of, fctype_of, connect_of, property_of, get_log_page_of, feature_of}
-use Rattle.pdu_words.specs.declared.command.Queue.{Queue}
-use Rattle.pdu_words.specs.declared.command.Queue.TheVariants as queue
+use Rattle.pdu_words.specs.declared.command.QueueKind.{QueueKind}
+use Rattle.pdu_words.specs.declared.command.QueueKind.TheVariants as queue
 use Rattle.pdu_words.specs.declared.command.Command.{Command}
 use Rattle.pdu_words.specs.declared.command.Command.TheVariants as command
 
@@ -55,10 +55,10 @@ io_opcode opcode =
 abbrev pub io_command : List ℕ → Command
 io_command entry = io_opcode (opcode_of entry)
 
-abbrev pub queue_command : Queue → List ℕ → Command
+abbrev pub queue_command : QueueKind → List ℕ → Command
 queue_command queue.Admin entry = admin_command entry
 queue_command queue.Io entry = io_command entry
 
 -- a Fabrics command is one on each queue
-abbrev pub command_of : Queue → List ℕ → Command
+abbrev pub command_of : QueueKind → List ℕ → Command
 command_of q entry = if opcode_of entry == 0x7F then fabrics_command entry else queue_command q entry

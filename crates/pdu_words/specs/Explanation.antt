@@ -11,7 +11,7 @@ use Rattle.pdu_codec.specs.Cqe.{completion_in, completed_cid_of, sqhd_of, status
 use Rattle.pdu_codec.specs.DataHead.{data_head_of}
 use Rattle.pdu_codec.specs.R2t.{r2t_of}
 use Rattle.pdu_words.specs.declared.command.Command.{Command}
-use Rattle.pdu_words.specs.declared.explanation.Completion.{Completion}
+use Rattle.pdu_words.specs.declared.explanation.ResponseFields.{ResponseFields}
 use Rattle.pdu_words.specs.declared.explanation.Explanation.{Explanation}
 use Rattle.pdu_words.specs.declared.explanation.Explanation.TheVariants as explanation
 
@@ -20,7 +20,7 @@ abbrev pub entry_of : List ℕ → List ℕ
 entry_of bytes = completion_in (slice_range bytes 0 24)
 
 -- what it says
-abbrev pub completion_of : List ℕ → Completion
+abbrev pub completion_of : List ℕ → ResponseFields
 completion_of bytes = record {
   cid = completed_cid_of (entry_of bytes);
   sqhd = sqhd_of (entry_of bytes);

@@ -1,14 +1,14 @@
 -- Which command a PDU speaks of.
 use Rattle.std.specs.Prelude.{◌==◌, ◌&&◌, ◌%◌, Bool, true, false, Option, Some, None, if◌then◌else◌}
 use Rattle.pdu_words.specs.declared.command.Command.TheVariants as command
-use Rattle.pdu_words.specs.declared.explanation.Completion.{Completion}
+use Rattle.pdu_words.specs.declared.explanation.ResponseFields.{ResponseFields}
 use Rattle.pdu_words.specs.declared.explanation.Explanation.{Explanation}
 use Rattle.pdu_words.specs.declared.explanation.Explanation.TheVariants as explanation
 use Rattle.pdu_words.specs.declared.subject.Subject.{Subject}
 use Rattle.pdu_words.specs.declared.subject.Which.TheVariants.{Oldest, Newest}
 
 -- A conflict of identifiers (status 03h) is that of the newest command with its CID: the others go on.
-abbrev pub subject_of_completion : Completion → Subject
+abbrev pub subject_of_completion : ResponseFields → Subject
 subject_of_completion completion = record {
   which = if completion.status.sct == 0 && completion.status.sc == 0x03 then Newest else Oldest;
   cid = completion.cid;

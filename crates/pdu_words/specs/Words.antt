@@ -9,7 +9,7 @@ use Rattle.pdu_codec.specs.declared.r2t.R2t.{R2t}
 use Rattle.pdu_codec.specs.declared.termination.TermReq.{TermReq}
 use Rattle.pdu_words.specs.declared.command.Command.{Command}
 use Rattle.pdu_words.specs.declared.command.Command.TheVariants as command
-use Rattle.pdu_words.specs.declared.explanation.Completion.{Completion}
+use Rattle.pdu_words.specs.declared.explanation.ResponseFields.{ResponseFields}
 use Rattle.pdu_words.specs.declared.explanation.Explanation.{Explanation}
 use Rattle.pdu_words.specs.declared.explanation.Explanation.TheVariants as explanation
 use Rattle.pdu_words.specs.Names.{fatal_error_name, identify_name, log_page_name, notice_name, property_name, status_name}
@@ -121,7 +121,7 @@ result_words result = if result == 0 then [] else codes ", result " ++ hex_words
 abbrev pub place_words : ℕ → List ℕ
 place_words result = if result / 0x10000 % 2 == 1 then codes "data" else codes "command"
 
-abbrev pub connect_result_words : Completion → List ℕ
+abbrev pub connect_result_words : ResponseFields → List ℕ
 connect_result_words completion =
     if completion.status.sct == 0 && completion.status.sc == 0x00
     then codes ", CNTLID " ++ decimal (completion.result % 0x10000) else
@@ -130,14 +130,14 @@ connect_result_words completion =
     result_words completion.result
 
 -- the answer of a Connect
-abbrev pub connect_answer_words : Completion → List ℕ
+abbrev pub connect_answer_words : ResponseFields → List ℕ
 connect_answer_words completion = status_words completion.status ++ connect_result_words completion
 
 abbrev pub succeeds : Status → Bool
 succeeds status = status.sct == 0 && status.sc == 0x00
 
 -- the event that a request tells: type 2, in bits 2:0, is a notice, and bits 15:8 say which (Base 2.0, section 5.2.1)
-unfoldable pub event_name : Completion → Option (List ℕ)
+unfoldable pub event_name : ResponseFields → Option (List ℕ)
 event_name completion =
     if succeeds completion.status && completion.result % 8 == 2 then notice_name (completion.result / 0x100 % 0x100) else None
 
@@ -153,19 +153,19 @@ event_words_by None result = result_words result
 event_words_by (Some name) result = notice_words name (log_to_read result)
 
 -- Select 0 to 2 ask for the value of a feature (Base 2.0, section 5.15)
-abbrev pub feature_words : Completion → ℕ → ℕ → List ℕ
+abbrev pub feature_words : ResponseFields → ℕ → ℕ → List ℕ
 feature_words completion fid select =
     if succeeds completion.status && fid == 0x0B && nat_lt select 3
     then codes ", " ++ kinds_words completion.result else result_words completion.result
 
 -- the result, by the command that it is of
-abbrev pub answer_words : Completion → Option Command → List ℕ
+abbrev pub answer_words : ResponseFields → Option Command → List ℕ
 answer_words completion (Some (command.Connect qid)) = connect_result_words completion
 answer_words completion (Some command.AsynchronousEventRequest) = event_words_by (event_name completion) completion.result
 answer_words completion (Some (command.GetFeatures fid select)) = feature_words completion fid select
 answer_words completion other = result_words completion.result
 
-abbrev pub completion_words : Completion → Option Command → List ℕ
+abbrev pub completion_words : ResponseFields → Option Command → List ℕ
 completion_words completion known =
     codes "CapsuleResp CID " ++ decimal completion.cid ++ codes " SQHD " ++ decimal completion.sqhd ++ codes " "
     ++ status_words completion.status ++ retry_words completion.status ++ answer_words completion known ++ named_words known

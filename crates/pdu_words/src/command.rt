@@ -7,7 +7,7 @@ use pdu_codec::{Connect, Feature, GetLogPage, Property, Sqe};
 
 /// The two kinds of queues, on which opcodes mean different commands.
 #[derive(Clone, Copy)]
-pub enum Queue {
+pub enum QueueKind {
     Admin,
     Io,
 }
@@ -47,15 +47,15 @@ impl Command {
     const FABRICS: u8 = 0x7F;
 
     /// The command that the entry is on a queue of this kind.
-    pub fn read(queue: Queue, sqe: &Sqe<'_>) -> Command
+    pub fn read(queue: QueueKind, sqe: &Sqe<'_>) -> Command
         ensures { result ≡ command_of queue sqe.now.entry.now }
     {
         if sqe.opcode() == Command::FABRICS {
             return Command::fabrics(sqe);
         }
         match queue {
-            Queue::Admin => Command::admin(sqe),
-            Queue::Io => Command::io(sqe),
+            QueueKind::Admin => Command::admin(sqe),
+            QueueKind::Io => Command::io(sqe),
         }
     }
 

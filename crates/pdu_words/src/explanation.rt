@@ -9,7 +9,7 @@ use pdu_codec::{Cqe, DataHead, IcReq, IcResp, R2t, TermReq};
 
 /// What a response says of its command.
 #[derive(Clone, Copy)]
-pub struct Completion {
+pub struct ResponseFields {
     /// Command identifier.
     pub cid: u16,
     /// Submission queue head pointer.
@@ -31,7 +31,7 @@ pub enum Explanation {
         command: Option<Command>,
     },
     CapsuleResp {
-        completion: Completion,
+        completion: ResponseFields,
         command: Option<Command>,
     },
     H2cData {
@@ -114,12 +114,12 @@ fn explain_header(kind: PduType, bytes: &[u8], command: Option<Command>) -> Expl
     }
 }
 
-fn read_completion(bytes: &[u8]) -> Completion
+fn read_completion(bytes: &[u8]) -> ResponseFields
     requires { 24 ≤ length bytes.now }
     ensures { result ≡ completion_of bytes.now }
 {
     let cqe = Cqe::read(response_header(bytes));
-    Completion {
+    ResponseFields {
         cid: cqe.cid(),
         sqhd: cqe.sqhd(),
         status: cqe.status(),

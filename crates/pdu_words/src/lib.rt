@@ -9,8 +9,8 @@ pub mod pages;
 pub mod subject;
 pub mod words;
 
-pub use command::{Command, Queue};
-pub use explanation::{Completion, Explanation, explain};
+pub use command::{Command, QueueKind};
+pub use explanation::{Explanation, ResponseFields, explain};
 pub use pages::Described;
 pub use subject::{Subject, Which};
 pub use words::ConnectAnswer;

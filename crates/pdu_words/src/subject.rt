@@ -3,7 +3,7 @@ ghost use Rattle.std.specs.Prelude.{◌≡◌};
 ghost use Rattle.pdu_words.specs.Subject.{subject_of, completes, resets, subject_of_completion};
 
 use crate::command::Command;
-use crate::explanation::{Completion, Explanation};
+use crate::explanation::{Explanation, ResponseFields};
 
 /// Which of the outstanding commands with one identifier. Only by a host's error are there several.
 #[derive(Clone, Copy)]
@@ -83,7 +83,7 @@ fn oldest(cid: u16) -> Subject
     }
 }
 
-fn subject_of_completion(completion: Completion) -> Subject
+fn subject_of_completion(completion: ResponseFields) -> Subject
     ensures { result ≡ subject_of_completion completion }
 {
     let status = completion.status;

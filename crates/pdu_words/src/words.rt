@@ -13,7 +13,7 @@ ghost use Rattle.pdu_words.specs.Words.{status_words, termination_words, words_o
 ghost use Rattle.pdu_words.specs.Names.{identify_name, log_page_name};
 
 use crate::command::Command;
-use crate::explanation::{Completion, Explanation};
+use crate::explanation::{Explanation, ResponseFields};
 use crate::names::{
     fatal_error_name, identify_name, log_page_name, notice_name, property_name, status_name,
 };
@@ -116,7 +116,7 @@ impl fmt::Display for Information {
 
 fn write_completion<W: fmt::Write>(
     f: &mut Formatter<W>,
-    completion: Completion,
+    completion: ResponseFields,
     command: Option<Command>,
 ) -> fmt::Result
     ensures { WritesOnOk W.write_str_gives f.old result (completion_words completion command) f.new }
@@ -159,7 +159,7 @@ fn retry_words(status: Status) -> &'static str
 
 // The result of a command.
 #[derive(Clone, Copy)]
-struct Answer(Completion, Option<Command>);
+struct Answer(ResponseFields, Option<Command>);
 
 impl fmt::Display for Answer {
     ghost output = { λ answer. Some (answer_words answer.0 answer.1) };
@@ -195,7 +195,10 @@ fn parameter_place(dwords: u64) -> &'static str
 
 // The low 16 bits are the controller's identifier, or the offset of the parameter that is invalid
 // (Base 2.0, section 6.3).
-fn write_connect_result<W: fmt::Write>(f: &mut Formatter<W>, completion: Completion) -> fmt::Result
+fn write_connect_result<W: fmt::Write>(
+    f: &mut Formatter<W>,
+    completion: ResponseFields,
+) -> fmt::Result
     ensures { WritesOnOk W.write_str_gives f.old result (connect_result_words completion) f.new }
 {
     let (sct, sc) = (completion.status.sct, completion.status.sc);
@@ -212,7 +215,7 @@ fn write_connect_result<W: fmt::Write>(f: &mut Formatter<W>, completion: Complet
 
 /// The words of a Connect's answer: its status, and the identifier of the controller or what was wrong.
 #[derive(Clone, Copy)]
-pub struct ConnectAnswer(pub Completion);
+pub struct ConnectAnswer(pub ResponseFields);
 
 impl fmt::Display for ConnectAnswer {
     ghost output = { λ answer. Some (connect_answer_words answer.0) };
@@ -232,7 +235,7 @@ fn succeeds(status: Status) -> bool
 
 // The event that a request tells: type 2 is a notice.
 #[tactic(auto, unfolding(crate::specs::Words::event_name))]
-fn event_name(completion: Completion) -> Option<&'static str>
+fn event_name(completion: ResponseFields) -> Option<&'static str>
     ensures { MatchOption result (event_name completion ≡ None) (λ name. event_name completion ≡ Some name.now) }
 {
     if succeeds(completion.status) && completion.result % 8 == 2 {
@@ -249,7 +252,7 @@ fn log_to_read(dwords: u64) -> u8
 }
 
 // .. and the log page that the host is to read.
-fn write_event<W: fmt::Write>(f: &mut Formatter<W>, completion: Completion) -> fmt::Result
+fn write_event<W: fmt::Write>(f: &mut Formatter<W>, completion: ResponseFields) -> fmt::Result
     ensures { WritesOnOk W.write_str_gives f.old result
         (event_words_by (event_name completion) completion.result) f.new }
 {
@@ -270,7 +273,7 @@ fn write_notice<W: fmt::Write>(f: &mut Formatter<W>, name: &str, log: u8) -> fmt
 // Select 0 to 2 ask for a value.
 fn write_feature<W: fmt::Write>(
     f: &mut Formatter<W>,
-    completion: Completion,
+    completion: ResponseFields,
     fid: u8,
     select: u8,
 ) -> fmt::Result

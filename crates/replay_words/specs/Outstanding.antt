@@ -2,8 +2,8 @@
 use Rattle.std.specs.Prelude.{ℕ, ◌+◌, ◌-◌, ◌==◌, Bool, List, [], ◌∷◌, ◌++◌, length, drop, reverse, slice_get, nat_lt, Option, Some, None, option_map, if◌then◌else◌}
 use Rattle.std.specs.List.{position, remove}
 use Rattle.pdu_codec.specs.Sqe.{cid_of}
-use Rattle.pdu_words.specs.declared.command.Queue.{Queue}
-use Rattle.pdu_words.specs.declared.command.Queue.TheVariants as queue
+use Rattle.pdu_words.specs.declared.command.QueueKind.{QueueKind}
+use Rattle.pdu_words.specs.declared.command.QueueKind.TheVariants as queue
 use Rattle.pdu_words.specs.declared.command.Command.{Command}
 use Rattle.pdu_words.specs.declared.command.Command.TheVariants as command
 use Rattle.pdu_words.specs.declared.subject.Subject.{Subject}
@@ -14,7 +14,7 @@ use Rattle.pdu_words.specs.Command.{command_of}
 
 -- the queue that the last Connect asked for, and the commands, the oldest first
 pub record Outstanding : Type 0 where
-  pub queue : Queue
+  pub queue : QueueKind
   pub sent : List Sent
 
 abbrev pub none_outstanding : Outstanding
@@ -25,7 +25,7 @@ abbrev pub remembered : List Sent → Sent → List Sent
 remembered sent new = (if nat_lt (length sent) 1024 then sent else drop 1 sent) ++ new ∷ []
 
 -- a Connect names the queue of the commands after it: QID 0 is the admin queue
-abbrev pub queue_after : Command → Queue → Queue
+abbrev pub queue_after : Command → QueueKind → QueueKind
 queue_after (command.Connect qid) q = if qid == 0 then queue.Admin else queue.Io
 queue_after _ q = q
 

@@ -8,7 +8,7 @@ ghost use Rattle.replay_words.specs.Outstanding.{behind_subject};
 ghost use Rattle.replay_words.specs.Outstanding.{first_place_of, last_place_of, has_cid};
 
 use pdu_codec::Sqe;
-use pdu_words::{Command, Queue, Subject, Which};
+use pdu_words::{Command, QueueKind, Subject, Which};
 use std::alloc::{AllocError, Global};
 use std::marker::Model;
 
@@ -25,7 +25,7 @@ pub struct Sent {
 /// The commands of a connection, the oldest first, and the queue that they are sent on.
 #[derive(Drop)]
 pub struct OutstandingCommands {
-    queue: Queue,
+    queue: QueueKind,
     sent: Vec<Sent>,
 }
 
@@ -46,7 +46,7 @@ impl OutstandingCommands {
         ensures { IfOk result (λ commands. commands ≡ none_outstanding) }
     {
         Ok(OutstandingCommands {
-            queue: Queue::Admin,
+            queue: QueueKind::Admin,
             sent: Vec::with_capacity(alloc, COMMANDS_MAX)?,
         })
     }
@@ -108,12 +108,12 @@ fn forget_first(sent: &mut Vec<Sent>, count: usize)
 }
 
 // The queue of the commands after this one.
-fn queue_after(command: Command, queue: Queue) -> Queue
+fn queue_after(command: Command, queue: QueueKind) -> QueueKind
     ensures { result ≡ queue_after command queue }
 {
     match command {
-        Command::Connect { qid: 0 } => Queue::Admin,
-        Command::Connect { qid: _ } => Queue::Io,
+        Command::Connect { qid: 0 } => QueueKind::Admin,
+        Command::Connect { qid: _ } => QueueKind::Io,
         _ => queue,
     }
 }

@@ -8,7 +8,7 @@ use Rattle.io_queue.specs.Operation.{disk_of}
 use Rattle.io_queue.specs.Reply.{returned_pdus}
 use Rattle.nvt_fields.specs.declared.status.Status.{Status}
 use Rattle.pdu_cut.specs.Front.{Front}
-use Rattle.target_decision.specs.declared.decision.Answer.TheVariants as answer
+use Rattle.target_decision.specs.declared.decision.ReplyAnswer.TheVariants as answer
 use Rattle.target_decision.specs.declared.decision.Decision.TheVariants as decision
 use Rattle.target_decision.specs.declared.decision.Given.{Given}
 use Rattle.target_decision.specs.declared.decision.Reply.{Reply}

@@ -24,7 +24,7 @@ use Rattle.property_regs.specs.Regs.{change_by, configuration_set, property_get}
 use Rattle.target_decision.specs.declared.capsule.Served.TheVariants.{Answered, Asked, Waits}
 use Rattle.target_decision.specs.declared.capsule.Refusal.{Refusal}
 use Rattle.target_decision.specs.declared.capsule.Success.{Success}
-use Rattle.target_decision.specs.declared.decision.Answer.TheVariants as answer
+use Rattle.target_decision.specs.declared.decision.ReplyAnswer.TheVariants as answer
 use Rattle.target_decision.specs.declared.consequence.Consequence.{Consequence}
 use Rattle.target_decision.specs.declared.consequence.Consequence.TheVariants as consequence
 use Rattle.target_decision.specs.declared.consequence.Update.TheVariants as update

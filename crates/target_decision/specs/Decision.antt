@@ -29,8 +29,8 @@ use Rattle.pdu_codec.specs.Sqe.{cid_of, entry_in}
 use Rattle.pdu_codec.specs.TermReq.{c2h_term_req}
 use Rattle.pdu_cut.specs.Front.{Front, incomplete, whole, faulty}
 use Rattle.pdu_cut.specs.Pdu.{Pdu, header_part, data_part}
-use Rattle.target_decision.specs.declared.decision.Answer.{Answer}
-use Rattle.target_decision.specs.declared.decision.Answer.TheVariants as answer
+use Rattle.target_decision.specs.declared.decision.ReplyAnswer.{ReplyAnswer}
+use Rattle.target_decision.specs.declared.decision.ReplyAnswer.TheVariants as answer
 use Rattle.target_decision.specs.declared.decision.Decision.{Decision}
 use Rattle.target_decision.specs.declared.decision.Decision.TheVariants as decision
 use Rattle.target_decision.specs.declared.decision.Reply.{Reply}
@@ -135,7 +135,7 @@ payload_at w c None = None
 payload_at w None (Some payload) = None
 payload_at w (Some c) (Some payload) = Some (payload_bytes payload w.pages w.config c)
 
-abbrev pub payload_in : Answer → Option Payload
+abbrev pub payload_in : ReplyAnswer → Option Payload
 payload_in (answer.Given g) = g.«data»
 payload_in (answer.Performed op) = None
 
@@ -185,7 +185,7 @@ bytes_at incomplete = []
 bytes_at (faulty fault head) = []
 
 -- what an answer says, with the data that it returns of its controller, where it returns any
-abbrev pub said_by : DataFormat → Answer → Option (List ℕ) → List ℕ → (ℕ → List (List ℕ)) → DiskOutcome → Said
+abbrev pub said_by : DataFormat → ReplyAnswer → Option (List ℕ) → List ℕ → (ℕ → List (List ℕ)) → DiskOutcome → Said
 said_by format (answer.Given g) payload bytes contents m =
     record { status = g.status; result = g.result; data_pdus = returned_pdus format payload }
 said_by format (answer.Performed op) payload bytes contents m = record {
@@ -212,7 +212,7 @@ wire_of alignment decision.Close front b payload contents m = []
 abbrev pub sent_by : World → (ℕ → List (List ℕ)) → DiskOutcome → ConnectionState → Decision → Front → Brought → List ℕ
 sent_by w contents m v d front b = wire_of v.alignment d front b (data_of w v d) contents m
 
-abbrev pub operation_in : Answer → Option Operation
+abbrev pub operation_in : ReplyAnswer → Option Operation
 operation_in (answer.Given g) = None
 operation_in (answer.Performed op) = Some op
 

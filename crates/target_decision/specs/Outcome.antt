@@ -7,7 +7,7 @@ use Rattle.io_queue.specs.declared.operation.Operation.{Operation}
 use Rattle.target_decision.specs.declared.capsule.Served.{Served}
 use Rattle.target_decision.specs.declared.capsule.Served.TheVariants.{Answered, Asked, Waits}
 use Rattle.target_decision.specs.declared.capsule.Refusal.{Refusal}
-use Rattle.target_decision.specs.declared.decision.Answer.TheVariants.{Given, Performed}
+use Rattle.target_decision.specs.declared.decision.ReplyAnswer.TheVariants.{Given, Performed}
 use Rattle.target_decision.specs.declared.consequence.Consequence.{Consequence}
 use Rattle.target_decision.specs.declared.consequence.Consequence.TheVariants as consequence
 

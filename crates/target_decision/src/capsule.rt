@@ -11,7 +11,7 @@ ghost use Rattle.target_decision.specs.Transfer.{tags_in};
 ghost use Rattle.target_decision.specs.World.{world_in};
 
 use crate::consequence::Consequence;
-use crate::decision::{Answer, DataRequest, Decision, Given, Reply, terminate};
+use crate::decision::{DataRequest, Decision, Given, Reply, ReplyAnswer, terminate};
 use crate::fabrics::{CONNECT, FABRICS};
 use crate::queue::next_head;
 use crate::session::{ConnectionState, Role, Session};
@@ -47,7 +47,7 @@ pub(crate) enum Served {
 /// What a command is answered that is not refused, and what follows from it.
 #[derive(Clone, Copy)]
 pub(crate) struct Success {
-    pub answer: Answer,
+    pub answer: ReplyAnswer,
     pub consequence: Consequence,
 }
 
@@ -218,7 +218,7 @@ fn refused_with(session: &Session, cid: u16, transfer: Option<u16>, refusal: Ref
         cid,
         sqhd: head_after(session, &Consequence::Nothing),
         transfer,
-        answer: Answer::Given(Given {
+        answer: ReplyAnswer::Given(Given {
             status: refusal.status,
             result: refusal.result,
             data: None,
@@ -262,7 +262,7 @@ pub(crate) fn given(value: u64, payload: Option<Payload>, consequence: Consequen
     ensures { result ≡ given value payload consequence }
 {
     Ok(Served::Answered(Success {
-        answer: Answer::Given(Given {
+        answer: ReplyAnswer::Given(Given {
             status: Status::SUCCESS,
             result: value,
             data: payload,
@@ -276,7 +276,7 @@ pub(crate) fn performed(operation: Operation) -> Outcome
     ensures { result ≡ performed operation }
 {
     Ok(Served::Answered(Success {
-        answer: Answer::Performed(operation),
+        answer: ReplyAnswer::Performed(operation),
         consequence: Consequence::Nothing,
     }))
 }

@@ -5,7 +5,7 @@ ghost use Rattle.target_decision.specs.Data.{bytes_in, bytes_of, data_len, len_i
 ghost use Rattle.target_decision.specs.Decision.{data_of, payload_of};
 ghost use Rattle.target_decision.specs.World.{world_in};
 
-use crate::decision::{Answer, Decision};
+use crate::decision::{Decision, ReplyAnswer};
 use crate::session::ConnectionState;
 use crate::world::World;
 use admin_queue::{AdminController, Payload};
@@ -63,8 +63,8 @@ fn payload_of(decision: &Decision) -> Option<Payload>
 {
     match decision {
         Decision::Reply(reply) => match &reply.answer {
-            Answer::Given(given) => given.data,
-            Answer::Performed(_) => None,
+            ReplyAnswer::Given(given) => given.data,
+            ReplyAnswer::Performed(_) => None,
         },
         Decision::Initialize(_)
         | Decision::Request(_)

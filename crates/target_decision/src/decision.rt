@@ -64,7 +64,7 @@ pub struct Reply {
     pub sqhd: u16,
     /// The tag (TTAG) of the transfer that brought the command's data, which this ends.
     pub transfer: Option<u16>,
-    pub answer: Answer,
+    pub answer: ReplyAnswer,
     pub consequence: Consequence,
 }
 
@@ -79,7 +79,7 @@ pub struct DataRequest {
 
 /// What a reply says.
 #[derive(Clone, Copy)]
-pub enum Answer {
+pub enum ReplyAnswer {
     Given(Given),
     /// An operation is performed on its disk, and answered as that goes.
     Performed(Operation),

@@ -17,7 +17,7 @@ ghost use Rattle.target_decision.specs.World.{world_in};
 use crate::carry::{Carried, carry};
 use crate::consequence::Consequence;
 use crate::data::{Data, len_in};
-use crate::decision::{Answer, Decision};
+use crate::decision::{Decision, ReplyAnswer};
 use crate::session::ConnectionState;
 use crate::tell::TOLD_ROOM;
 use crate::transfer::WaitingCommand;
@@ -106,8 +106,8 @@ fn room_of(decision: &Decision) -> usize
 {
     match decision {
         Decision::Reply(reply) => match &reply.answer {
-            Answer::Given(_) => 0,
-            Answer::Performed(operation) => operation.room(),
+            ReplyAnswer::Given(_) => 0,
+            ReplyAnswer::Performed(operation) => operation.room(),
         },
         Decision::Initialize(_)
         | Decision::Request(_)

@@ -4,19 +4,19 @@ ghost use Rattle.target_decision.specs.Queue.{new_queue, next_head, next_head_of
 
 /// The submission queue that a Connect made.
 #[derive(Clone, Copy)]
-pub struct Queue {
+pub struct SubmissionQueue {
     /// Its size, 0's based: 1 to 63.
     pub sqsize: u16,
     /// The number of responses sent since the Connect, its own included, modulo the queue's size.
     pub head: u16,
 }
 
-impl Queue {
+impl SubmissionQueue {
     /// The queue before the response to its Connect.
-    pub(crate) fn new(sqsize: u16) -> Queue
+    pub(crate) fn new(sqsize: u16) -> SubmissionQueue
         ensures { result ≡ new_queue sqsize }
     {
-        Queue { sqsize, head: 0 }
+        SubmissionQueue { sqsize, head: 0 }
     }
 
     /// The submission queue head after one more response.

@@ -8,7 +8,7 @@ use crate::alignment::Alignment;
 use crate::consequence::Consequence;
 use crate::decision::Decision;
 use crate::notice::note;
-use crate::queue::Queue;
+use crate::queue::SubmissionQueue;
 use admin_queue::Notices;
 
 /// A connection, as far as a decision may look at it.
@@ -56,7 +56,7 @@ pub enum Session {
     /// The ICResp is sent: the host owes a Connect.
     Initialized,
     /// A Connect made it a queue of a controller.
-    Connected { role: Role, queue: Queue },
+    Connected { role: Role, queue: SubmissionQueue },
     /// It is ended: nothing more is consumed or sent.
     Ended,
 }
@@ -113,7 +113,7 @@ impl Session {
     fn connect(&mut self, role: Role, sqsize: u16)
         ensures { self.new ≡ Session.Connected role (responded (new_queue sqsize)) }
     {
-        let mut queue = Queue::new(sqsize);
+        let mut queue = SubmissionQueue::new(sqsize);
         queue.responded();
         *self = Session::Connected { role, queue };
     }

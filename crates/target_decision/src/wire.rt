@@ -16,7 +16,7 @@ ghost use Rattle.pdu_codec.specs.TermReq.{c2h_term_req};
 use crate::alignment::Alignment;
 use crate::carry::Carried;
 use crate::data::Data;
-use crate::decision::{Answer, DataRequest, Decision, Reply, Termination};
+use crate::decision::{DataRequest, Decision, Reply, ReplyAnswer, Termination};
 use block_store::{Disk, Store};
 use bytes::BytesMut;
 use data_transfer::{MAX_H2C_DATA, PIECE_LEN, Piece, pieces};
@@ -84,11 +84,11 @@ fn write_reply<D: Disk>(
         output.old.spare ≤ output.new.spare + room }
 {
     match &reply.answer {
-        Answer::Given(given) => {
+        ReplyAnswer::Given(given) => {
             write_data(output, format_of(reply, alignment), returned);
             write_response(output, reply, given.status, given.result);
         }
-        Answer::Performed(operation) => {
+        ReplyAnswer::Performed(operation) => {
             let status = perform(
                 stores,
                 operation,

@@ -26,11 +26,11 @@ use Rattle.nvt_fields.specs.Status.{command_sequence_error}
 use Rattle.pdu_codec.specs.Sqe.{fctype_of, opcode_of}
 use Rattle.pdu_cut.specs.Front.{Front, incomplete, whole, faulty}
 use Rattle.pdu_cut.specs.Pdu.{Pdu, data_part}
-use Rattle.target_decision.specs.declared.decision.Answer.{Answer}
-use Rattle.target_decision.specs.declared.decision.Answer.TheVariants as answer
+use Rattle.target_decision.specs.declared.decision.ReplyAnswer.{ReplyAnswer}
+use Rattle.target_decision.specs.declared.decision.ReplyAnswer.TheVariants as answer
 use Rattle.target_decision.specs.declared.decision.Decision.{Decision}
 use Rattle.target_decision.specs.declared.decision.Decision.TheVariants as decision
-use Rattle.target_decision.specs.declared.queue.Queue.{Queue}
+use Rattle.target_decision.specs.declared.queue.SubmissionQueue.{SubmissionQueue}
 use Rattle.target_decision.specs.declared.session.ConnectionState.{ConnectionState}
 use Rattle.target_decision.specs.declared.session.Role.{Role}
 use Rattle.target_decision.specs.declared.session.Role.TheVariants.{Admin, Io}
@@ -150,7 +150,7 @@ end_seen_alike : (o : Option IoSeen) (v w : World) (entry : List ℕ) (came : �
 end_seen_alike None v w entry came h = refl
 end_seen_alike (Some s) v w entry came h = end_of_alike s.subsystem s.host s.port v w entry came h
 
-ends_alike : (v w : World) (n : NoticeState) (role : Role) (queue : Queue) → RoleAlike v w n role → (entry : List ℕ) (came : ℕ)
+ends_alike : (v w : World) (n : NoticeState) (role : Role) (queue : SubmissionQueue) → RoleAlike v w n role → (entry : List ℕ) (came : ℕ)
     → finished v (Connected role queue) entry came ≡ finished w (Connected role queue) entry came
 ends_alike v w n (Admin cntlid) queue h entry came = refl
 ends_alike v w n (Io cntlid qid) queue h entry came =
@@ -243,7 +243,7 @@ data_alike v w c (Connected (Admin cntlid) queue) front d h = admin_data v w c.n
 data_alike v w c (Connected (Io cntlid qid) queue) front d h = payload_alike v w None (payload_of d) tt
 data_alike v w c Ended front d h = payload_alike v w None (payload_of d) tt
 
-said_alike : (format : DataFormat) (a : Answer) (payload : Option (List ℕ)) (bytes : List ℕ) (b c : ℕ → List (List ℕ)) (m : DiskOutcome) → DiskAlike (operation_in a) b c
+said_alike : (format : DataFormat) (a : ReplyAnswer) (payload : Option (List ℕ)) (bytes : List ℕ) (b c : ℕ → List (List ℕ)) (m : DiskOutcome) → DiskAlike (operation_in a) b c
     → said_by format a payload bytes b m ≡ said_by format a payload bytes c m
 said_alike format (answer.Given g) payload bytes b c m h = refl
 said_alike format (answer.Performed op) payload bytes b c m h = rw h refl

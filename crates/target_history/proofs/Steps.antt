@@ -12,7 +12,7 @@ use Rattle.target_decision.specs.declared.consequence.Consequence.{Consequence}
 use Rattle.target_decision.specs.declared.consequence.Consequence.TheVariants as consequence
 use Rattle.target_decision.specs.declared.decision.Decision.{Decision}
 use Rattle.target_decision.specs.declared.decision.Decision.TheVariants as decision
-use Rattle.target_decision.specs.declared.queue.Queue.{Queue}
+use Rattle.target_decision.specs.declared.queue.SubmissionQueue.{SubmissionQueue}
 use Rattle.target_decision.specs.declared.session.ConnectionState.{ConnectionState}
 use Rattle.target_decision.specs.declared.session.Role.{Role}
 use Rattle.target_decision.specs.declared.session.Session.{Session}
@@ -123,14 +123,14 @@ told_by false false false i a m n s cs is h = ap (session_with a i) is ∙ compl
 
 -- ---- what may be decided
 
-abbrev on_queue : ℕ → ℕ → NoticeState → Role → Queue → ConnectionState
+abbrev on_queue : ℕ → ℕ → NoticeState → Role → SubmissionQueue → ConnectionState
 on_queue port alignment notices role q = record { port = port; session = Connected role q; alignment = alignment; notices = notices }
 
 -- a connection that has a queue is not initialized again
 owed_not : (s : Session) (cid : ℕ) (transfer : Option ℕ) (o : Outcome) → is_initialize (Some (owed s cid transfer o)) ≡ false
 owed_not s cid transfer o = owed_is (λ d. is_initialize (Some d) ≡ false) s cid transfer (λ r ends head. refl) (λ len. refl) refl o
 
-never_again : (w : World) (port alignment : ℕ) (notices : NoticeState) (role : Role) (q : Queue) (tags : Tags) (front : Front)
+never_again : (w : World) (port alignment : ℕ) (notices : NoticeState) (role : Role) (q : SubmissionQueue) (tags : Tags) (front : Front)
     → is_initialize (Some (decide w (on_queue port alignment notices role q) tags front)) ≡ false
 never_again w port alignment notices role q tags front =
     decision_is w (on_queue port alignment notices role q) tags front (λ d. is_initialize (Some d) ≡ false) (record {
@@ -158,7 +158,7 @@ first_by stepping ended i w tags port alignment notices None n front h = refl
 first_by false ended i w tags port alignment notices (Some a) n front h = cc
 first_by true true i w tags port alignment notices (Some a) n front h = cc
 first_by true false i w tags port alignment notices (Some a) n front h =
-    let q : Queue = record { sqsize = a.sqsize; head = n % (a.sqsize + 1) } in
+    let q : SubmissionQueue = record { sqsize = a.sqsize; head = n % (a.sqsize + 1) } in
     let clash : true ≡ false = sym h ∙ never_again w port alignment notices a.role q tags front in cc
 
 -- ---- one more event

@@ -1,7 +1,7 @@
 //! The view beside the plain count, on random lists of edits.
 use super::followed::{Followed, UNITS, follow, page, start};
 use super::plain;
-use config_text::{COMMANDS, Command};
+use config_text::{COMMANDS, EditCommand};
 use nvt_config::{Access, AnaState, Edit, Family, Visibility};
 use rand_core::utils::NextWord;
 use rand_pcg::Pcg32;
@@ -79,40 +79,40 @@ fn visibility(random: &mut Pcg32) -> Visibility {
 }
 
 // The commands of which others need the items, and the rarest that is accepted: they come more often.
-const FREQUENT: &[Command] = &[
-    Command::SubsystemAdd,
-    Command::PortAdd,
-    Command::LinkAdd,
-    Command::LinkAdd,
-    Command::HostAdd,
-    Command::NamespaceAdd,
-    Command::AllowAdd,
-    Command::AllowDel,
+const FREQUENT: &[EditCommand] = &[
+    EditCommand::SubsystemAdd,
+    EditCommand::PortAdd,
+    EditCommand::LinkAdd,
+    EditCommand::LinkAdd,
+    EditCommand::HostAdd,
+    EditCommand::NamespaceAdd,
+    EditCommand::AllowAdd,
+    EditCommand::AllowDel,
 ];
 
-pub fn command(random: &mut Pcg32) -> Command {
+pub fn command(random: &mut Pcg32) -> EditCommand {
     let commands = pick(random, COMMANDS, &[FREQUENT]);
     let at = random.next_word() as usize % commands.len().max(1);
-    commands.get(at).copied().unwrap_or(Command::HostAdd)
+    commands.get(at).copied().unwrap_or(EditCommand::HostAdd)
 }
 
 /// A line of this command, whose edit is often refused.
-pub fn line(command: Command, random: &mut Pcg32) -> Line<'static> {
+pub fn line(command: EditCommand, random: &mut Pcg32) -> Line<'static> {
     match command {
-        Command::SubsystemAdd => Line::SubsystemAdd(name(random), b"SN", access(random)),
-        Command::SubsystemSet => Line::SubsystemSet(name(random), access(random)),
-        Command::SubsystemDel => Line::SubsystemDel(name(random)),
-        Command::NamespaceAdd => Line::NamespaceAdd(name(random), blocks(random)),
-        Command::NamespaceSize => Line::NamespaceSize(name(random), nsid(random), 2),
-        Command::NamespaceGroup => Line::NamespaceGroup(name(random), nsid(random), 2),
-        Command::NamespaceDel => Line::NamespaceDel(name(random), nsid(random)),
-        Command::NamespaceView => {
+        EditCommand::SubsystemAdd => Line::SubsystemAdd(name(random), b"SN", access(random)),
+        EditCommand::SubsystemSet => Line::SubsystemSet(name(random), access(random)),
+        EditCommand::SubsystemDel => Line::SubsystemDel(name(random)),
+        EditCommand::NamespaceAdd => Line::NamespaceAdd(name(random), blocks(random)),
+        EditCommand::NamespaceSize => Line::NamespaceSize(name(random), nsid(random), 2),
+        EditCommand::NamespaceGroup => Line::NamespaceGroup(name(random), nsid(random), 2),
+        EditCommand::NamespaceDel => Line::NamespaceDel(name(random), nsid(random)),
+        EditCommand::NamespaceView => {
             Line::NamespaceView(name(random), nsid(random), visibility(random))
         }
-        Command::NamespaceShow => Line::NamespaceShow(name(random), nsid(random), host(random)),
-        Command::NamespaceHide => Line::NamespaceHide(name(random), nsid(random), host(random)),
-        Command::PortAdd => Line::PortAdd(port(random), address(random), service(random)),
-        Command::PortSet => {
+        EditCommand::NamespaceShow => Line::NamespaceShow(name(random), nsid(random), host(random)),
+        EditCommand::NamespaceHide => Line::NamespaceHide(name(random), nsid(random), host(random)),
+        EditCommand::PortAdd => Line::PortAdd(port(random), address(random), service(random)),
+        EditCommand::PortSet => {
             Line::PortSet(
                 port(random),
                 family(random),
@@ -120,16 +120,20 @@ pub fn line(command: Command, random: &mut Pcg32) -> Line<'static> {
                 service(random),
             )
         }
-        Command::PortDel => Line::PortDel(port(random)),
-        Command::LinkAdd => Line::LinkAdd(port(random), name(random)),
-        Command::LinkDel => Line::LinkDel(port(random), name(random)),
-        Command::HostAdd => Line::HostAdd(host(random)),
-        Command::HostDel => Line::HostDel(host(random)),
-        Command::AllowAdd => Line::AllowAdd(name(random), host(random)),
-        Command::AllowDel => Line::AllowDel(name(random), host(random)),
-        Command::AnaSet => Line::AnaSet(port(random), name(random), 1, state(random)),
-        Command::ReferralAdd => Line::ReferralAdd(port(random), address(random), service(random)),
-        Command::ReferralSet => {
+        EditCommand::PortDel => Line::PortDel(port(random)),
+        EditCommand::LinkAdd => Line::LinkAdd(port(random), name(random)),
+        EditCommand::LinkDel => Line::LinkDel(port(random), name(random)),
+        EditCommand::HostAdd => Line::HostAdd(host(random)),
+        EditCommand::HostDel => Line::HostDel(host(random)),
+        EditCommand::AllowAdd => Line::AllowAdd(name(random), host(random)),
+        EditCommand::AllowDel => Line::AllowDel(name(random), host(random)),
+        EditCommand::AnaSet => Line::AnaSet(port(random), name(random), 1, state(random)),
+        EditCommand::ReferralAdd => Line::ReferralAdd(
+            port(random),
+            address(random),
+            service(random),
+        ),
+        EditCommand::ReferralSet => {
             Line::ReferralSet(
                 port(random),
                 family(random),
@@ -137,7 +141,7 @@ pub fn line(command: Command, random: &mut Pcg32) -> Line<'static> {
                 service(random),
             )
         }
-        Command::ReferralDel => Line::ReferralDel(port(random)),
+        EditCommand::ReferralDel => Line::ReferralDel(port(random)),
     }
 }
 
@@ -159,7 +163,7 @@ impl Seen {
         accepted: [0; COUNT],
     };
 
-    fn accept(&mut self, command: Command) {
+    fn accept(&mut self, command: EditCommand) {
         if let Some(count) = self.accepted.get_mut(command as usize) {
             *count = count.saturating_add(1);
         }

@@ -12,7 +12,7 @@ ghost use Rattle.nvt_config.specs.Accept.{accept, namespace_of, port_of};
 ghost use Rattle.nvt_config.specs.Plan.{IsPlanOf};
 
 use crate::config::Config;
-use crate::plan::{Addition, Change, Plan};
+use crate::plan::{Addition, ListChange, Plan};
 use config_lists::allow::Allow;
 use config_lists::group_state::{AnaState, GroupState, has_state};
 use config_lists::host::{Host, has_host};
@@ -42,7 +42,7 @@ impl Config {
             access,
         };
         let addition = Addition::new(self.alloc(), subsystem, self.subsystems.len())?;
-        Ok(Plan::new(Change::AddSubsystem(addition)))
+        Ok(Plan::new(ListChange::AddSubsystem(addition)))
     }
 
     pub(super) fn plan_namespace<'e>(
@@ -55,7 +55,7 @@ impl Config {
         let there = self.namespaces.len();
         let namespace = namespace_of(namespace)?;
         let addition = Addition::new(self.alloc(), namespace, there)?;
-        Ok(Plan::new(Change::AddNamespace(addition)))
+        Ok(Plan::new(ListChange::AddNamespace(addition)))
     }
 
     pub(super) fn plan_port<'e>(&self, endpoint: &Endpoint) -> Result<Plan<'e>, AllocError>
@@ -64,7 +64,7 @@ impl Config {
     {
         let port = port_of(endpoint)?;
         let addition = Addition::new(self.alloc(), port, self.ports.len())?;
-        Ok(Plan::new(Change::AddPort(addition)))
+        Ok(Plan::new(ListChange::AddPort(addition)))
     }
 
     pub(super) fn plan_port_set<'e>(&self, endpoint: &Endpoint) -> Result<Plan<'e>, AllocError>
@@ -73,7 +73,7 @@ impl Config {
     {
         let _ = &self.ports;
         let port = port_of(endpoint)?;
-        Ok(Plan::new(Change::ReplacePort(port)))
+        Ok(Plan::new(ListChange::ReplacePort(port)))
     }
 
     pub(super) fn plan_link<'e>(&self, port: u64, subsystem: &Nqn) -> Result<Plan<'e>, AllocError>
@@ -86,7 +86,7 @@ impl Config {
             subsystem: subsystem.try_clone()?,
         };
         let addition = Addition::new(self.alloc(), link, there)?;
-        Ok(Plan::new(Change::AddLink(addition)))
+        Ok(Plan::new(ListChange::AddLink(addition)))
     }
 
     // A host that was added before has its place.
@@ -95,14 +95,14 @@ impl Config {
         ensures { IfOk result (IsPlanOf self.now (HostAdd nqn.now)) }
     {
         if has_host(&self.hosts, nqn) {
-            return Ok(Plan::new(Change::SetLive(nqn, true)));
+            return Ok(Plan::new(ListChange::SetLive(nqn, true)));
         }
         let host = Host {
             nqn: nqn.try_clone()?,
             live: true,
         };
         let addition = Addition::new(self.alloc(), host, self.hosts.len())?;
-        Ok(Plan::new(Change::AddHost(addition)))
+        Ok(Plan::new(ListChange::AddHost(addition)))
     }
 
     pub(super) fn plan_allow<'e>(&self, subsystem: &Nqn, host: &Nqn) -> Result<Plan<'e>, AllocError>
@@ -114,7 +114,7 @@ impl Config {
             host: host.try_clone()?,
         };
         let addition = Addition::new(self.alloc(), allow, self.allows.len())?;
-        Ok(Plan::new(Change::AddAllow(addition)))
+        Ok(Plan::new(ListChange::AddAllow(addition)))
     }
 
     pub(super) fn plan_show<'e>(
@@ -133,7 +133,7 @@ impl Config {
             host: host.try_clone()?,
         };
         let addition = Addition::new(self.alloc(), show, there)?;
-        Ok(Plan::new(Change::AddShow(addition)))
+        Ok(Plan::new(ListChange::AddShow(addition)))
     }
 
     // Where no state is set, it is optimized; so that one is never kept.
@@ -149,10 +149,10 @@ impl Config {
     {
         let there = self.states.len();
         if state.is_optimized() {
-            return Ok(Plan::new(Change::RemoveState(port, subsystem, group)));
+            return Ok(Plan::new(ListChange::RemoveState(port, subsystem, group)));
         }
         if has_state(&self.states, port, subsystem.as_bytes(), group) {
-            return Ok(Plan::new(Change::ReplaceState(port, subsystem, group, state)));
+            return Ok(Plan::new(ListChange::ReplaceState(port, subsystem, group, state)));
         }
         let set = GroupState {
             port: port as u16,
@@ -161,7 +161,7 @@ impl Config {
             state,
         };
         let addition = Addition::new(self.alloc(), set, there)?;
-        Ok(Plan::new(Change::AddState(addition)))
+        Ok(Plan::new(ListChange::AddState(addition)))
     }
 
     pub(super) fn plan_referral<'e>(&self, endpoint: &Endpoint) -> Result<Plan<'e>, AllocError>
@@ -170,7 +170,7 @@ impl Config {
     {
         let referral = port_of(endpoint)?;
         let addition = Addition::new(self.alloc(), referral, self.referrals.len())?;
-        Ok(Plan::new(Change::AddReferral(addition)))
+        Ok(Plan::new(ListChange::AddReferral(addition)))
     }
 
     pub(super) fn plan_referral_set<'e>(&self, endpoint: &Endpoint) -> Result<Plan<'e>, AllocError>
@@ -179,7 +179,7 @@ impl Config {
     {
         let _ = &self.referrals;
         let referral = port_of(endpoint)?;
-        Ok(Plan::new(Change::ReplaceReferral(referral)))
+        Ok(Plan::new(ListChange::ReplaceReferral(referral)))
     }
 
     fn alloc(&self) -> Global {

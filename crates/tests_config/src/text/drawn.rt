@@ -1,5 +1,5 @@
 //! Random edits of each command, with values of any width that keeps their lines within 1,024 bytes.
-use config_text::Command;
+use config_text::EditCommand;
 use nvt_config::{Access, AnaState, Edit, Family, Visibility};
 use nvt_fields::NqnFault;
 use rand_core::utils::NextWord;
@@ -133,47 +133,56 @@ impl Texts {
     }
 
     // A line of this command, with other values at random.
-    fn line<'a>(&'a self, random: &mut Pcg32, command: Command) -> Line<'a> {
+    fn line<'a>(&'a self, random: &mut Pcg32, command: EditCommand) -> Line<'a> {
         let name = self.name.as_bytes();
         let host = self.host.as_bytes();
         let serial = self.serial.as_bytes();
         let address = self.address.as_bytes();
         match command {
-            Command::SubsystemAdd => Line::SubsystemAdd(name, serial, access(random)),
-            Command::SubsystemSet => Line::SubsystemSet(name, access(random)),
-            Command::SubsystemDel => Line::SubsystemDel(name),
-            Command::NamespaceAdd => Line::NamespaceAdd(name, blocks(random)),
-            Command::NamespaceSize => Line::NamespaceSize(name, number(random), number(random)),
-            Command::NamespaceGroup => Line::NamespaceGroup(name, number(random), number(random)),
-            Command::NamespaceDel => Line::NamespaceDel(name, number(random)),
-            Command::NamespaceView => {
+            EditCommand::SubsystemAdd => Line::SubsystemAdd(name, serial, access(random)),
+            EditCommand::SubsystemSet => Line::SubsystemSet(name, access(random)),
+            EditCommand::SubsystemDel => Line::SubsystemDel(name),
+            EditCommand::NamespaceAdd => Line::NamespaceAdd(name, blocks(random)),
+            EditCommand::NamespaceSize => Line::NamespaceSize(name, number(random), number(random)),
+            EditCommand::NamespaceGroup => Line::NamespaceGroup(
+                name,
+                number(random),
+                number(random),
+            ),
+            EditCommand::NamespaceDel => Line::NamespaceDel(name, number(random)),
+            EditCommand::NamespaceView => {
                 Line::NamespaceView(name, number(random), visibility(random))
             }
-            Command::NamespaceShow => Line::NamespaceShow(name, number(random), host),
-            Command::NamespaceHide => Line::NamespaceHide(name, number(random), host),
-            Command::PortAdd => Line::PortAdd(number(random), address, number(random)),
-            Command::PortSet => {
+            EditCommand::NamespaceShow => Line::NamespaceShow(name, number(random), host),
+            EditCommand::NamespaceHide => Line::NamespaceHide(name, number(random), host),
+            EditCommand::PortAdd => Line::PortAdd(number(random), address, number(random)),
+            EditCommand::PortSet => {
                 Line::PortSet(number(random), family(random), address, number(random))
             }
-            Command::PortDel => Line::PortDel(number(random)),
-            Command::LinkAdd => Line::LinkAdd(number(random), name),
-            Command::LinkDel => Line::LinkDel(number(random), name),
-            Command::HostAdd => Line::HostAdd(host),
-            Command::HostDel => Line::HostDel(host),
-            Command::AllowAdd => Line::AllowAdd(name, host),
-            Command::AllowDel => Line::AllowDel(name, host),
-            Command::AnaSet => Line::AnaSet(number(random), name, number(random), state(random)),
-            Command::ReferralAdd => Line::ReferralAdd(number(random), address, number(random)),
-            Command::ReferralSet => {
+            EditCommand::PortDel => Line::PortDel(number(random)),
+            EditCommand::LinkAdd => Line::LinkAdd(number(random), name),
+            EditCommand::LinkDel => Line::LinkDel(number(random), name),
+            EditCommand::HostAdd => Line::HostAdd(host),
+            EditCommand::HostDel => Line::HostDel(host),
+            EditCommand::AllowAdd => Line::AllowAdd(name, host),
+            EditCommand::AllowDel => Line::AllowDel(name, host),
+            EditCommand::AnaSet => Line::AnaSet(
+                number(random),
+                name,
+                number(random),
+                state(random),
+            ),
+            EditCommand::ReferralAdd => Line::ReferralAdd(number(random), address, number(random)),
+            EditCommand::ReferralSet => {
                 Line::ReferralSet(number(random), family(random), address, number(random))
             }
-            Command::ReferralDel => Line::ReferralDel(number(random)),
+            EditCommand::ReferralDel => Line::ReferralDel(number(random)),
         }
     }
 }
 
 /// An edit whose line begins with this command.
-pub fn drawn(alloc: Global, random: &mut Pcg32, command: Command) -> Result<Edit, NqnFault> {
+pub fn drawn(alloc: Global, random: &mut Pcg32, command: EditCommand) -> Result<Edit, NqnFault> {
     let texts = Texts::of(random);
     let mut edit = edit(alloc, texts.line(random, command))?;
     widen(random, &mut edit);

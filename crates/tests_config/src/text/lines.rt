@@ -2,7 +2,8 @@
 use super::drawn::drawn;
 use bytes::BytesMut;
 use config_text::{
-    COMMANDS, Command, Full, LineFault, LineFaultKind, lines_are_read_back, read_edit, write_edit,
+    COMMANDS, EditCommand, Full, LineFault, LineFaultKind, lines_are_read_back, read_edit,
+    write_edit,
 };
 use nvt_config::Edit;
 use rand_pcg::Pcg32;
@@ -106,14 +107,14 @@ fn check_edit(alloc: Global, edit: &Edit) -> Outcome {
     check_sound(alloc, edit, &mut line)
 }
 
-fn check_drawn(alloc: Global, random: &mut Pcg32, command: Command) -> Outcome {
+fn check_drawn(alloc: Global, random: &mut Pcg32, command: EditCommand) -> Outcome {
     match drawn(alloc, random, command) {
         Ok(edit) => check_edit(alloc, &edit),
         Err(_) => check(false, "memory"),
     }
 }
 
-fn check_command(alloc: Global, number: u64, command: Command) -> Outcome {
+fn check_command(alloc: Global, number: u64, command: EditCommand) -> Outcome {
     let mut random = Pcg32::new(SEED, number);
     for step in 0..EDITS {
         pass!(check_drawn(alloc, &mut random, command).at_step(step));

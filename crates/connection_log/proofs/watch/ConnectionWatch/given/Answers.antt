@@ -1,6 +1,6 @@
 use Rattle.std.proofs.Common.{◌≡◌, ℕ, refl, sym, subst, ◌∙◌, ap, ◌+◌, ◌++◌, List, Option, drop, take}
 use Rattle.std.specs.Option.{option_or}
-use Rattle.pdu_words.specs.declared.explanation.Completion.{Completion}
+use Rattle.pdu_words.specs.declared.explanation.ResponseFields.{ResponseFields}
 use Rattle.connection_log.specs.declared.watch.ConnectionWatch.{ConnectionWatch}
 use Rattle.connection_log.specs.Reading.{HasRead}
 use Rattle.connection_log.specs.Stages.{after_reply, told_by}
@@ -25,7 +25,7 @@ loop-at-preserved c =
     in
     record {
       within = within_step bytes at n c.loop-at.self.replies c.read-at.new.self c.read-at.ensures.reads c.loop-at-test.true;
-      told = ap (λ (o : Option Completion). option_or o (told c.take_reply.new.self rest)) tells
+      told = ap (λ (o : Option ResponseFields). option_or o (told c.take_reply.new.self rest)) tells
           ∙ ap (λ (w : ConnectionWatch). option_or (option_or c.loop-at.told (told_by (response_at new) old.stage)) (told w rest)) after
           ∙ told_step bytes at n old.replies new c.read-at.ensures.reads c.loop-at-test.true old refl c.loop-at.told
           ∙ c.loop-at.invariant.told;

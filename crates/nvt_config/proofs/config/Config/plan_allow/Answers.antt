@@ -1,6 +1,6 @@
 use Rattle.std.proofs.Common.{refl, arith}
 use Rattle.config_lists.specs.declared.edit.Edit.TheVariants.{AllowAdd}
-use Rattle.nvt_config.specs.declared.plan.Change.TheVariants.{AddAllow}
+use Rattle.nvt_config.specs.declared.plan.ListChange.TheVariants.{AddAllow}
 use Rattle.nvt_config.proofs.Effects.{is_plan}
 use Rattle.nvt_config.proofs.config.Config.plan_allow.Goals as goal
 

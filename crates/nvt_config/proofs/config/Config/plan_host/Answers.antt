@@ -1,6 +1,6 @@
 use Rattle.std.proofs.Common.{sym, ◌∙◌, true, arith}
 use Rattle.config_lists.specs.declared.edit.Edit.TheVariants.{HostAdd}
-use Rattle.nvt_config.specs.declared.plan.Change.TheVariants.{AddHost, SetLive}
+use Rattle.nvt_config.specs.declared.plan.ListChange.TheVariants.{AddHost, SetLive}
 use Rattle.nvt_config.proofs.Effects.{is_plan, with_host-known, with_host-new}
 use Rattle.nvt_config.proofs.config.Config.plan_host.Goals as goal
 

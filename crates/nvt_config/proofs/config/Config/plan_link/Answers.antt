@@ -1,6 +1,6 @@
 use Rattle.std.proofs.Common.{◌≤◌, refl, arith}
 use Rattle.config_lists.specs.declared.edit.Edit.TheVariants.{LinkAdd}
-use Rattle.nvt_config.specs.declared.plan.Change.TheVariants.{AddLink}
+use Rattle.nvt_config.specs.declared.plan.ListChange.TheVariants.{AddLink}
 use Rattle.nvt_config.proofs.Effects.{is_plan, linked_port}
 use Rattle.nvt_config.proofs.config.Config.plan_link.Goals as goal
 

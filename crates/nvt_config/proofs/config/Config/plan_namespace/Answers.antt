@@ -1,6 +1,6 @@
 use Rattle.std.proofs.Common.{refl, arith}
 use Rattle.config_lists.specs.declared.edit.Edit.TheVariants.{NamespaceAdd}
-use Rattle.nvt_config.specs.declared.plan.Change.TheVariants.{AddNamespace}
+use Rattle.nvt_config.specs.declared.plan.ListChange.TheVariants.{AddNamespace}
 use Rattle.nvt_config.proofs.Effects.{is_plan, namespace_numbers}
 use Rattle.nvt_config.proofs.config.Config.plan_namespace.Goals as goal
 

@@ -1,6 +1,6 @@
 use Rattle.std.proofs.Common.{refl, arith}
 use Rattle.config_lists.specs.declared.edit.Edit.TheVariants.{ReferralAdd}
-use Rattle.nvt_config.specs.declared.plan.Change.TheVariants.{AddReferral}
+use Rattle.nvt_config.specs.declared.plan.ListChange.TheVariants.{AddReferral}
 use Rattle.nvt_config.proofs.Effects.{is_plan}
 use Rattle.nvt_config.proofs.config.Config.plan_referral.Goals as goal
 

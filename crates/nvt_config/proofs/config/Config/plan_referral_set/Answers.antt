@@ -1,6 +1,6 @@
 use Rattle.std.proofs.Common.{refl}
 use Rattle.config_lists.specs.declared.edit.Edit.TheVariants.{ReferralSet}
-use Rattle.nvt_config.specs.declared.plan.Change.TheVariants.{ReplaceReferral}
+use Rattle.nvt_config.specs.declared.plan.ListChange.TheVariants.{ReplaceReferral}
 use Rattle.nvt_config.proofs.Effects.{is_plan}
 use Rattle.nvt_config.proofs.config.Config.plan_referral_set.Goals as goal
 

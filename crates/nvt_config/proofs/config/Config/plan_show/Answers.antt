@@ -1,6 +1,6 @@
 use Rattle.std.proofs.Common.{◌≤◌, refl, arith}
 use Rattle.config_lists.specs.declared.edit.Edit.TheVariants.{NamespaceShow}
-use Rattle.nvt_config.specs.declared.plan.Change.TheVariants.{AddShow}
+use Rattle.nvt_config.specs.declared.plan.ListChange.TheVariants.{AddShow}
 use Rattle.nvt_config.proofs.Effects.{is_plan, shown_nsid}
 use Rattle.nvt_config.proofs.config.Config.plan_show.Goals as goal
 

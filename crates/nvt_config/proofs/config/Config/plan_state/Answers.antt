@@ -1,6 +1,6 @@
 use Rattle.std.proofs.Common.{sym, ◌∙◌, ◌≤◌, arith}
 use Rattle.config_lists.specs.declared.edit.Edit.TheVariants.{AnaSet}
-use Rattle.nvt_config.specs.declared.plan.Change.TheVariants.{AddState, RemoveState, ReplaceState}
+use Rattle.nvt_config.specs.declared.plan.ListChange.TheVariants.{AddState, RemoveState, ReplaceState}
 use Rattle.nvt_config.proofs.Effects.{is_plan, state_numbers, with_ana_state-known, with_ana_state-new, with_ana_state-none}
 use Rattle.nvt_config.proofs.config.Config.plan_state.Goals as goal
 
