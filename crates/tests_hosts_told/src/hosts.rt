@@ -2,7 +2,7 @@
 //! another. It keeps all that happened in one list, and looks back over it for each answer: which requests
 //! are completed, and every byte of a log page or of what Identify returns. Of namespaces each host is told
 //! as it sees them: where it does not see one, none is there. What it expects is typed from the formats and
-//! the rules of NVMe. `tests_hosts_told` runs a target beside it; it stands on nothing of a target.
+//! the rules of NVMe. `told` runs a target beside it; it stands on nothing of a target.
 
 mod answers;
 mod bytes;
