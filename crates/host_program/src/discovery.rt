@@ -61,7 +61,7 @@ fn tell_records<L: Link + Drop, W: Write>(
     match reading.page() {
         Some(page) => print_had(alloc, &page, out),
         // It was read to its end.
-        None => Err(CommandFault::LinkSession(SessionFault::BadPage)),
+        None => Err(CommandFault::Session(SessionFault::BadPage)),
     }
 }
 
@@ -95,7 +95,7 @@ fn read_part<L: Link + Drop>(
     match ask(session, &command) {
         Ok(bytes) => Ok(reading.answer(Ok(&bytes))?),
         Err(SessionFault::Status(status)) => Ok(reading.answer(Err(status))?),
-        Err(fault) => Err(CommandFault::LinkSession(fault)),
+        Err(fault) => Err(CommandFault::Session(fault)),
     }
 }
 

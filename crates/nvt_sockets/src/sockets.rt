@@ -121,7 +121,7 @@ impl<L: Drop, S: Drop> Sockets<L, S> {
         ensures { Tries self.old.in_use room.now (length buf.old) result self.new.in_use }
     {
         match speaker {
-            Speaker::HostSocket(slot) => self.try_host(network, journal, slot, room, buf),
+            Speaker::Host(slot) => self.try_host(network, journal, slot, room, buf),
             Speaker::Port(place) => self.try_port(network, journal, place),
             Speaker::Control => {
                 if self.control.accept(network, buf) {

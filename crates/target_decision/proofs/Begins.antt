@@ -53,7 +53,7 @@ names w port entry bytes new h =
 
 admitted_sound : (w : World) (port : ℕ) (entry bytes : List ℕ) (a : AdmitAs) → connect w.config w.row port entry bytes ≡ Admit a
     → IsSound w entry bytes (admitted a entry)
-admitted_sound w port entry bytes (admit.SubmissionQueue cntlid qid) h = tt
+admitted_sound w port entry bytes (admit.Queue cntlid qid) h = tt
 admitted_sound w port entry bytes (admit.Controller new) h =
     (identifiers_are_least.is_least w.config w.row port entry bytes new.cntlid new.kind h, names w port entry bytes new h)
 

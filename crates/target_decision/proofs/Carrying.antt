@@ -69,7 +69,7 @@ AsksWell tags (Ok Waits) = Unit {0}
 AsksWell tags (Err refusal) = Unit {0}
 
 admitted_asks : (tags : Tags) (a : AdmitAs) (entry : List ℕ) → AsksWell tags (admitted a entry)
-admitted_asks tags (admit.SubmissionQueue cntlid qid) entry = tt
+admitted_asks tags (admit.Queue cntlid qid) entry = tt
 admitted_asks tags (admit.Controller new) entry = tt
 
 command_asks : (w : World) (v : ConnectionState) (tags : Tags) (entry bytes : List ℕ) → is_full v tags ≡ false → AsksWell tags (command w v tags entry bytes)

@@ -37,7 +37,7 @@ IsFit units bytes (Ok Waits) = Unit {0}
 IsFit units bytes (Err refusal) = Unit {0}
 
 admitted_fits : (units : List ℕ) (a : AdmitAs) (entry bytes : List ℕ) → IsFit units bytes (admitted a entry)
-admitted_fits units (admit.SubmissionQueue cntlid qid) entry bytes = tt
+admitted_fits units (admit.Queue cntlid qid) entry bytes = tt
 admitted_fits units (admit.Controller new) entry bytes = tt
 
 operation_fits : (units : List ℕ) (r : Result Begun Status) (op : Operation) (brings : ℕ) → r ≡ Ok (Perform op) → IfOk r (IsBegunWithin units brings)

@@ -14,7 +14,7 @@ use Rattle.target_decision.specs.World.{World}
 abbrev pub admitted : AdmitAs → List ℕ → Outcome
 admitted (admit.Controller new) entry =
     done new.cntlid (consequence.Begin (record { controller = new; sqsize = (connect_of entry).sqsize; kato = (connect_of entry).kato }))
-admitted (admit.SubmissionQueue cntlid qid) entry =
+admitted (admit.Queue cntlid qid) entry =
     done cntlid (consequence.Join (record { cntlid = cntlid; qid = qid; sqsize = (connect_of entry).sqsize }))
 
 abbrev pub answered : Decision → List ℕ → Outcome

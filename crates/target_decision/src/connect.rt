@@ -34,7 +34,7 @@ fn admitted(admission: &AdmitAs, sqe: &Sqe<'_>) -> Outcome
                 kato,
             }),
         ),
-        AdmitAs::SubmissionQueue { cntlid, qid } => done(
+        AdmitAs::Queue { cntlid, qid } => done(
             u64::from(cntlid),
             Consequence::Join(Joining {
                 cntlid,
