@@ -6,20 +6,20 @@ use testkit_tables::{Outcome, check, check_number, pass};
 // A look that tries all, in vain.
 fn look_in_vain(order: &mut TurnOrder) {
     let all = order.len();
-    order.looked(all, turn_order::Outcome::Vain);
+    order.looked(all, turn_order::LookOutcome::Vain);
 }
 
 // A look that tries so many; the last of them has something.
 fn look_until(order: &mut TurnOrder, tried: usize) {
     if tried > 0 && tried <= order.len() {
-        order.looked(tried, turn_order::Outcome::Found);
+        order.looked(tried, turn_order::LookOutcome::Found);
     }
 }
 
 // A look before a pause.
 fn look_and_rest(order: &mut TurnOrder) {
     let all = order.len();
-    order.looked(all, turn_order::Outcome::Rests);
+    order.looked(all, turn_order::LookOutcome::Rests);
 }
 
 fn number(place: usize) -> u8 {
