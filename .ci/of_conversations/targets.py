@@ -112,7 +112,7 @@ def cut(stream, size):
 
 
 def cut_fault(files, status, out, _err, got):
-    """What is wrong with a run whose STREAM was cut: its status, and the lines of each connection."""
+    """What is wrong with a run whose STREAM was cut: its status, and the lines of each connection, of both its sides."""
     wanted, printed = by_connection(files.get("OUT", b"")), by_connection(out)
     for k in sorted(wanted.keys() | printed.keys()):
         fault = difference(f"the lines of {shown(k, 0)}", wanted.get(k, []), printed.get(k, []))
@@ -122,10 +122,16 @@ def cut_fault(files, status, out, _err, got):
 
 
 def by_connection(out):
-    """The lines that are printed for each connection but `K none`, by their first word."""
-    lines = {}
+    """The lines that are printed for each connection but `K none`, by their first word. Of --explain those of its host are
+    apart, since they stand before all that the target answers to a line; and left out where the connection is closed,
+    behind which no piece is told."""
+    lines, closed = {}, set()
     for line in broken(out):
         k, _, said = line.partition(b" ")
+        if said.startswith(b"host # "):
+            k += b" host"
+        elif said == b"closed\n":
+            closed.add(k + b" host")
         if said != b"none\n":
             lines.setdefault(k, []).append(line)
-    return lines
+    return {k: lines[k] for k in lines.keys() - closed}

@@ -99,7 +99,7 @@ impl Playback {
 
     /// Runs a line of the script, the `number`th from 1 on, and prints what the target then sends
     /// and which connections it opens and ends. A line that has none of the forms prints nothing and
-    /// changes no connection; of one that wants memory, or whose output fails, a beginning is printed.
+    /// changes no connection; of one that lacks memory, or whose output fails, a beginning is printed.
     pub fn line<W: Write>(
         &mut self,
         number: usize,

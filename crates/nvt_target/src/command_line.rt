@@ -11,7 +11,8 @@ const UNITS_MAX: i64 = 1_048_576;
 
 const CONTROL_HELP: &str = "The TCP port for lines of edits, at 127.0.0.1";
 
-const EXPLAIN_HELP: &str = "Prints behind each PDU what it is, in words, after ` # `";
+const EXPLAIN_HELP: &str =
+    "Prints behind each PDU what it is, in words, after ` # `, and in words what hosts send";
 
 const QUIET_HELP: &str = "Tells nothing on standard error of who connects and what is edited";
 

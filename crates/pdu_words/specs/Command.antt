@@ -6,9 +6,11 @@ use Rattle.pdu_words.specs.declared.command.QueueKind.TheVariants as queue
 use Rattle.pdu_words.specs.declared.command.Command.{Command}
 use Rattle.pdu_words.specs.declared.command.Command.TheVariants as command
 
+-- with its value, by which `resets` knows a reset of the controller
 abbrev pub set_property_command : List ℕ → Command
 set_property_command entry = command.PropertySet (property_of entry).ofst (property_of entry).value
 
+-- with its value, of which `kinds_words` tells the kinds of events that it enables
 abbrev pub set_features_command : List ℕ → Command
 set_features_command entry = command.SetFeatures (feature_of entry).fid (feature_of entry).value
 
@@ -20,9 +22,11 @@ fabrics_type fctype entry =
     if fctype == 0x04 then command.PropertyGet (property_of entry).ofst else
     command.Fabrics fctype
 
+-- its type alone says which it is: Fabrics commands are the same on each queue
 abbrev pub fabrics_command : List ℕ → Command
 fabrics_command entry = fabrics_type (fctype_of entry) entry
 
+-- with its offset: the bytes of a page can be told in words only by their place in it (`log_words`)
 abbrev pub log_page_command : List ℕ → Command
 log_page_command entry = command.GetLogPage (get_log_page_of entry).lid (get_log_page_of entry).offset
 
@@ -39,6 +43,7 @@ admin_opcode opcode entry =
     if opcode == 0x18 then command.KeepAlive else
     command.Admin opcode
 
+-- an opcode is another command on an I/O queue: 02h is Get Log Page here, and Read there
 abbrev pub admin_command : List ℕ → Command
 admin_command entry = admin_opcode (opcode_of entry) entry
 
@@ -52,6 +57,7 @@ io_opcode opcode =
     if opcode == 0x08 then command.WriteZeroes else
     command.Io opcode
 
+-- the words tell nothing but the opcode: neither the namespace nor the blocks are looked at
 abbrev pub io_command : List ℕ → Command
 io_command entry = io_opcode (opcode_of entry)
 

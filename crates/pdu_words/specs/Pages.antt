@@ -1,4 +1,5 @@
--- What the data of a read say of a log page, as far as one PDU shows it.
+-- What a PDU says beside its explanation: the data of a read, of a log page, as far as one PDU shows it, and the fields of
+-- a command.
 use Rattle.std.specs.Prelude.{ℕ, zero, suc, ◌+◌, ◌*◌, ◌-◌, ◌%◌, ◌==◌, ◌&&◌, Bool, nat_lt, nat_le, min, List, [], ◌∷◌, ◌++◌, codes, length, take, drop, flat_map, slice_index, Option, Some, None, if◌then◌else◌}
 use Rattle.std.specs.Fmt.{decimal}
 use Rattle.std.specs.List.{before_first}
@@ -6,6 +7,7 @@ use Rattle.nvt_fields.specs.Field.{field_at}
 use Rattle.pdu_words.specs.declared.command.Command.TheVariants as command
 use Rattle.pdu_words.specs.declared.explanation.Explanation.{Explanation}
 use Rattle.pdu_words.specs.declared.explanation.Explanation.TheVariants as explanation
+use Rattle.pdu_words.specs.Fields.{capsule_words}
 use Rattle.pdu_words.specs.Names.{ana_state_name}
 use Rattle.pdu_words.specs.Words.{words_of}
 
@@ -65,6 +67,7 @@ abbrev pub group_words : List ℕ → List ℕ
 group_words group =
     told_words (field_at 4 0 group) (slice_index group 16 % 16) (field_at 8 8 group) (dwords (drop 32 group))
 
+-- the next descriptor begins so far behind: the head has 32 bytes, and each identifier 4
 abbrev pub group_len : List ℕ → ℕ
 group_len bytes = 32 + 4 * field_at 4 4 bytes
 
@@ -105,10 +108,13 @@ log_words lid offset datao bytes =
     if lid == 0x04 && offset % 4 == 0 && datao % 4 == 0 then changed_words bytes else
     if lid == 0x0C && offset == 0 && datao == 0 then ana_words bytes else []
 
-abbrev pub page_words : Explanation → List ℕ → List ℕ
-page_words (explanation.C2hData head (Some (command.GetLogPage lid offset))) bytes =
+-- ---- the data, or the command of a capsule
+
+abbrev pub detail_words : Explanation → List ℕ → List ℕ
+detail_words (explanation.C2hData head (Some (command.GetLogPage lid offset))) bytes =
     log_words lid offset head.datao (data_of head.datal bytes)
-page_words _ bytes = []
+detail_words (explanation.CapsuleCmd cid (Some c)) bytes = capsule_words c bytes
+detail_words _ bytes = []
 
 abbrev pub described_words : Explanation → List ℕ → List ℕ
-described_words explanation bytes = words_of explanation ++ page_words explanation bytes
+described_words explanation bytes = words_of explanation ++ detail_words explanation bytes

@@ -14,6 +14,7 @@ subject_of_completion completion = record {
   cid = completion.cid;
 }
 
+-- where a host uses a CID twice the first command goes on: answers, data and R2Ts are of it, but for a conflict
 abbrev pub subject_of : Explanation → Option Subject
 subject_of (explanation.CapsuleCmd cid command) = Some (record { which = Newest; cid = cid })
 subject_of (explanation.CapsuleResp completion command) = Some (subject_of_completion completion)

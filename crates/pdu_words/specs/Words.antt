@@ -53,6 +53,7 @@ kinds_by namespaces ana discovery =
     then (if discovery then codes "events of ANA, discovery" else codes "events of ANA")
     else (if discovery then codes "events of discovery" else codes "no events"))
 
+-- other bits have no words: they enable nothing at the target
 abbrev pub kinds_words : ℕ → List ℕ
 kinds_words value = kinds_by (value / 2 ^ 8 % 2 == 1) (value / 2 ^ 11 % 2 == 1) (value / 2 ^ 31 % 2 == 1)
 
@@ -110,6 +111,7 @@ status_words_by (Some name) status = name
 abbrev pub status_words : Status → List ℕ
 status_words status = status_words_by (status_name status) status
 
+-- Do Not Retry says that the same command would fail again
 abbrev pub retry_words : Status → List ℕ
 retry_words status = if status.dnr then codes ", DNR" else []
 
@@ -133,6 +135,7 @@ connect_result_words completion =
 abbrev pub connect_answer_words : ResponseFields → List ℕ
 connect_answer_words completion = status_words completion.status ++ connect_result_words completion
 
+-- Successful Completion: with any other status the result is not what the command defines
 abbrev pub succeeds : Status → Bool
 succeeds status = status.sct == 0 && status.sc == 0x00
 
@@ -174,7 +177,8 @@ completion_words completion known =
 
 abbrev pub ic_req_words : IcReq → List ℕ
 ic_req_words request =
-    codes "ICReq PFV " ++ decimal request.pfv ++ codes " HPDA " ++ decimal request.hpda ++ codes " MAXR2T " ++ decimal request.maxr2t
+    codes "ICReq PFV " ++ decimal request.pfv ++ codes " HPDA " ++ decimal request.hpda
+    ++ codes " DGST " ++ decimal request.dgst ++ codes " MAXR2T " ++ decimal request.maxr2t
 
 abbrev pub ic_resp_words : IcResp → List ℕ
 ic_resp_words response =
@@ -202,9 +206,16 @@ flag_words head =
     if head.last_pdu then (if head.success then codes ", last, success" else codes ", last") else
     if head.success then codes ", success" else []
 
-abbrev pub data_words : List ℕ → DataHead → List ℕ
-data_words name head =
-    name ++ codes " CID " ++ decimal head.cccid ++ codes " offset " ++ decimal head.datao ++ codes " length " ++ decimal head.datal ++ flag_words head
+-- where the data stand, and how many they are
+abbrev pub data_words : DataHead → List ℕ
+data_words head = codes " offset " ++ decimal head.datao ++ codes " length " ++ decimal head.datal ++ flag_words head
+
+-- those that a host sends name the R2T that asked for them
+abbrev pub h2c_data_words : DataHead → List ℕ
+h2c_data_words head = codes "H2CData CID " ++ decimal head.cccid ++ codes " TTAG " ++ decimal head.ttag ++ data_words head
+
+abbrev pub c2h_data_words : DataHead → List ℕ
+c2h_data_words head = codes "C2HData CID " ++ decimal head.cccid ++ data_words head
 
 abbrev pub r2t_words : R2t → List ℕ
 r2t_words request =
@@ -217,7 +228,7 @@ words_of (explanation.H2cTermReq request) = termination_words (codes "H2CTermReq
 words_of (explanation.C2hTermReq request) = termination_words (codes "C2HTermReq") request
 words_of (explanation.CapsuleCmd cid known) = codes "CapsuleCmd CID " ++ decimal cid ++ named_words known
 words_of (explanation.CapsuleResp completion known) = completion_words completion known
-words_of (explanation.H2cData head known) = data_words (codes "H2CData") head ++ named_words known
-words_of (explanation.C2hData head known) = data_words (codes "C2HData") head ++ content_words known
+words_of (explanation.H2cData head known) = h2c_data_words head ++ named_words known
+words_of (explanation.C2hData head known) = c2h_data_words head ++ content_words known
 words_of (explanation.R2t request known) = r2t_words request ++ named_words known
 words_of explanation.NoPdu = codes "no PDU"

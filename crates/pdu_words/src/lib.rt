@@ -4,6 +4,7 @@
 
 pub mod command;
 pub mod explanation;
+mod fields;
 mod names;
 pub mod pages;
 pub mod subject;

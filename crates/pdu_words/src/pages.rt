@@ -1,20 +1,23 @@
-//! What the data of a read say of a log page, as far as one PDU shows it.
+//! What a PDU says beside its explanation: the data of a read, of a log page, as far as one PDU shows
+//! it, and the fields of a command.
 ghost use Rattle.std.specs.Prelude.{◌≡◌, ◌≤◌, ◌*◌, Some, flat_map, length, take};
 ghost use Rattle.std.specs.Fmt.{WritesOnOk};
 ghost use Rattle.std.specs.List.{before_first, position_or_len};
 ghost use Rattle.pdu_words.specs.Pages.{ana_words, changed_words, data_of, described_words, dwords};
 ghost use Rattle.pdu_words.specs.Pages.{group_len, group_words, groups_words, listing_words};
 ghost use Rattle.pdu_words.specs.Pages.{is_zero, log_words, told_words};
-ghost use Rattle.pdu_words.specs.Pages.{members_words, more_words, nsids_words, page_words};
+ghost use Rattle.pdu_words.specs.Pages.{detail_words, members_words, more_words, nsids_words};
 ghost use Rattle.pdu_words.specs.Pages.{shows_group, spaced_words, state_words};
 
 use crate::command::Command;
 use crate::explanation::Explanation;
+use crate::fields::write_fields;
 use crate::names::ana_state_name;
 use nvt_fields::{u16_at, u32_at, u64_at};
 use std::fmt::{self, Formatter};
 
-/// What a PDU is, and its bytes: of two log pages the words say what its data are.
+/// What a PDU is, and its bytes: of two log pages the words say what its data are, and of a capsule
+/// what its command asks.
 #[derive(Clone, Copy)]
 pub struct Described<'a> {
     pub explanation: Explanation,
@@ -27,22 +30,26 @@ impl fmt::Display for Described<'_> {
     fn fmt<W: fmt::Write>(&self, f: &mut Formatter<W>) -> fmt::Result {
         let explanation = self.explanation;
         write!(f, "{explanation}")?;
-        write_page(f, explanation, self.bytes)
+        write_details(f, explanation, self.bytes)
     }
 }
 
-fn write_page<W: fmt::Write>(
+fn write_details<W: fmt::Write>(
     f: &mut Formatter<W>,
     explanation: Explanation,
     bytes: &[u8],
 ) -> fmt::Result
-    ensures { WritesOnOk W.write_str_gives f.old result (page_words explanation bytes.now) f.new }
+    ensures { WritesOnOk W.write_str_gives f.old result (detail_words explanation bytes.now) f.new }
 {
     match explanation {
         Explanation::C2hData {
             head,
             command: Some(Command::GetLogPage { lid, offset }),
         } => write_log(f, lid, offset, head.datao, data_of(bytes, head.datal)),
+        Explanation::CapsuleCmd {
+            cid: _,
+            command: Some(command),
+        } => write_fields(f, command, bytes),
         _ => Ok(()),
     }
 }

@@ -39,12 +39,14 @@ impl fmt::Display for Explanation {
                 command,
             } => write_completion(f, completion, command),
             Explanation::H2cData { head, command } => {
-                let (moved, named) = (Data("H2CData", head), Named(command));
-                write!(f, "{moved}{named}")
+                let (cid, ttag) = (head.cccid, head.ttag);
+                let (moved, named) = (Data(head), Named(command));
+                write!(f, "H2CData CID {cid} TTAG {ttag}{moved}{named}")
             }
             Explanation::C2hData { head, command } => {
-                let (moved, content) = (Data("C2HData", head), Content(command));
-                write!(f, "{moved}{content}")
+                let cid = head.cccid;
+                let (moved, content) = (Data(head), Content(command));
+                write!(f, "C2HData CID {cid}{moved}{content}")
             }
             Explanation::R2t { request, command } => {
                 let (asked, named) = (Asked(request), Named(command));
@@ -58,8 +60,9 @@ impl fmt::Display for Explanation {
 fn write_ic_req<W: fmt::Write>(f: &mut Formatter<W>, request: IcReq) -> fmt::Result
     ensures { WritesOnOk W.write_str_gives f.old result (ic_req_words request) f.new }
 {
-    let (pfv, hpda, maxr2t) = (request.pfv, request.hpda, request.maxr2t);
-    write!(f, "ICReq PFV {pfv} HPDA {hpda} MAXR2T {maxr2t}")
+    let (pfv, hpda) = (request.pfv, request.hpda);
+    let (dgst, maxr2t) = (request.dgst, request.maxr2t);
+    write!(f, "ICReq PFV {pfv} HPDA {hpda} DGST {dgst} MAXR2T {maxr2t}")
 }
 
 fn write_ic_resp<W: fmt::Write>(f: &mut Formatter<W>, response: IcResp) -> fmt::Result
@@ -305,18 +308,17 @@ fn kinds_words(value: u64) -> &'static str
     }
 }
 
-// The header of a data PDU of this name.
+// Where the data of a PDU stand, and how many they are.
 #[derive(Clone, Copy)]
-struct Data(&'static str, DataHead);
+struct Data(DataHead);
 
 impl fmt::Display for Data {
-    ghost output = { λ moved. Some (data_words moved.0.now moved.1) };
+    ghost output = { λ moved. Some (data_words moved.0) };
 
     fn fmt<W: fmt::Write>(&self, f: &mut Formatter<W>) -> fmt::Result {
-        let (name, head) = (self.0, self.1);
-        let (cid, offset, len) = (head.cccid, head.datao, head.datal);
-        let flags = data_flags(head);
-        write!(f, "{name} CID {cid} offset {offset} length {len}{flags}")
+        let (offset, len) = (self.0.datao, self.0.datal);
+        let flags = data_flags(self.0);
+        write!(f, " offset {offset} length {len}{flags}")
     }
 }
 

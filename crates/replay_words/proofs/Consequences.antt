@@ -16,10 +16,10 @@ others_stay : (number other : ℕ) (known : Known) (o : Option Heard) → other 
     → place (set known number o) other ≡ place known other
 others_stay number other known o apart = get_or-set_other known number other o None apart
 
-heard_apart : (number other : ℕ) (o : Option Heard) (old new : Known) (bytes : List ℕ) → other ≢ number
-    → HeardBy o number old new bytes → place new other ≡ place old other
-heard_apart number other None old new bytes apart h = ap (λ (k : Known). place k other) h
-heard_apart number other (Some heard) old new bytes apart h =
+heard_apart : (number other : ℕ) (o : Option Heard) (old new : Known) (bytes text : List ℕ) → other ≢ number
+    → HeardBy o number old new bytes text → place new other ≡ place old other
+heard_apart number other None old new bytes text apart h = ap (λ (k : Known). place k other) h.0
+heard_apart number other (Some heard) old new bytes text apart h =
     ap (λ (k : Known). place k other) h.2 ∙ others_stay number other old (Some h.0) apart
 
 said_apart : (number other : ℕ) (o : Option Heard) (old : Known) (pdu : List ℕ) → other ≢ number
@@ -28,8 +28,8 @@ said_apart number other None old pdu apart = refl
 said_apart number other (Some heard) old pdu apart = others_stay number other old (Some (saying heard pdu)) apart
 
 pub connections_are_apart : ConnectionsAreApart
-connections_are_apart number other old new bytes pdu apart = record {
-  heard = heard_apart number other (place old number) old new bytes apart;
+connections_are_apart number other old new bytes text pdu apart = record {
+  heard = heard_apart number other (place old number) old new bytes text apart;
   said = said_apart number other (place old number) old pdu apart;
   closed = others_stay number other old None apart;
 }

@@ -1,3 +1,4 @@
 pub mod Bounds
 pub mod Consequences
 pub mod Hearings
+pub mod Lasts

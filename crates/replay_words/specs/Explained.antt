@@ -4,9 +4,7 @@ use Rattle.std.specs.Io.KnownBytes.{Appends}
 use Rattle.std.specs.List.{AllPass}
 use Rattle.pdu_words.specs.Pages.{described_words}
 use Rattle.replay_words.specs.HostStreams.{Known}
-use Rattle.replay_words.specs.declared.lines.ScriptLine.{ScriptLine}
-use Rattle.replay_words.specs.Lines.{SaysScript}
-use Rattle.replay_words.specs.Notes.{HearsSaid, Noted, NotesLine}
+use Rattle.replay_words.specs.Notes.{HearsLine, Noted, NotesLine}
 
 -- the line with more of it, up to 16,409 bytes: a number, ` pdu ` and 16,384 digits
 abbrev pub kept : List ℕ → List ℕ → List ℕ
@@ -39,4 +37,4 @@ Passes line new_line old new taken below new_below =
 
 -- a line of the script was heard the last
 abbrev pub WasHeard : List ℕ → Known → Type 0
-WasHeard line new = (old : Known) × (said : ScriptLine) × SaysScript line said × HearsSaid said old new
+WasHeard line new = (old : Known) × (text : List ℕ) × HearsLine line old new text

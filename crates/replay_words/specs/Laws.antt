@@ -8,13 +8,13 @@ use Rattle.pdu_words.specs.Explanation.{explanation_of}
 use Rattle.replay_words.specs.Outstanding.{command_of_subject, remembered}
 
 -- another connection is as it was
-pub record Apart (number other : ℕ) (old new : Known) (bytes pdu : List ℕ) : Type 0 where
-  pub heard : HeardOn number old new bytes → place new other ≡ place old other
+pub record Apart (number other : ℕ) (old new : Known) (bytes text pdu : List ℕ) : Type 0 where
+  pub heard : HeardOn number old new bytes text → place new other ≡ place old other
   pub said : place (after_saying number (place old number) pdu old) other ≡ place old other
   pub closed : place (without old number) other ≡ place old other
 
 abbrev pub ConnectionsAreApart : Type 0
-ConnectionsAreApart = (number other : ℕ) (old new : Known) (bytes pdu : List ℕ) → other ≢ number → Apart number other old new bytes pdu
+ConnectionsAreApart = (number other : ℕ) (old new : Known) (bytes text pdu : List ℕ) → other ≢ number → Apart number other old new bytes text pdu
 
 abbrev pub ClosedIsForgotten : Type 0
 ClosedIsForgotten = (number : ℕ) (known : Known) (pdu : List ℕ) → number < length known

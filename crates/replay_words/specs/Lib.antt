@@ -6,3 +6,4 @@ pub mod Laws
 pub mod Lines
 pub mod Notes
 pub mod Outstanding
+pub mod Told

@@ -1,5 +1,5 @@
 -- What the lines of a replay tell of its connections, and the notes on its PDUs.
-use Rattle.std.specs.Prelude.{◌≡◌, ℕ, List, take, Option, Some, None, Result, Ok, Err}
+use Rattle.std.specs.Prelude.{◌≡◌, ℕ, List, [], take, Option, Some, None, Result, Ok, Err}
 use Rattle.std.specs.declared.alloc.AllocError.{AllocError}
 use Rattle.hex.specs.Hex.{decode_of}
 use Rattle.hex.specs.declared.error.FromHexError.{FromHexError}
@@ -24,20 +24,19 @@ bytes_of hex = bytes_by (decode_of hex)
 abbrev pub head_of : List ℕ → List ℕ
 head_of hex = take 16384 hex
 
--- a connection hears bytes, if there are any
-abbrev pub HearsBytes : ℕ → Option (List ℕ) → Known → Known → Type 0
-HearsBytes number None old new = new ≡ old
-HearsBytes number (Some bytes) old new = HeardOn number old new bytes
+-- a connection hears bytes, if there are any, and this text is told of it
+abbrev pub HearsBytes : ℕ → Option (List ℕ) → Known → Known → List ℕ → Type 0
+HearsBytes number None old new text = (new ≡ old) × (text ≡ [])
+HearsBytes number (Some bytes) old new text = HeardOn number old new bytes text
 
 -- `rx` lines are heard, and `end` lines close
-abbrev pub HearsSaid : ScriptLine → Known → Known → Type 0
-HearsSaid (script.Receive number hex) old new = HearsBytes number (bytes_of hex.now) old new
-HearsSaid (script.End number) old new = new ≡ without old number
-HearsSaid script.Other old new = new ≡ old
+abbrev pub HearsSaid : ScriptLine → Known → Known → List ℕ → Type 0
+HearsSaid (script.Receive number hex) old new text = HearsBytes number (bytes_of hex.now) old new text
+HearsSaid (script.End number) old new text = (new ≡ without old number) × (text ≡ [])
+HearsSaid script.Other old new text = (new ≡ old) × (text ≡ [])
 
-abbrev pub HearsLine : List ℕ → Known → Known → Result (Unit {0}) AllocError → Type 0
-HearsLine line old new (Ok done) = (said : ScriptLine) × SaysScript line said × HearsSaid said old new
-HearsLine line old new (Err fault) = Unit {0}
+abbrev pub HearsLine : List ℕ → Known → Known → List ℕ → Type 0
+HearsLine line old new text = (said : ScriptLine) × SaysScript line said × HearsSaid said old new text
 
 -- what a PDU is, and the first of its bytes
 pub record Noted : Type 0 where

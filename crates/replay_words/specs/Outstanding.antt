@@ -42,6 +42,7 @@ has_cid cid sent = sent.cid == cid
 abbrev pub first_place_of : ℕ → List Sent → Option ℕ
 first_place_of cid sent = position (has_cid cid) sent
 
+-- of several with this CID the one sent last, since the oldest stands first
 abbrev pub last_place_of : ℕ → List Sent → Option ℕ
 last_place_of cid sent = option_map (λ behind. length sent - 1 - behind) (position (has_cid cid) (reverse sent))
 
@@ -49,6 +50,7 @@ abbrev pub place_by : Which → ℕ → List Sent → Option ℕ
 place_by Oldest cid sent = first_place_of cid sent
 place_by Newest cid sent = last_place_of cid sent
 
+-- a CID alone may be that of several commands, where a host uses it twice: the subject says which of them
 abbrev pub place_of : Subject → List Sent → Option ℕ
 place_of subject sent = place_by subject.which subject.cid sent
 

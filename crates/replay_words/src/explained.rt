@@ -5,6 +5,7 @@ ghost use Rattle.std.specs.Prelude.{◌∷◌, ◌++◌, ℕ, List, ◌≡◌, �
 ghost use Rattle.std.specs.Prelude.{None, replicate, Option, Ok};
 ghost use Rattle.replay_words.specs.Explained.{Passes, WasHeard, kept, words_behind};
 ghost use Rattle.replay_words.specs.Notes.{HearsLine, Noted, NotesLine};
+ghost use Rattle.replay_words.specs.Told.{Tells};
 
 use crate::notes::{Note, Notes};
 use config_text::find_byte;
@@ -18,7 +19,8 @@ const LINE_HEAD: usize = 20 + 5 + 16384;
 const NOTE_MAX: usize = 2048;
 
 /// Passes on what is written to it, byte for byte, but for ` # ` and words behind each line `K pdu
-/// HEX`. After an error it is not known how much of the note at a line's end was passed on.
+/// HEX`, and writes lines for the PDUs of hosts that it hears. After an error it is not known how
+/// much of the note at a line's end was passed on.
 #[derive(Drop)]
 pub struct Explained<'a, W: Write> {
     out: &'a mut W,
@@ -46,15 +48,18 @@ impl<'a, W: Write> Explained<'a, W> {
         })
     }
 
-    /// Hears a line of the script, without its end, before it is played.
-    pub fn hears_line(&mut self, line: &[u8]) -> Result<(), AllocError>
-        ensures heard { HearsLine line.now self.old.notes self.new.notes result }
+    /// Hears a line of the script, without its end, before it is played, and writes a line `K host # `
+    /// and words for each PDU that it completes of what the host of connection K sends. After an
+    /// error nothing was heard, and it is not known how much of these lines was written.
+    pub fn hears_line(&mut self, line: &[u8]) -> io::Result<()>
+        ensures heard { OnOk result
+            (Tells (W.contents self.old.out.now) (W.contents self.new.out.now)
+            (HearsLine line.now self.old.notes self.new.notes)) }
         ensures was_heard { OnOk result (WasHeard line.now self.new.notes) }
         ensures line { self.new.line ≡ self.old.line }
-        ensures out { self.new.out ≡ self.old.out }
         ensures err { OnErr result (self.new.notes ≡ self.old.notes) }
     {
-        self.notes.hears_line(line)
+        self.notes.hears_line(line, self.out)
     }
 
     // Passes on the end of a line, behind the words of its note.

@@ -1,19 +1,22 @@
 //! What was heard on one connection, and is not answered yet.
-ghost use Rattle.std.specs.Prelude.{◌≡◌, IfOk};
-ghost use Rattle.replay_words.specs.HostStream.{Listens, nothing_heard, saying, words_said};
+ghost use Rattle.std.specs.Prelude.{◌≡◌, ◌++◌, ◌-◌, [], IfOk, OnErr, OnOk, false, drop, length};
+ghost use Rattle.replay_words.specs.Hearing.{Hears};
+ghost use Rattle.replay_words.specs.HostStream.{Heard, Listens, nothing_heard, saying, words_said};
+ghost use Rattle.replay_words.specs.Told.{Tells};
 
 use crate::hearing::hear;
 use crate::outstanding::OutstandingCommands;
 use pdu_cut::{RxBuf, Side};
 use pdu_words::{Explanation, explain};
 use std::alloc::{AllocError, Global};
+use std::io::{self, Write};
 use std::marker::Model;
 
 /// One connection, from its opening on.
 #[derive(Drop)]
 pub struct HostStream {
     // What the host sent that is less than a PDU.
-    buffer: RxBuf,
+    held: Vec<u8>,
     // After a fault of a common header the stream cannot be cut.
     deaf: bool,
     commands: OutstandingCommands,
@@ -27,35 +30,69 @@ impl Model for HostStream {
 
     ghost Value = { Heard };
 
-    ghost view = { λ c. record { held = c.buffer.held; deaf = c.deaf; commands = c.commands } };
+    ghost view = { λ c. record { held = c.held.items; deaf = c.deaf; commands = c.commands } };
 
-    ghost invariant = { λ c. (c.buffer.side ≡ Target)
-        × (c.deaf ≡ false → front Target c.buffer.held ≡ incomplete) };
+    ghost invariant = { λ c. c.deaf ≡ false → front Target c.held.items ≡ incomplete };
 }
 
 impl HostStream {
-    /// A connection on which nothing was sent. No later call takes memory.
+    /// A connection on which nothing was sent.
     pub fn new(alloc: Global) -> Result<HostStream, AllocError>
         ensures { IfOk result (λ host_stream. host_stream ≡ nothing_heard) }
     {
-        let commands = OutstandingCommands::new(alloc)?;
         Ok(HostStream {
-            buffer: RxBuf::new(alloc, Side::Target)?,
+            held: Vec::new(alloc),
             deaf: false,
-            commands,
+            commands: OutstandingCommands::new(alloc)?,
         })
     }
 
-    /// Hears bytes that the host sends, in whatever pieces they come.
-    pub fn hear(&mut self, bytes: &[u8])
-        ensures { Listens self.old self.new bytes.now }
+    /// Hears bytes that the host of this connection sends, in whatever pieces they come, and writes a
+    /// line for each PDU that they complete. Where that fails nothing was heard.
+    pub fn hear<W: Write>(
+        &mut self,
+        alloc: Global,
+        number: usize,
+        bytes: &[u8],
+        out: &mut W,
+    ) -> io::Result<()>
+        ensures heard { OnOk result (Tells (W.contents out.old) (W.contents out.new)
+            (Listens number self.old self.new bytes.now)) }
+        ensures err { OnErr result (self.new ≡ self.old) }
     {
-        if self.deaf {
-            return;
+        let mut text = Vec::new(alloc);
+        if !self.deaf {
+            let after = self.after(alloc, number, bytes, &mut text)?;
+            out.write_all(&text)?;
+            *self = after;
         }
-        if hear(&mut self.buffer, &mut self.commands, bytes) {
-            self.deaf = true;
-        }
+        Ok(())
+    }
+
+    // What it is once it has heard these bytes, and the lines of the PDUs that they complete.
+    fn after(
+        &self,
+        alloc: Global,
+        number: usize,
+        bytes: &[u8],
+        text: &mut Vec<u8>,
+    ) -> io::Result<HostStream>
+        requires hears { self.now.deaf ≡ false }
+        requires begins { text.old.items ≡ [] }
+        ensures { IfOk result (λ after. Hears number self.now.held after.held
+            self.now.commands after.commands bytes.now text.new.items after.deaf) }
+    {
+        let mut commands = self.commands.copy(alloc)?;
+        let mut buffer = RxBuf::new(alloc, Side::Target)?;
+        let room = buffer.room();
+        buffer.receive(&self.held);
+        let deaf = hear(&mut buffer, &mut commands, number, bytes, text)?;
+        let held = last_of(alloc, &self.held, bytes, room - buffer.room())?;
+        Ok(HostStream {
+            held,
+            deaf,
+            commands,
+        })
     }
 
     /// What a PDU is that is sent on the connection, with its command where that is kept. A response
@@ -78,4 +115,18 @@ impl HostStream {
         }
         explanation
     }
+}
+
+// The last bytes of both together, so many of them.
+#[tactic(auto, using(crate::proofs::Lasts::last_of_both))]
+fn last_of(alloc: Global, front: &[u8], back: &[u8], len: usize) -> Result<Vec<u8>, AllocError>
+    ensures { IfOk result (λ last.
+        last.items ≡ drop (length (front.now ++ back.now) - len) (front.now ++ back.now)) }
+{
+    let behind = len.saturating_sub(back.len());
+    let (_, of_front) = front.split_at(front.len().saturating_sub(behind));
+    let (_, of_back) = back.split_at(back.len().saturating_sub(len));
+    let mut last = Vec::from_slice(alloc, of_front)?;
+    last.extend_from_slice(of_back)?;
+    Ok(last)
 }

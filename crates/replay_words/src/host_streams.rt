@@ -2,10 +2,12 @@
 ghost use Rattle.std.specs.Prelude.{◌≡◌, IfOk, None, OnErr, OnOk, replicate};
 ghost use Rattle.tables.specs.NumberTable.{place, without};
 ghost use Rattle.replay_words.specs.HostStreams.{after_saying, opened_at, said_on, HeardOn};
+ghost use Rattle.replay_words.specs.Told.{Tells};
 
 use crate::host_stream::HostStream;
 use pdu_words::{Explanation, explain};
 use std::alloc::{AllocError, Global};
+use std::io::{self, Write};
 use std::marker::Model;
 use tables::NumberTable;
 
@@ -54,13 +56,23 @@ impl HostStreams {
         Ok(())
     }
 
-    /// The host sends bytes on the connection, in whatever pieces they come. Nothing is kept of what
-    /// comes on a connection that is not open.
-    pub fn heard(&mut self, number: usize, bytes: &[u8])
-        ensures { HeardOn number self.old self.new bytes.now }
+    /// The host sends bytes on the connection, in whatever pieces they come: a line is written for
+    /// each PDU that they complete. Nothing is kept or told of what comes on a connection that is not
+    /// open. Where it fails nothing was heard.
+    pub fn heard<W: Write>(
+        &mut self,
+        alloc: Global,
+        number: usize,
+        bytes: &[u8],
+        out: &mut W,
+    ) -> io::Result<()>
+        ensures heard { OnOk result (Tells (W.contents out.old) (W.contents out.new)
+            (HeardOn number self.old self.new bytes.now)) }
+        ensures err { OnErr result (self.new ≡ self.old) }
     {
-        if let Some(host_stream) = self.table.get_mut(number) {
-            host_stream.hear(bytes);
+        match self.table.get_mut(number) {
+            Some(host_stream) => host_stream.hear(alloc, number, bytes, out),
+            None => Ok(()),
         }
     }
 

@@ -1,12 +1,14 @@
 //! What the lines of a replay tell of its connections, and the notes on its PDUs.
-ghost use Rattle.std.specs.Prelude.{◌≡◌, IfOk, ℕ, Vec, None, OnErr, option_map, replicate};
+ghost use Rattle.std.specs.Prelude.{◌≡◌, IfOk, ℕ, Vec, None, OnErr, OnOk, option_map, replicate};
 ghost use Rattle.replay_words.specs.Notes.{HearsLine, NotesLine, bytes_of, head_of};
+ghost use Rattle.replay_words.specs.Told.{Tells};
 
 use crate::HostStreams;
 use crate::lines::{PrintedLine, ScriptLine, read_printed, read_script};
 use hex::FromHexError;
 use pdu_words::{Described, Explanation};
 use std::alloc::{AllocError, Global};
+use std::io::{self, Write};
 use std::marker::Model;
 
 // The digits of the first 8,192 bytes of a PDU. The words say nothing that stands behind them: of the
@@ -68,21 +70,27 @@ impl Notes {
         })
     }
 
-    /// Hears a line of the script that is about to be played.
-    pub fn hears_line(&mut self, line: &[u8]) -> Result<(), AllocError>
-        ensures heard { HearsLine line.now self.old self.new result }
+    /// Hears a line of the script that is about to be played, and writes a line for each PDU that it
+    /// completes. Where that fails nothing was heard.
+    pub fn hears_line<W: Write>(&mut self, line: &[u8], out: &mut W) -> io::Result<()>
+        ensures heard { OnOk result (Tells (W.contents out.old) (W.contents out.new)
+            (HearsLine line.now self.old self.new)) }
         ensures err { OnErr result (self.new ≡ self.old) }
     {
         match read_script(line) {
             ScriptLine::Receive { number, hex } => {
-                if let Some(bytes) = decode(self.alloc, hex)? {
-                    self.host_streams.heard(number as usize, &bytes);
-                }
+                let Some(bytes) = decode(self.alloc, hex)? else {
+                    return Ok(());
+                };
+                self.host_streams
+                    .heard(self.alloc, number as usize, &bytes, out)
             }
-            ScriptLine::End { number } => self.host_streams.closed(number as usize),
-            ScriptLine::Other => {}
+            ScriptLine::End { number } => {
+                self.host_streams.closed(number as usize);
+                Ok(())
+            }
+            ScriptLine::Other => Ok(()),
         }
-        Ok(())
     }
 
     /// Takes note of a printed line, without its end: what its PDU is, if it has one.

@@ -6,9 +6,10 @@ ghost use Rattle.replay_words.specs.Outstanding.{none_outstanding, sent_after, r
 ghost use Rattle.replay_words.specs.Outstanding.{command_of_subject, without_subject, queue_after};
 ghost use Rattle.replay_words.specs.Outstanding.{behind_subject};
 ghost use Rattle.replay_words.specs.Outstanding.{first_place_of, last_place_of, has_cid};
+ghost use Rattle.replay_words.specs.Hearing.{explanation_by};
 
 use pdu_codec::Sqe;
-use pdu_words::{Command, QueueKind, Subject, Which};
+use pdu_words::{Command, Explanation, QueueKind, Subject, Which, explain};
 use std::alloc::{AllocError, Global};
 use std::marker::Model;
 
@@ -51,6 +52,18 @@ impl OutstandingCommands {
         })
     }
 
+    /// The same commands once more.
+    pub fn copy(&self, alloc: Global) -> Result<OutstandingCommands, AllocError>
+        ensures { IfOk result (λ copy. copy ≡ self.now) }
+    {
+        let mut sent = Vec::with_capacity(alloc, COMMANDS_MAX)?;
+        sent.extend_from_slice(&self.sent)?;
+        Ok(OutstandingCommands {
+            queue: self.queue,
+            sent,
+        })
+    }
+
     /// Keeps the command of a capsule. A Connect names the queue of those after it.
     pub fn send(&mut self, sqe: &Sqe<'_>)
         ensures { self.new ≡ sent_after sqe.now.entry.now self.old }
@@ -76,6 +89,17 @@ impl OutstandingCommands {
     {
         let place = place(self.sent.as_slice(), subject)?;
         Some(self.sent.as_slice()[place].command)
+    }
+
+    /// What a PDU is, with its command where that is kept.
+    pub fn explain(&self, pdu: &[u8]) -> Explanation
+        ensures { result ≡ explanation_by self.now pdu.now }
+    {
+        let bare = explain(pdu, None);
+        let Some(subject) = bare.subject() else {
+            return bare;
+        };
+        explain(pdu, self.command(subject))
     }
 
     /// Forgets the command that a PDU speaks of, if it is kept.

@@ -12,23 +12,23 @@ const UNNAMED: &[u8] = b"CapsuleResp CID 9 SQHD 1 success";
 
 // What is heard on a connection is known of it alone, and until it ends.
 const CONNECTIONS: &[Turn] = &[
-    Turn::Capsule(b"18400900", b""),
+    Turn::Capsule(b"18400900", b"", b""),
     Turn::Output(KEEP_ALIVE_ANSWERED, UNNAMED),
     Turn::Output(b"0 open", b""),
     Turn::Output(b"1 open", b""),
-    Turn::Capsule(b"18400900", b""),
+    Turn::Capsule(b"18400900", b"", b"CapsuleCmd CID 9 (Keep Alive)"),
     Turn::Output(KEEP_ALIVE_ON_1, UNNAMED),
     Turn::Output(KEEP_ALIVE_ANSWERED, NAMED),
-    Turn::Capsule(b"18400900", b""),
+    Turn::Capsule(b"18400900", b"", b"CapsuleCmd CID 9 (Keep Alive)"),
     Turn::Output(b"1 closed", b""),
     Turn::Output(KEEP_ALIVE_ANSWERED, NAMED),
-    Turn::Capsule(b"18400900", b""),
+    Turn::Capsule(b"18400900", b"", b"CapsuleCmd CID 9 (Keep Alive)"),
     Turn::Output(b"0 closed", b""),
     Turn::Output(KEEP_ALIVE_ANSWERED, UNNAMED),
     Turn::Output(b"0 open", b""),
     Turn::Output(KEEP_ALIVE_ANSWERED, UNNAMED),
-    Turn::Capsule(b"18400900", b""),
-    Turn::Host(b"end 0"),
+    Turn::Capsule(b"18400900", b"", b"CapsuleCmd CID 9 (Keep Alive)"),
+    Turn::Host(b"end 0", b""),
     Turn::Output(KEEP_ALIVE_ANSWERED, UNNAMED),
 ];
 
@@ -41,11 +41,12 @@ fn connections_are_apart(rt: HostRuntime) -> Outcome {
 // Keep Alive, which is not heard.
 const PIECES: &[Turn] = &[
     Turn::Output(b"0 open", b""),
-    Turn::Host(b"rx 0 04004800"),
-    Turn::Host(b"rx 0 480000001840090000000000000000000000000000"),
+    Turn::Host(b"rx 0 04004800", b""),
+    Turn::Host(b"rx 0 480000001840090000000000000000000000000000", b""),
     Turn::Output(KEEP_ALIVE_ANSWERED, UNNAMED),
     Turn::Host(
         b"rx 0 0000000000000000000000000000000000000000000000000000000000000000000000000000000000000000000000040048004800000008400a000000000000000000000000000000000000000000000000000000000000000000000000000000000000000000000000000000000000000000000000000400470048000000040048004800000018400b00000000000000000000000000000000000000000000000000000000000000000000000000000000000000000000000000000000000000000000000000",
+        b"0 host # CapsuleCmd CID 9 (Keep Alive)\n0 host # CapsuleCmd CID 10 (Abort): SQID 0, CID 0\n",
     ),
     Turn::Output(KEEP_ALIVE_ANSWERED, NAMED),
     Turn::Output(

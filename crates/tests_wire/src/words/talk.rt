@@ -7,11 +7,11 @@ use testkit_tables::{Outcome, check, check_lines};
 /// A line of a talk.
 #[derive(Clone, Copy)]
 pub enum Turn {
-    /// A line of the script.
-    Host(&'static [u8]),
+    /// A line of the script, and the lines that are wanted for the PDUs that it completes.
+    Host(&'static [u8], &'static [u8]),
     /// A capsule on connection 0: its entry's first bytes, and those from CDW10 on, in hex. The
-    /// others are zero.
-    Capsule(&'static [u8], &'static [u8]),
+    /// others are zero. And the words that are wanted for it, if any.
+    Capsule(&'static [u8], &'static [u8], &'static [u8]),
     /// A line that the target prints, and the words that are wanted behind it, if any.
     Output(&'static [u8], &'static [u8]),
 }
@@ -46,8 +46,16 @@ fn play(
     turn: Turn,
 ) -> io::Result<()> {
     match turn {
-        Turn::Host(line) => explained.hears_line(line)?,
-        Turn::Capsule(front, dwords) => hear_capsule(alloc, explained, front, dwords)?,
+        Turn::Host(line, told) => {
+            explained.hears_line(line)?;
+            wanted.extend_from_slice(told)?;
+        }
+        Turn::Capsule(front, dwords, words) => {
+            hear_capsule(alloc, explained, front, dwords)?;
+            if !words.is_empty() {
+                want(wanted, b"0 host", words)?;
+            }
+        }
         Turn::Output(line, words) => {
             explained.write_all(line)?;
             explained.write_all(b"\n")?;
@@ -62,7 +70,7 @@ fn hear_capsule(
     explained: &mut Explained<'_, Vec<u8>>,
     front: &[u8],
     dwords: &[u8],
-) -> Result<(), AllocError> {
+) -> io::Result<()> {
     let mut line = Vec::new(alloc);
     line.extend_from_slice(CAPSULE)?;
     line.extend_from_slice(front)?;

@@ -46,6 +46,8 @@ fn bytes_are_passed_on_by_sevens(rt: HostRuntime) -> Outcome {
     passes(rt.alloc(), 7)
 }
 
+const TERMINATION: &[u8] = b"rx 0 020018001800000002000000000000000000000000000000";
+
 // A writer that has room for so many bytes, and then fails.
 #[derive(Drop)]
 struct Short {
@@ -75,6 +77,30 @@ fn fails(alloc: Global, room: usize) -> bool {
         Err(_) => false,
     };
     refused
+}
+
+// Whether the line of a host's PDU is refused by a writer with this room.
+fn fails_to_tell(alloc: Global, room: usize) -> bool {
+    let mut short = Short { room };
+    let refused = match Explained::new(alloc, &mut short) {
+        Ok(mut explained) => {
+            explained.write_all(b"0 open\n").is_err() || explained.hears_line(TERMINATION).is_err()
+        }
+        Err(_) => false,
+    };
+    refused
+}
+
+// `0 open` and its end are 7 bytes, `0 host # H2CTermReq sequence error` and its end 35.
+#[test]
+fn a_fault_of_the_writer_is_told_of_a_host(rt: HostRuntime) -> Outcome {
+    let alloc = rt.alloc();
+    let rows = [
+        fails_to_tell(alloc, 7),
+        fails_to_tell(alloc, 41),
+        !fails_to_tell(alloc, 42),
+    ];
+    check_rows(&rows, "whether the writer fails")
 }
 
 // The line has 22 bytes, the words 9, and its end 1.

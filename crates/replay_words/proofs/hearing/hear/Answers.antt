@@ -24,26 +24,28 @@ loop-rest-preserved c =
     let rest = c.loop-rest.rest.now in
     let held = c.loop-rest.buffer.held in
     let n = c.receive-taken.result in
-    let calm : TakesPdus (held ++ take n rest) c.take_pdus.new.buffer.held c.loop-rest.commands c.take_pdus.new.commands false =
-    rw (c.receive-taken.ensures.appended, c.if-take_pdus.false) at c.take_pdus.ensures.taken in
+    let now = c.take_pdus.new in
+    let calm : TakesPdus c.args.number (held ++ take n rest) now.buffer.held c.loop-rest.commands now.commands c.loop-rest.text.items now.text.items false =
+    rw (c.receive-taken.ensures.appended, c.if-branch.false) at c.in_ok-take_pdus.ensures.taken in
     record {
-      side = c.take_pdus.ensures.side;
-      incomplete = takes_incomplete (held ++ take n rest) c.take_pdus.new.buffer.held c.loop-rest.commands c.take_pdus.new.commands calm;
-      so_far = rw c.split_at.ensures.back (so_far_piece (c.args.buffer.now.held ++ c.args.bytes.now) held rest c.take_pdus.new.buffer.held n c.args.commands.now c.loop-rest.commands c.take_pdus.new.commands false c.loop-rest.invariant.so_far calm);
+      side = c.in_ok-take_pdus.ensures.side;
+      incomplete = takes_incomplete c.args.number (held ++ take n rest) now.buffer.held c.loop-rest.commands now.commands c.loop-rest.text.items now.text.items calm;
+      so_far = rw c.split_at.ensures.back (so_far_piece c.args.number (c.args.buffer.now.held ++ c.args.bytes.now) held rest now.buffer.held n c.args.commands.now c.loop-rest.commands now.commands [] c.loop-rest.text.items now.text.items false c.loop-rest.invariant.so_far calm);
     }
 
-pub returns-then-take_pdus-clause-heard : goal.returns-then-take_pdus-clause-heard
-returns-then-take_pdus-clause-heard c =
+pub returns-then-branch-clause-heard : goal.returns-then-branch-clause-heard
+returns-then-branch-clause-heard c =
     let rest = c.loop-rest.rest.now in
     let held = c.loop-rest.buffer.held in
     let n = c.receive-taken.result in
-    let faulty : TakesPdus (held ++ take n rest) c.take_pdus.new.buffer.held c.loop-rest.commands c.take_pdus.new.commands true =
-    rw (c.receive-taken.ensures.appended, c.if-take_pdus.true) at c.take_pdus.ensures.taken in
-    let heard = so_far_piece (c.args.buffer.now.held ++ c.args.bytes.now) held rest c.take_pdus.new.buffer.held n c.args.commands.now c.loop-rest.commands c.take_pdus.new.commands true c.loop-rest.invariant.so_far faulty in
-    hears_to_fault c.args.buffer.now.held c.args.bytes.now c.take_pdus.new.buffer.held (drop n rest) (held ++ take n rest) c.args.commands.now c.loop-rest.commands c.take_pdus.new.commands heard faulty
+    let now = c.take_pdus.new in
+    let faulty : TakesPdus c.args.number (held ++ take n rest) now.buffer.held c.loop-rest.commands now.commands c.loop-rest.text.items now.text.items true =
+    rw (c.receive-taken.ensures.appended, c.if-branch.true) at c.in_ok-take_pdus.ensures.taken in
+    let heard = so_far_piece c.args.number (c.args.buffer.now.held ++ c.args.bytes.now) held rest now.buffer.held n c.args.commands.now c.loop-rest.commands now.commands [] c.loop-rest.text.items now.text.items true c.loop-rest.invariant.so_far faulty in
+    hears_to_fault c.args.number c.args.buffer.now.held c.args.bytes.now now.buffer.held (drop n rest) (held ++ take n rest) c.args.commands.now c.loop-rest.commands now.commands c.loop-rest.text.items now.text.items heard faulty
 
 pub returns-clause-heard : goal.returns-clause-heard
 returns-clause-heard c =
     let none : c.loop-rest.rest.now ≡ [] = grind (arith, common_steps, c.is_empty.ensures, c.loop-rest-test.false) in
-    hears_all c.args.buffer.now.held c.args.bytes.now c.loop-rest.buffer.held c.args.commands.now c.loop-rest.commands
+    hears_all c.args.number c.args.buffer.now.held c.args.bytes.now c.loop-rest.buffer.held c.args.commands.now c.loop-rest.commands c.loop-rest.text.items
     (rw none at c.loop-rest.invariant.so_far) c.loop-rest.invariant.incomplete

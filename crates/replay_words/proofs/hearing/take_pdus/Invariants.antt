@@ -6,7 +6,7 @@ use Rattle.replay_words.proofs.hearing.take_pdus.Given as goal
 abbrev pub invariant-loop-pdu : goal.invariant-loop-pdu
 invariant-loop-pdu l = record {
   side : l.buffer.side ≡ side.Target;
-  so_far : SoFar l.fn.buffer.held l.buffer.held l.fn.commands l.commands;
+  so_far : SoFar l.number l.fn.buffer.held l.buffer.held l.fn.commands l.commands l.fn.text.items l.text.items;
 }
 
 abbrev pub decreases-loop-pdu : goal.decreases-loop-pdu

@@ -1,4 +1,4 @@
-use Rattle.std.proofs.Common.{◌≡◌, ◌∷◌, drop, subst, ◌∙◌, arith}
+use Rattle.std.proofs.Common.{◌≡◌, ◌||◌, ◌∷◌, drop, subst, ◌∙◌, arith}
 use Rattle.std.proofs.lemmas.Result.{err_from_is_err_and}
 use Rattle.std.specs.List.{All}
 use Rattle.config_text.specs.Lines.{lines_of}
@@ -29,7 +29,7 @@ pub returns-in_err-play_line-clause-fault : goal.returns-in_err-play_line-clause
 returns-in_err-play_line-clause-fault g c =
     let left : drop c.loop-line.number (lines_of c.args.stream.now) ≡ c.in-Some.line.now ∷ c.next.new.self = c.loop-line.invariant.rest ∙ c.in-Some.ensures.steps in
     let p = err_from_is_err_and c.from_residual.result c.from_residual.ensures.1 in
-    rw (p.1, p.2) (ends_at c.play_line.new.playback.printer.writes.has_failed _ (lines_of c.args.stream.now) c.loop-line.number c.in-Some.line.now c.next.new.self left c.loop-line.invariant.before c.in_err-play_line.ensures.fault)
+    rw (p.1, p.2) (ends_at (c.play_line.new.playback.printer.writes.has_failed || c.play_line.new.has_failed) _ (lines_of c.args.stream.now) c.loop-line.number c.in-Some.line.now c.next.new.self left c.loop-line.invariant.before c.in_err-play_line.ensures.fault)
 
 pub returns-clause-ok : goal.returns-clause-ok
 returns-clause-ok g c =
