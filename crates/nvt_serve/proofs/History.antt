@@ -1,5 +1,5 @@
 -- What deeds add to the history of a target.
-use Rattle.std.proofs.Common.{◌≡◌, ℕ, Bool, true, false, List, [], ◌∷◌, ◌++◌, length, take, Option, Some, None, Result, Ok, Err, MatchOption, MatchResult, is_some, refl, sym, ap, ◌∙◌, subst, append-nil, arith}
+use Rattle.std.proofs.Common.{◌≡◌, ℕ, Bool, true, false, List, [], ◌∷◌, ◌++◌, length, take, Option, Some, None, Result, Ok, Err, MatchOption, MatchResult, is_some, min, refl, sym, ap, ◌∙◌, subst, append-nil, arith}
 use Rattle.std.specs.Prelude.{◌==◌, if◌then◌else◌}
 use Rattle.std.proofs.Math.Path.{fun_ext}
 use Rattle.std.proofs.Math.Seq.{take-append_seam}
@@ -9,11 +9,11 @@ use Rattle.nvt_serve.specs.Deed as deed
 use Rattle.nvt_serve.specs.Deed.{AreReceived, Deed, Does, Runs, Serving}
 use Rattle.nvt_serve.specs.History.{DeedsArePossible, DeedsHaveMoments, ServedTargetsAgree, event_of, events_after, received_after, received_with, taken_after, taken_with, with_event}
 use Rattle.target_core.specs.declared.fault.NoConn.{NoConn}
-use Rattle.target_core.specs.Agreement.{Agrees, AgreesStill, AgreesWithReceived, AgreesWithTaken, extended, left}
+use Rattle.target_core.specs.Agreement.{Agrees, AgreesStill, AgreesWithReceived, AgreesWithTaken, ReceiveAgrees, extended, left}
 use Rattle.target_core.specs.Connection.{KnownConnection}
-use Rattle.target_core.specs.Target.{TargetState, is_ended_at, output_at}
+use Rattle.target_core.specs.Target.{ReceivesAt, TargetState, is_ended_at, output_at, room_of}
 use Rattle.target_core.proofs.Agreements.{same_agrees, transition_agrees}
-use Rattle.target_core.proofs.Calls.{receive_keeps, taken_keeps}
+use Rattle.target_core.proofs.Calls.{receive_agrees, taken_keeps}
 use Rattle.target_history.specs.Event as event
 use Rattle.target_history.specs.Event.{Event}
 use Rattle.target_history.specs.History.{Opening, happened, is_known}
@@ -29,6 +29,20 @@ no_more f k = fun_ext (λ j. here j (j == k)) where
   here : (j : ℕ) (same : Bool) → (if same then f j ++ [] else f j) ≡ f j
   here j true = append-nil (f j)
   here j false = refl
+
+receive_keeps_at : (old new : TargetState) (k : ℕ) (s : Option (List ℕ)) (o : Option KnownConnection) (piece : List ℕ) (result : Result ℕ NoConn)
+    → place old.streams k ≡ s → ReceivesAt k s o old piece result new → ReceiveAgrees k piece old result new
+receive_keeps_at old new k None o piece (Ok n) known h = cc
+receive_keeps_at old new k None o piece (Err fault) known h = same_agrees old new h.1
+receive_keeps_at old new k (Some held) None piece (Ok n) known h = cc
+receive_keeps_at old new k (Some held) None piece (Err fault) known h = same_agrees old new h.1
+receive_keeps_at old new k (Some held) (Some c) piece result known h =
+    rw h.0 (receive_agrees old new k held (take (min (room_of held c) (length piece)) piece) known h.1)
+
+receive_keeps : (old new : TargetState) (k : ℕ) (piece : List ℕ) (result : Result ℕ NoConn)
+    → ReceivesAt k (place old.streams k) (place old.connections k) old piece result new → ReceiveAgrees k piece old result new
+receive_keeps old new k piece result h =
+    receive_keeps_at old new k (place old.streams k) (place old.connections k) piece result refl h
 
 received_agrees : (old new : TargetState) (k : ℕ) (bytes : List ℕ) (result : Result ℕ NoConn) → AreReceived result bytes
     → MatchResult result (λ n. AgreesWithReceived k (take n bytes) old new) (λ fault. AgreesStill old new) → AgreesWithReceived k bytes old new

@@ -100,7 +100,7 @@ pub record Connects (slot port k : ℕ) (old new : Serving) : Type 0 where
   pub transition : Transition (opened port k) old.target new.target
   pub tied : new.connections ≡ with_value old.connections slot k
 
--- why a connection is not opened: the target says so, or memory is wanted
+-- why a connection is not opened: the target says so, or memory runs out
 abbrev pub IsRefusedBy : Option OpenFault → OpenFault → Type 0
 IsRefusedBy None fault = fault ≡ Memory
 IsRefusedBy (Some why) fault = fault ≡ why

@@ -16,7 +16,7 @@ use target_core::Target;
 /// Serves a target for so many turns. In each of them what connections have to send is given to their slots, once
 /// each; those that have ended and have nothing to send are given up; the ports are asked once what is next; and
 /// each connection steps, in rising number, until it has something to send, has ended, or has nothing to do. A step
-/// that wants memory is made again in the next turn.
+/// that lacks memory is made again in the next turn.
 pub fn serve<P: Ports, D: Disk + Drop>(ports: &mut P, target: &mut Target<D>, turns: u64) -> Served
     ensures { Serves turns result (P.state ports.old) (P.state ports.new) target.old target.new }
 {

@@ -31,7 +31,7 @@ pub fn step_all<D: Disk + Drop>(target: &mut Target<D>, ties: &mut Ties) -> u64
     memory
 }
 
-// Lets a connection that has nothing to send step, and answers whether it wants memory.
+// Lets a connection that has nothing to send step, and answers whether it lacks memory.
 fn step<D: Disk + Drop>(target: &mut Target<D>, ties: &mut Ties, k: usize) -> bool
     requires k { k < 64 }
     requires ready { is_in ties.old.ready.bits k ≡ true }
@@ -52,7 +52,7 @@ fn step<D: Disk + Drop>(target: &mut Target<D>, ties: &mut Ties, k: usize) -> bo
     wants
 }
 
-// Lets a connection step until it has something to send, is idle or ended, or wants memory. Answers whether it does.
+// Lets a connection step until it has something to send, is idle or ended, or lacks memory. Answers whether it does.
 fn step_out<D: Disk + Drop>(target: &mut Target<D>, k: usize) -> bool
     ensures { StepsOut k result target.old target.new }
 {

@@ -1,53 +1,30 @@
 -- Each call keeps the agreement: from the exact clauses of a call to what its answer says.
-use Rattle.std.proofs.Common.{◌≡◌, ◌≤◌, ℕ, ◌+◌, Bool, true, false, ◌&&◌, List, ◌++◌, length, take, drop, min, Option, Some, None, Result, Ok, Err, OnOk, OnErr, IfOk, MatchOption, refl, sym, ap, subst, ◌∙◌, append_assoc, take-append-drop, arith}
+use Rattle.std.proofs.Common.{◌≡◌, ℕ, ◌+◌, Bool, true, false, ◌&&◌, List, ◌++◌, take, drop, Option, Some, None, MatchOption, refl, sym, ap, subst, ◌∙◌, append_assoc, take-append-drop}
 use Rattle.std.specs.Prelude.{if◌then◌else◌, ◌==◌}
 use Rattle.std.specs.Option.{option_map}
 use Rattle.std.proofs.lemmas.Bool.{eqb-true}
 use Rattle.tables.specs.NumberTable.{place}
 use Rattle.tables.proofs.NumberTables.{place_within, place-with_value}
-use Rattle.config_lists.specs.declared.edit.Edit.{Edit}
-use Rattle.config_lists.specs.declared.fault.EditFault.{EditFault}
-use Rattle.discovery_view.specs.Forming.{reach}
 use Rattle.pdu_cut.specs.declared.side.Side.TheVariants.{Target}
 use Rattle.pdu_cut.specs.Front.{Front, incomplete, whole, faulty, front}
 use Rattle.pdu_cut.specs.Pdu.{Pdu}
 use Rattle.pdu_cut.proofs.Fronts.{front_faulty-append}
 use Rattle.pdu_cut.proofs.Streams.{begins_with-append}
-use Rattle.target_core.specs.declared.fault.NoConn.{NoConn}
-use Rattle.target_core.specs.declared.fault.OpenFault.{OpenFault}
-use Rattle.target_core.specs.declared.fault.StepFault.{StepFault}
 use Rattle.target_core.specs.declared.fault.Stepped.{Stepped}
 use Rattle.target_core.specs.declared.fault.Stepped.TheVariants.{Idle, One, Ended}
-use Rattle.target_core.specs.Agreement.{AgreesAfter, AgreesAfterStep, AgreesByStep, AgreesStill, AgreesWithReceived, AgreesWithTaken, EditAgrees, EndAgrees, EndedAgrees, OpenAgrees, OutputAgrees, ReceiveAgrees, StandsAt, StepAgrees, StreamAgrees, TakenAgrees}
+use Rattle.target_core.specs.Agreement.{AgreesAfterStep, AgreesByStep, AgreesStill, AgreesWithReceived, AgreesWithTaken, EndedAgrees, OutputAgrees, StandsAt, StreamAgrees, TakenAgrees}
 use Rattle.target_core.specs.Connection.{KnownConnection}
-use Rattle.target_core.specs.Transition.{Transition, StepsAt, StepsBy, StepsOn}
-use Rattle.target_core.specs.Target.{ReceivesAt, TakenAt, TargetState, free_number, is_ended_at, room_of, with_connection, with_stream}
+use Rattle.target_core.specs.Transition.{StepsBy, StepsOn}
+use Rattle.target_core.specs.Target.{TakenAt, TargetState, is_ended_at, with_connection, with_stream}
 use Rattle.target_decision.specs.declared.session.ConnectionState.{ConnectionState}
 use Rattle.target_decision.specs.declared.session.Session.TheVariants as session
 use Rattle.target_decision.specs.Session.{is_ended}
-use Rattle.target_history.specs.Event.{edited, given_up, opened, stepped}
+use Rattle.target_history.specs.Event.{stepped}
 use Rattle.target_history.specs.Occurrence.{DisksAct, Occurrence}
 use Rattle.target_history.specs.History.{alignment_of, Admission, admission_of, connection_of, happened, has_ended, is_initialized, is_known, last_front, notices_of, pdus_of, port_of, responses_since, sent, session_of, session_with}
 use Rattle.target_core.proofs.Agreements.{meets_agree, transition_agrees, same_agrees}
 
 -- ---- events
-
-pub edit_keeps : (old new : TargetState) (edit : Edit) (result : Result (Unit {0}) EditFault)
-    → OnOk result (Transition (edited edit) old new) → OnErr result (new ≡ old) → EditAgrees edit old result new
-edit_keeps old new edit (Ok done) transition err = transition_agrees (edited edit) old new transition
-edit_keeps old new edit (Err fault) transition err = same_agrees old new err
-
--- an edit that is refused forms none
-pub edit_forms : (old new : TargetState) (edit : Edit) (result : Result (Unit {0}) EditFault)
-    → OnOk result (Transition (edited edit) old new) → OnErr result (new ≡ old) → new.formed ≤ old.formed + reach old.config edit
-edit_forms old new edit (Ok done) transition err = transition.formed
-edit_forms old new edit (Err fault) transition err = rw err (omega arith)
-
-pub open_keeps : (old new : TargetState) (port : ℕ) (result : Result ℕ OpenFault)
-    → IfOk result (λ k. (free_number old ≡ Some k) × Transition (opened port k) old new)
-    → OnErr result (new ≡ old) → OpenAgrees port old result new
-open_keeps old new port (Ok k) opens err = transition_agrees (opened port k) old new opens.1
-open_keeps old new port (Err fault) opens err = same_agrees old new err
 
 stepped_agrees : (old new : TargetState) (k : ℕ) (held : List ℕ) (ended : Bool) → StepsOn k held ended old new
     → AgreesAfterStep k (front Target held) old new
@@ -59,31 +36,11 @@ stepped_agrees old new k held ended h = record {
   agrees = transition_agrees (stepped k (front Target held) h.disk_outcome) old new h.transition;
 }
 
-step_keeps_by : (old new : TargetState) (k : ℕ) (held : List ℕ) (c : KnownConnection) (s : Stepped) → place old.streams k ≡ Some held
+pub step_keeps_by : (old new : TargetState) (k : ℕ) (held : List ℕ) (c : KnownConnection) (s : Stepped) → place old.streams k ≡ Some held
     → StepsBy k held c s old new → AgreesByStep k s old new
 step_keeps_by old new k held c Idle known h = same_agrees old new h.1
 step_keeps_by old new k held c One known h = rw known (stepped_agrees old new k held false h.1)
 step_keeps_by old new k held c Ended known h = rw known (stepped_agrees old new k held true h.1)
-
-step_keeps_at : (old new : TargetState) (k : ℕ) (s : Option (List ℕ)) (o : Option KnownConnection) (result : Result Stepped StepFault)
-    → place old.streams k ≡ s → StepsAt k s o old result new → StepAgrees k old result new
-step_keeps_at old new k None o result known h = rw h.0 (same_agrees old new h.1)
-step_keeps_at old new k (Some held) None result known h = rw h.0 (same_agrees old new h.1)
-step_keeps_at old new k (Some held) (Some c) (Ok s) known h = step_keeps_by old new k held c s known h
-step_keeps_at old new k (Some held) (Some c) (Err fault) known h = same_agrees old new h.1
-
-pub step_keeps : (old new : TargetState) (k : ℕ) (result : Result Stepped StepFault)
-    → StepsAt k (place old.streams k) (place old.connections k) old result new → StepAgrees k old result new
-step_keeps old new k result h = step_keeps_at old new k (place old.streams k) (place old.connections k) result refl h
-
-end_keeps_at : (old new : TargetState) (k : ℕ) (o : Option KnownConnection) → MatchOption o (new ≡ old) (λ c. Transition (given_up k) old new)
-    → MatchOption o (AgreesStill old new) (λ c. AgreesAfter (given_up k) old new)
-end_keeps_at old new k None h = same_agrees old new h
-end_keeps_at old new k (Some c) h = transition_agrees (given_up k) old new h
-
-pub end_keeps : (old new : TargetState) (k : ℕ) → MatchOption (place old.connections k) (new ≡ old) (λ c. Transition (given_up k) old new)
-    → EndAgrees k old new
-end_keeps old new k h = end_keeps_at old new k (place old.connections k) h
 
 -- ---- received bytes
 
@@ -103,7 +60,7 @@ received_at true held bytes (Some other) pdus last received known agrees =
     (begins_with-append Target received bytes pdus held here.0, stands_at-append last held bytes here.1)
 received_at false held bytes o pdus last received known agrees = agrees
 
-receive_agrees : (old new : TargetState) (k : ℕ) (held bytes : List ℕ) → place old.streams k ≡ Some held
+pub receive_agrees : (old new : TargetState) (k : ℕ) (held bytes : List ℕ) → place old.streams k ≡ Some held
     → new ≡ with_stream old k (held ++ bytes) → AgreesWithReceived k bytes old new
 receive_agrees old new k held bytes known receives =
     let within = place_within old.streams k held known in
@@ -123,20 +80,6 @@ receive_agrees old new k held bytes known receives =
         blocks = agrees.blocks;
       });
     }
-
-receive_keeps_at : (old new : TargetState) (k : ℕ) (s : Option (List ℕ)) (o : Option KnownConnection) (piece : List ℕ) (result : Result ℕ NoConn)
-    → place old.streams k ≡ s → ReceivesAt k s o old piece result new → ReceiveAgrees k piece old result new
-receive_keeps_at old new k None o piece (Ok n) known h = cc
-receive_keeps_at old new k None o piece (Err fault) known h = same_agrees old new h.1
-receive_keeps_at old new k (Some held) None piece (Ok n) known h = cc
-receive_keeps_at old new k (Some held) None piece (Err fault) known h = same_agrees old new h.1
-receive_keeps_at old new k (Some held) (Some c) piece result known h =
-    rw h.0 (receive_agrees old new k held (take (min (room_of held c) (length piece)) piece) known h.1)
-
-pub receive_keeps : (old new : TargetState) (k : ℕ) (piece : List ℕ) (result : Result ℕ NoConn)
-    → ReceivesAt k (place old.streams k) (place old.connections k) old piece result new → ReceiveAgrees k piece old result new
-receive_keeps old new k piece result h =
-    receive_keeps_at old new k (place old.streams k) (place old.connections k) piece result refl h
 
 -- ---- output that is taken
 

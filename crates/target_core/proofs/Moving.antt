@@ -271,6 +271,19 @@ tick_moves old new now config clock shown formed streams connections rows contro
       blocks = λ d. ap (λ (l : List Stored). contents_at l d) disks;
     }
 
+-- .. where the clock then shows this
+pub tick_moves_to : (old new : TargetState) (now clock : ℕ) → clock ≡ max old.clock now → new.config ≡ old.config → new.clock ≡ clock → new.shown ≡ old.shown → new.formed ≡ old.formed
+    → new.streams ≡ old.streams
+    → new.connections ≡ map (option_map (settled (cause.Clock clock) (gone_by (cause.Clock clock) old.config (tables_of old)))) old.connections
+    → ((c : ℕ) → place new.rows c ≡ (if gone_by (cause.Clock clock) old.config (tables_of old) c then None else
+    option_map (row_kept (cause.Clock clock) c) (place old.rows c)))
+    → ((c : ℕ) → place new.controllers c ≡ (if gone_by (cause.Clock clock) old.config (tables_of old) c then None else place old.controllers c))
+    → ((k t : ℕ) → part_at new.transfers k t ≡ (if ends_known (cause.Clock clock) (gone_by (cause.Clock clock) old.config (tables_of old)) (place old.connections k) then None else part_at old.transfers k t))
+    → new.disks ≡ old.disks → Transition (ticked now) old new
+tick_moves_to old new now clock is config shows shown formed streams connections rows controllers parts disks =
+    tick_moves old new now config (shows ∙ is) shown formed streams (rw is at connections) (λ c. rw is at (rows c)) (λ c. rw is at (controllers c))
+    (λ k t. rw is at (parts k t)) disks
+
 -- ---- an open
 
 pub open_moves : (old new : TargetState) (port k : ℕ) → position is_none old.connections ≡ Some k → k < length old.streams

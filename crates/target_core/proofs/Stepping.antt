@@ -18,6 +18,7 @@ use Rattle.io_queue.specs.Execution.{DisksDid, contents_at, write_on, written}
 use Rattle.pdu_cut.specs.declared.side.Side.TheVariants.{Target}
 use Rattle.pdu_cut.specs.Front.{Front, front}
 use Rattle.target_core.specs.declared.fault.Stepped.{Stepped}
+use Rattle.target_core.specs.Agreement.{AgreesByStep}
 use Rattle.target_core.specs.Connection.{KnownConnection, acted, ends_known, settled}
 use Rattle.target_core.specs.Transition.{ActedAt, ActsAt, ActsOn, Transition, StepsBy, StepsOn, known_moved, stepped_by}
 use Rattle.target_core.specs.Target.{IsTarget, TargetState, is_idle, is_incomplete, meets, world_at}
@@ -37,6 +38,7 @@ use Rattle.target_history.specs.declared.end_cause.EndCause.{EndCause}
 use Rattle.target_history.specs.EndCause.{cause_decided, ends_by}
 use Rattle.target_history.specs.Event.{stepped}
 use Rattle.target_history.specs.Occurrence.{DisksAct, act_decided, bytes_decided, consequence_decided, consequence_of, controller_changed, decided, decision_of, cause_of, ends_live, is_end_decided, operation_decided, parts_after, port_met, row_changed, row_kept, terminates}
+use Rattle.target_core.proofs.Calls.{step_keeps_by}
 use Rattle.target_core.proofs.Moving.{moved_is, part_at-silent, silent_at, stream_stays, tables_of, turned}
 use Rattle.target_core.proofs.Places.{connection_is_target, map_is_target, stream_is_target}
 use Rattle.target_core.proofs.Settling.{QuietWhere, decision_settles, tags_settle}
@@ -317,3 +319,22 @@ step_done old new k held c found d e ch begun s turned stream known lasts stands
     (rw stands at (connections ∙ ap (map (option_map (settled e (gone_by e old.config (tables_of old))))) made)) (rw stands at streams) rows controllers
     (rw stands at acts.acts.contents) mid (rw stands at carries)
     (λ j t. rw stands at (parts j t ∙ ap (λ (l : List (Option KnownConnection)). if ends_known e (gone_by e old.config (tables_of old)) (place l j) then None else part_at mid j t) made))) steps
+
+-- .. and so it agrees with the history that is longer by it
+pub step_agrees : (old new : TargetState) (k : ℕ) (held : List ℕ) (c : KnownConnection) (found : Front) (d : Decision) (e : EndCause) (ch : Consequence) (begun : Option Row) (s : Stepped)
+    (turned : List (Option KnownConnection)) → place old.streams k ≡ Some held → place old.connections k ≡ Some c
+    → is_ended c.state.session ≡ false → found ≡ front Target held → is_incomplete found ≡ false
+    → d ≡ decide (world_at old) c.state (part_at old.transfers k) found
+    → e ≡ cause_decided c.state.session d → ch ≡ consequence_decided (Some d) → begun ≡ row_decided d c.state.port found
+    → new.config ≡ old.config → new.shown ≡ old.shown → new.formed ≡ old.formed → new.clock ≡ old.clock
+    → ActsOn k (world_at old) d found (brought_by (part_at old.transfers k) d found) c old.connections turned old.disks new.disks
+    → new.connections ≡ map (option_map (settled e (gone_by e old.config (tables_of old)))) turned
+    → new.streams ≡ with_value old.streams k (drop (consumed_of found) held)
+    → ((n : ℕ) → place new.rows n ≡ row_changed ch begun (if gone_by e old.config (tables_of old) n then None else place old.controllers n) n
+    (if gone_by e old.config (tables_of old) n then None else option_map (row_kept e n) (place old.rows n)))
+    → ((n : ℕ) → place new.controllers n ≡ controller_changed ch old.clock n (if gone_by e old.config (tables_of old) n then None else place old.controllers n))
+    → (mid : List (List (Option (Part WaitingCommand)))) → Stand mid (with_own (part_at old.transfers) k (tags_after d found (part_at old.transfers k)))
+    → ((j t : ℕ) → part_at new.transfers j t ≡ (if ends_known e (gone_by e old.config (tables_of old)) (place turned j) then None else part_at mid j t))
+    → s ≡ stepped_by (is_end d) → AgreesByStep k s old new
+step_agrees old new k held c found d e ch begun s turned stream known lasts stands complete decides ends changes begins config shown formed clock acts connections streams rows controllers mid carries parts steps =
+    step_keeps_by old new k held c s stream (step_done old new k held c found d e ch begun s turned stream known lasts stands complete decides ends changes begins config shown formed clock acts connections streams rows controllers mid carries parts steps)

@@ -124,6 +124,7 @@ open_fault t port =
     if is_none (port_of t.config port) then Some NoSuchPort else
     if is_none (free_number t) then Some Full else None
 
+-- an ended connection stays known until it is given up, so that its last output can still be taken
 abbrev pub is_ended_at : Option KnownConnection → Bool
 is_ended_at None = false
 is_ended_at (Some c) = is_ended c.state.session
@@ -137,6 +138,7 @@ room_at None o = 0
 room_at (Some held) None = 0
 room_at (Some held) (Some c) = room_of held c
 
+-- what the connection is sent and its caller has not taken yet; under a number that is not known there is nothing
 abbrev pub output_at : Option KnownConnection → List ℕ
 output_at None = []
 output_at (Some c) = c.output

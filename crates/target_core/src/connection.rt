@@ -9,8 +9,8 @@ ghost use Rattle.admin_queue.specs.Viewer.{views_of as viewed};
 ghost use Rattle.tables.specs.NumberTable.{place};
 ghost use Rattle.pdu_cut.specs.Cut.{front_shown};
 ghost use Rattle.target_core.specs.Connection.{Acts, fresh_on, settled, told_known};
-ghost use Rattle.target_decision.specs.Carry.{CarriesWell, brought_by, tags_after, with_own};
-ghost use Rattle.target_decision.specs.Decision.{PerformsWithin, head_of};
+ghost use Rattle.target_decision.specs.Carry.{CanCarry, brought_by, tags_after, with_own};
+ghost use Rattle.target_decision.specs.Decision.{CanPerform};
 ghost use Rattle.target_decision.specs.Session.{is_ended};
 ghost use Rattle.target_decision.specs.World.{world_in};
 ghost use Rattle.target_history.specs.Occurrence.{views_of};
@@ -104,11 +104,9 @@ impl Connection {
         decision: &Decision,
         front: &Cut<'_>,
     ) -> Result<(), AllocError>
-        requires known { number < 64 }
-        requires head { length (head_of (front_shown front.now)) ≤ 128 }
-        requires well { CarriesWell (part_at transfers.old number) decision.now (front_shown front.now) }
-        requires within { PerformsWithin (sizes stores.old) decision.now
-            (brought_by (part_at transfers.old number) decision.now (front_shown front.now)) }
+        requires carries { CanCarry number transfers.old decision.now (front_shown front.now) }
+        requires performs { let brought = brought_by (part_at transfers.old number) decision.now (front_shown front.now) in
+            CanPerform (sizes stores.old) decision.now brought (front_shown front.now) }
         ensures acts { let brought = brought_by (part_at transfers.old number) decision.now (front_shown front.now) in
             OnOk result (Acts (world_in world.now) decision.now (front_shown front.now) brought
             self.old self.new stores.old stores.new) }

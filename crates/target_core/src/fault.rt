@@ -2,6 +2,7 @@
 ghost use Rattle.std.specs.Prelude.{Some};
 ghost use Rattle.target_core.specs.Fault.{word_of_open_fault};
 
+use std::alloc::AllocError;
 use std::{error, fmt};
 use thiserror::Error;
 
@@ -51,4 +52,15 @@ pub enum StepFault {
     NoConn,
     #[error("memory")]
     Memory,
+}
+
+impl From<AllocError> for StepFault {
+    ghost use Rattle.std.specs.Prelude.{◌≡◌};
+    ghost use Rattle.target_core.specs.declared.fault.StepFault.TheVariants as fault;
+
+    ghost from_gives = { λ _ e. e ≡ fault.Memory };
+
+    fn from(_: AllocError) -> StepFault {
+        StepFault::Memory
+    }
 }

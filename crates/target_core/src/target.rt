@@ -14,8 +14,8 @@ ghost use Rattle.data_transfer.specs.Parts.{Stand, no_parts, part_at};
 ghost use Rattle.io_queue.specs.Execution.{sizes};
 ghost use Rattle.pdu_cut.specs.Cut.{front_shown};
 ghost use Rattle.target_core.specs.Transition.{ActedAt, ActsAt, CanConsume, Transition, StepsAt, stepped_by};
-ghost use Rattle.target_decision.specs.Carry.{CarriesWell, brought_by, tags_after, with_own};
-ghost use Rattle.target_decision.specs.Decision.{PerformsWithin, head_of, is_end};
+ghost use Rattle.target_decision.specs.Carry.{CanCarry, brought_by, tags_after, with_own};
+ghost use Rattle.target_decision.specs.Decision.{CanPerform, is_end};
 ghost use Rattle.target_decision.specs.World.{connections_max, world_in};
 ghost use Rattle.target_core.specs.Target.{free_number, is_ended_at, is_incomplete, open_fault, output_at, room_at, IsNewTarget, IsOver, ReceivesAt, TakenAt};
 ghost use Rattle.target_history.specs.Event.{edited, given_up, opened, ticked};
@@ -159,11 +159,14 @@ impl<D: Disk + Drop> Target<D> {
         ensures reach { self.new.formed ≤ self.old.formed + reach self.old.config edit.now }
         ensures agrees { EditAgrees edit.now self.old result self.new }
     {
-        self.make_edit(edit)
+        self.config.check(edit)?;
+        self.commit_edit(edit)?;
+        Ok(())
     }
 
     /// Opens a connection on a port, and returns its number, the least that is free. After a refusal,
     /// `Memory` included, the target is as it was.
+    #[tactic(auto, using(crate::proofs::Places::stream_free, crate::proofs::Places::open_is_target, tables::proofs::NumberTables::laws, crate::proofs::Moving::open_moves))]
     pub fn open(&mut self, port: u16) -> Result<usize, OpenFault>
         ensures refused { MatchOption (open_fault self.old port)
             (IsOkUnless result OpenFault.Memory) (λ fault. result ≡ Err fault) }
@@ -173,7 +176,21 @@ impl<D: Disk + Drop> Target<D> {
         ensures err { OnErr result (self.new ≡ self.old) }
         ensures agrees { OpenAgrees port self.old result self.new }
     {
-        self.open_on(port)
+        if self.config.port(port).is_none() {
+            return Err(OpenFault::NoSuchPort);
+        }
+        let Some(k) = self.connections.least_free() else {
+            return Err(OpenFault::Full);
+        };
+        match Stream::new(self.alloc) {
+            Ok(stream) => {
+                self.streams.put(k, stream);
+                self.connections.put(k, Connection::new(self.alloc, port));
+                self.transfers.drop_queue(k);
+                Ok(k)
+            }
+            Err(AllocError) => Err(OpenFault::Memory),
+        }
     }
 
     /// How many bytes the connection may receive: 32,768 less those it holds, and none where it is
@@ -186,22 +203,73 @@ impl<D: Disk + Drop> Target<D> {
 
     /// Takes as many of the piece's first bytes as there is room for, and returns their number. A
     /// number that is not known is refused, and changes nothing.
+    #[tactic(auto, using(crate::proofs::Places::stream_is_target))]
     pub fn receive(&mut self, k: usize, piece: &[u8]) -> Result<usize, NoConn>
         ensures receives { ReceivesAt k (place self.old.streams k) (place self.old.connections k)
             self.old piece.now result self.new }
         ensures agrees { ReceiveAgrees k piece.now self.old result self.new }
     {
-        self.bring_in(k, piece)
+        let Some(connection) = self.connections.get(k) else {
+            return Err(NoConn);
+        };
+        let Some(stream) = self.streams.get_mut(k) else {
+            return Err(NoConn);
+        };
+        if connection.is_ended() {
+            return Ok(0);
+        }
+        Ok(stream.receive(piece))
     }
 
     /// Takes one PDU of the connection's stream, or the fault in its place. After a refusal, `Memory`
     /// included, and after Idle, the target is as it was.
+    #[tactic(auto, using(crate::proofs::Fronts::head_bound, crate::proofs::Fronts::front_within))]
     pub fn step(&mut self, k: usize) -> Result<Stepped, StepFault>
+        ensures err { OnErr result (self.new ≡ self.old) }
         ensures steps { StepsAt k (place self.old.streams k) (place self.old.connections k)
             self.old result self.new }
         ensures agrees { StepAgrees k self.old result self.new }
     {
-        self.step_on(k)
+        let stream = self.streams.get(k).ok_or(StepFault::NoConn)?;
+        let connection = self.connections.get(k).ok_or(StepFault::NoConn)?;
+        if connection.is_ended() {
+            return Ok(Stepped::Idle);
+        }
+        let front = stream.peek();
+        if is_incomplete(&front) {
+            return Ok(Stepped::Idle);
+        }
+        let before = connection.state();
+        let session = before.session;
+        let pages = self.views.pages();
+        let world = self.controllers.world(&pages, &self.config);
+        let own = OwnTransfers {
+            transfers: &self.transfers,
+            connection: k,
+        };
+        let decision = decide(&world, before, &own, &front);
+        let len = consumed_of(&front);
+        let row = new_row(self.alloc, before.port, &decision, &front)?;
+        act(
+            &mut self.connections,
+            &mut self.stores,
+            &mut self.transfers,
+            k,
+            &world,
+            &decision,
+            &front,
+        )?;
+        consume(&mut self.streams, k, len);
+        settle(
+            &mut self.connections,
+            &mut self.transfers,
+            &mut self.controllers,
+            &self.config,
+            &EndCause::of_decision(&session, &decision),
+        );
+        self.controllers
+            .change(self.clock, &consequence_of(&decision), row);
+        Ok(stepped(&decision))
     }
 
     /// What the connection has to send and was not taken; nothing where it is not known.
@@ -215,13 +283,15 @@ impl<D: Disk + Drop> Target<D> {
     }
 
     /// Takes the first `len` bytes of the connection's output away.
-    #[tactic(auto, using(crate::proofs::Calls::taken_keeps))]
+    #[tactic(auto, using(crate::proofs::Places::connection_is_target, crate::proofs::Calls::taken_keeps))]
     pub fn taken(&mut self, k: usize, len: usize)
         requires { len ≤ length (output_at (place self.old.connections k)) }
         ensures taken { TakenAt k (place self.old.connections k) self.old len self.new }
         ensures agrees { TakenAgrees k len self.old self.new }
     {
-        self.hand_out(k, len);
+        if let Some(connection) = self.connections.get_mut(k) {
+            connection.taken(len);
+        }
     }
 
     /// Whether the connection is known and ended: nothing more of its stream is consumed or added to
@@ -230,28 +300,49 @@ impl<D: Disk + Drop> Target<D> {
         ensures value { result ≡ is_ended_at (place self.now.connections k) }
         ensures agrees { EndedAgrees k self.now result }
     {
-        self.is_ended(k)
+        match self.connections.get(k) {
+            Some(connection) => connection.is_ended(),
+            None => false,
+        }
     }
 
     /// Gives the connection up, with all that is its own: as an admin queue its controller too, whose
     /// I/O connections end. Its number is free again. A number that is not known changes nothing.
-    #[tactic(auto, using(crate::proofs::Calls::end_keeps))]
     pub fn end(&mut self, k: usize)
         ensures transition { MatchOption (place self.old.connections k) (self.new ≡ self.old)
             (λ c. Transition (given_up k) self.old self.new) }
         ensures agrees { EndAgrees k self.old self.new }
     {
-        self.give_up(k);
+        let Some(connection) = self.connections.get(k) else {
+            return;
+        };
+        let cause = EndCause::of_loss(&connection.state().session);
+        settle(
+            &mut self.connections,
+            &mut self.transfers,
+            &mut self.controllers,
+            &self.config,
+            &cause,
+        );
+        drop(self.streams.remove(k));
+        drop(self.connections.remove(k));
+        self.transfers.drop_queue(k);
     }
 
     /// Sets the clock, in ms, which never goes back, and ends each controller whose Keep Alive Timer
     /// has run out.
-    #[tactic(auto, using(crate::proofs::Agreements::transition_agrees))]
     pub fn tick(&mut self, now_ms: u64)
         ensures transition { Transition (ticked now_ms) self.old self.new }
         ensures agrees { AgreesAfter (ticked now_ms) self.old self.new }
     {
-        self.set_clock(now_ms);
+        self.clock = self.clock.max(now_ms);
+        settle(
+            &mut self.connections,
+            &mut self.transfers,
+            &mut self.controllers,
+            &self.config,
+            &EndCause::Clock(self.clock),
+        );
     }
 
     #[tactic(auto, using(crate::proofs::Units::sizes_are, crate::proofs::Units::is_new))]
@@ -295,22 +386,9 @@ impl<D: Disk + Drop> Target<D> {
         }
     }
 
-    fn make_edit(&mut self, edit: &Edit) -> Result<(), EditFault>
-        ensures ok { OnOk result (accept self.old.config edit.now ≡ Ok self.new.config) }
-        ensures transition { OnOk result (Transition (edited edit.now) self.old self.new) }
-        ensures accepted { OnOk (accept self.old.config edit.now)
-            (IsOkUnless result EditFault.Memory) }
-        ensures refused { IfErr (accept self.old.config edit.now) (λ fault. result ≡ Err fault) }
-        ensures err { OnErr result (self.new ≡ self.old) }
-    {
-        self.config.check(edit)?;
-        self.commit_edit(edit)?;
-        Ok(())
-    }
-
-    // Makes an edit that is accepted: the configuration goes over, what it ends is ended, the hosts of
-    // the controllers that stay are told, and the views go over last. All growth comes first, and that of
-    // the views last of it, so that no record is formed where memory is wanted.
+    // Makes an edit that is accepted. It takes the configuration over, ends what the edit ends, tells the
+    // hosts of the controllers that stay, and takes the views over last. It takes all memory first, that of
+    // the views last, so that no record is formed where memory runs out.
     fn commit_edit(&mut self, edit: &Edit) -> Result<(), AllocError>
         requires { IsOk (accept self.old.config edit.now) }
         ensures ok { OnOk result (accept self.old.config edit.now ≡ Ok self.new.config) }
@@ -331,158 +409,6 @@ impl<D: Disk + Drop> Target<D> {
         tell(&mut self.connections, &self.controllers, &planned);
         self.views.commit(plans);
         Ok(())
-    }
-
-    fn is_ended(&self, k: usize) -> bool
-        ensures { result ≡ is_ended_at (place self.now.connections k) }
-    {
-        match self.connections.get(k) {
-            Some(connection) => connection.is_ended(),
-            None => false,
-        }
-    }
-
-    #[tactic(auto, using(crate::proofs::Places::stream_free, crate::proofs::Places::open_is_target, tables::proofs::NumberTables::laws, crate::proofs::Moving::open_moves))]
-    fn open_on(&mut self, port: u16) -> Result<usize, OpenFault>
-        ensures refused { MatchOption (open_fault self.old port)
-            (IsOkUnless result OpenFault.Memory) (λ fault. result ≡ Err fault) }
-        ensures opened { IfOk result (λ k.
-            (free_number self.old ≡ Some k) × Transition (opened port k) self.old self.new) }
-        ensures number { IfOk result (λ k. k < connections_max) }
-        ensures err { OnErr result (self.new ≡ self.old) }
-    {
-        if self.config.port(port).is_none() {
-            return Err(OpenFault::NoSuchPort);
-        }
-        let Some(k) = self.connections.least_free() else {
-            return Err(OpenFault::Full);
-        };
-        match Stream::new(self.alloc) {
-            Ok(stream) => {
-                self.streams.put(k, stream);
-                self.connections.put(k, Connection::new(self.alloc, port));
-                self.transfers.drop_queue(k);
-                Ok(k)
-            }
-            Err(AllocError) => Err(OpenFault::Memory),
-        }
-    }
-
-    #[tactic(auto, using(crate::proofs::Places::stream_is_target))]
-    fn bring_in(&mut self, k: usize, piece: &[u8]) -> Result<usize, NoConn>
-        ensures { ReceivesAt k (place self.old.streams k) (place self.old.connections k)
-            self.old piece.now result self.new }
-    {
-        let Some(connection) = self.connections.get(k) else {
-            return Err(NoConn);
-        };
-        let Some(stream) = self.streams.get_mut(k) else {
-            return Err(NoConn);
-        };
-        if connection.is_ended() {
-            return Ok(0);
-        }
-        Ok(stream.receive(piece))
-    }
-
-    #[tactic(auto, using(crate::proofs::Fronts::head_bound, crate::proofs::Fronts::front_within))]
-    fn step_on(&mut self, k: usize) -> Result<Stepped, StepFault>
-        ensures { StepsAt k (place self.old.streams k) (place self.old.connections k)
-            self.old result self.new }
-    {
-        let Some(stream) = self.streams.get(k) else {
-            return Err(StepFault::NoConn);
-        };
-        let Some(connection) = self.connections.get(k) else {
-            return Err(StepFault::NoConn);
-        };
-        if connection.is_ended() {
-            return Ok(Stepped::Idle);
-        }
-        let front = stream.peek();
-        if is_incomplete(&front) {
-            return Ok(Stepped::Idle);
-        }
-        let before = connection.state();
-        let (port, session) = (before.port, before.session);
-        let pages = self.views.pages();
-        let world = self.controllers.world(&pages, &self.config);
-        let own = OwnTransfers {
-            transfers: &self.transfers,
-            connection: k,
-        };
-        let decision = decide(&world, before, &own, &front);
-        let len = consumed_of(&front);
-        let Ok(row) = new_row(self.alloc, port, &decision, &front) else {
-            return Err(StepFault::Memory);
-        };
-        match act(
-            &mut self.connections,
-            &mut self.stores,
-            &mut self.transfers,
-            k,
-            &world,
-            &decision,
-            &front,
-        ) {
-            Ok(()) => {
-                consume(&mut self.streams, k, len);
-                settle(
-                    &mut self.connections,
-                    &mut self.transfers,
-                    &mut self.controllers,
-                    &self.config,
-                    &EndCause::of_decision(&session, &decision),
-                );
-                self.controllers
-                    .change(self.clock, &consequence_of(&decision), row);
-                Ok(stepped(&decision))
-            }
-            Err(AllocError) => Err(StepFault::Memory),
-        }
-    }
-
-    #[tactic(auto, using(crate::proofs::Places::connection_is_target))]
-    fn hand_out(&mut self, k: usize, len: usize)
-        requires { len ≤ length (output_at (place self.old.connections k)) }
-        ensures { TakenAt k (place self.old.connections k) self.old len self.new }
-    {
-        if let Some(connection) = self.connections.get_mut(k) {
-            connection.taken(len);
-        }
-    }
-
-    fn give_up(&mut self, k: usize)
-        ensures { MatchOption (place self.old.connections k) (self.new ≡ self.old)
-            (λ c. Transition (given_up k) self.old self.new) }
-    {
-        let Some(connection) = self.connections.get(k) else {
-            return;
-        };
-        let cause = EndCause::of_loss(&connection.state().session);
-        settle(
-            &mut self.connections,
-            &mut self.transfers,
-            &mut self.controllers,
-            &self.config,
-            &cause,
-        );
-        drop(self.streams.remove(k));
-        drop(self.connections.remove(k));
-        self.transfers.drop_queue(k);
-    }
-
-    fn set_clock(&mut self, now_ms: u64)
-        ensures { Transition (ticked now_ms) self.old self.new }
-    {
-        self.clock = self.clock.max(now_ms);
-        settle(
-            &mut self.connections,
-            &mut self.transfers,
-            &mut self.controllers,
-            &self.config,
-            &EndCause::Clock(self.clock),
-        );
     }
 }
 
@@ -547,6 +473,7 @@ fn is_incomplete(front: &Cut<'_>) -> bool
 }
 
 // Does what was decided to its own connection, where that is known, with these disks and its transfers.
+// The connection is looked up again: until it was decided, its table was lent to be read.
 fn act<D: Disk>(
     connections: &mut NumberTable<Connection>,
     stores: &mut Vec<Store<D>>,
@@ -556,11 +483,9 @@ fn act<D: Disk>(
     decision: &Decision,
     front: &Cut<'_>,
 ) -> Result<(), AllocError>
-    requires number { k < 64 }
-    requires head { length (head_of (front_shown front.now)) ≤ 128 }
-    requires well { CarriesWell (part_at transfers.old k) decision.now (front_shown front.now) }
-    requires within { PerformsWithin (sizes stores.old.items) decision.now
-        (brought_by (part_at transfers.old k) decision.now (front_shown front.now)) }
+    requires carries { CanCarry k transfers.old decision.now (front_shown front.now) }
+    requires performs { let brought = brought_by (part_at transfers.old k) decision.now (front_shown front.now) in
+        CanPerform (sizes stores.old.items) decision.now brought (front_shown front.now) }
     ensures acts { let brought = brought_by (part_at transfers.old k) decision.now (front_shown front.now) in
         OnOk result (ActsAt k (world_in world.now) decision.now (front_shown front.now) brought
         (place connections.old k) connections.old connections.new stores.old.items stores.new.items) }
@@ -576,7 +501,7 @@ fn act<D: Disk>(
     connection.act(world, stores, transfers, k, decision, front)
 }
 
-// Takes the first `len` bytes of its own stream, where that is known.
+// Takes the first `len` bytes of its own stream, where that is known. The front lent them until now.
 fn consume(streams: &mut NumberTable<Stream<OfTarget>>, k: usize, len: usize)
     requires { CanConsume len (place streams.old k) }
     ensures { ActedAt k (drop len) (place streams.old k) streams.old streams.new }

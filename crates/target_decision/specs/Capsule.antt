@@ -74,9 +74,11 @@ set_by (Ok cc) registers cntlid =
     done 0 (consequence.Update cntlid (update.Configuration (record { cc = cc; change = change_by registers cc })))
 set_by (Err fault) registers cntlid = refused invalid_field
 
+-- a Property Get changes nothing; a property that is not there, or has another size, is Invalid Field in Command
 abbrev pub property_get_of : Regs → Property → Outcome
 property_get_of registers p = given_by (property_get registers p.ofst p.attrib)
 
+-- Controller Configuration alone can be set; what that does to the controller follows from the reply
 abbrev pub property_set_of : Regs → ℕ → Property → Outcome
 property_set_of registers cntlid p = set_by (configuration_set p.ofst p.attrib p.value) registers cntlid
 
@@ -104,6 +106,7 @@ admin_by ready (Some c) w cntlid entry =
 abbrev pub admin_at : World → NoticeState → ℕ → List ℕ → Outcome
 admin_at w notices cntlid entry = admin_by (is_ready_at (w.row cntlid)) (admin_controller w notices cntlid) w cntlid entry
 
+-- a Fabrics command is answered whether the controller is ready or not: its host enables it by a Property Set
 abbrev pub on_admin_queue : World → NoticeState → ℕ → List ℕ → Outcome
 on_admin_queue w notices cntlid entry =
     if opcode_of entry == fabrics_opcode then fabrics_command (registers_at (w.controller cntlid)) cntlid entry else
@@ -203,6 +206,7 @@ full_by _ count = false
 abbrev pub is_full : ConnectionState → Tags → Bool
 is_full v tags = full_by v.session (outstanding v tags)
 
+-- by `heads_count_responses` it counts the responses on the queue since the Connect, round the queue's size
 abbrev pub head_counted : Session → ℕ
 head_counted Opened = 0
 head_counted Initialized = 0

@@ -3,8 +3,8 @@ use Rattle.std.specs.Prelude.{◌≡◌, ◌<◌, ℕ, ◌==◌, ◌++◌, Bool,
 use Rattle.data_transfer.specs.declared.transfer.Progress.{Progress}
 use Rattle.data_transfer.specs.declared.transfer.Progress.TheVariants as progress
 use Rattle.data_transfer.specs.declared.transfer.Whole.{Whole}
-use Rattle.data_transfer.specs.Part.{begun, data_after, data_answer}
-use Rattle.data_transfer.specs.Parts.{count_of, free_tag}
+use Rattle.data_transfer.specs.Part.{Part, begun, data_after, data_answer}
+use Rattle.data_transfer.specs.Parts.{count_of, free_tag, part_at}
 use Rattle.nvt_fields.specs.declared.pdu_type.PduType.TheVariants.{CapsuleCmd, H2cData}
 use Rattle.pdu_cut.specs.Front.{Front, incomplete, whole, faulty}
 use Rattle.target_decision.specs.declared.carry.Carried.{Carried}
@@ -93,3 +93,8 @@ CarriesWell tags (decision.Request q) front = (count_of tags < 63) × IsCapsule 
 CarriesWell tags (decision.Receive ttag) front = BringsPart tags ttag front progress.More
 CarriesWell tags (decision.Reply r) front = BringsLast r.transfer tags front
 CarriesWell tags _ front = Unit {0}
+
+-- what a decision on this front is carried on with: a number that a connection may have, and its transfers, of those of all
+pub record CanCarry (k : ℕ) (transfers : List (List (Option (Part WaitingCommand)))) (d : Decision) (front : Front) : Type 0 where
+  pub known : k < 64
+  pub well : CarriesWell (part_at transfers k) d front

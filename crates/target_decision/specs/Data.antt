@@ -18,6 +18,7 @@ bytes_of d = payload_bytes d.payload (world_in d.world.now).pages (world_in d.wo
 abbrev pub bytes_in : Option Data → Option (List ℕ)
 bytes_in d = option_map bytes_of d
 
+-- it is known before the bytes are made, so that `prepare` can make room for them
 abbrev pub len_in : Option Data → ℕ
 len_in None = 0
 len_in (Some d) = payload_len d.payload

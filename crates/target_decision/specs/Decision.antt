@@ -1,5 +1,5 @@
 -- What is owed to a PDU, and what a decision sends.
-use Rattle.std.specs.Prelude.{ℕ, nat_lt, not, ◌==◌, List, [], ◌++◌, length, ◌+◌, Option, Some, None, Result, Ok, Err, Bool, true, false, if◌then◌else◌}
+use Rattle.std.specs.Prelude.{ℕ, ◌≤◌, nat_lt, not, ◌==◌, List, [], ◌++◌, length, ◌+◌, Option, Some, None, Result, Ok, Err, Bool, true, false, if◌then◌else◌}
 use Rattle.admin_queue.specs.declared.payload.Payload.{Payload}
 use Rattle.admin_queue.specs.Controller.{AdminController}
 use Rattle.admin_queue.specs.Payload.{payload_bytes}
@@ -45,6 +45,7 @@ use Rattle.target_decision.specs.World.{World, admin_controller_in}
 
 -- ---- what is owed to a PDU (TCP Transport 1.0, section 3.6; Base 2.0, sections 5 and 6)
 
+-- the target ends the connection by a C2HTermReq: its information is the offset of the field at fault, or 0
 abbrev pub terminate : FatalErrorStatus → ℕ → Decision
 terminate fes fei = decision.Terminate (record { fes = fes; fei = fei })
 
@@ -108,6 +109,7 @@ decide_in Initialized w v tags pdu = next_by pdu.kind w v tags pdu
 decide_in (Connected role queue) w v tags pdu = next_by pdu.kind w v tags pdu
 decide_in Ended w v tags pdu = decision.Close
 
+-- which types of PDUs may come depends on how far the connection has come, and on nothing else
 abbrev pub decide_pdu : World → ConnectionState → Tags → Pdu → Decision
 decide_pdu w v tags pdu = decide_in v.session w v tags pdu
 
@@ -236,6 +238,12 @@ WithinIn units (Some op) bytes = IsWithin units (length bytes) op
 -- disks of these sizes have what a decision asks of them
 abbrev pub PerformsWithin : List ℕ → Decision → Brought → Type 0
 PerformsWithin units d b = WithinIn units (operation_of d) b.bytes
+
+-- what a decision on this front is performed with: a head that a termination has room for, and disks of these sizes that
+-- have what it asks of them
+pub record CanPerform (units : List ℕ) (d : Decision) (b : Brought) (front : Front) : Type 0 where
+  pub head : length (head_of front) ≤ 128
+  pub within : PerformsWithin units d b
 
 -- ---- what else a step does with the front
 

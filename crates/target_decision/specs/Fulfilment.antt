@@ -28,6 +28,7 @@ abbrev pub room_in : Option Operation → ℕ
 room_in None = 0
 room_in (Some op) = room_for_operation op
 
+-- only an operation reads a disk: the data of pages and lists are counted by `data_len`
 abbrev pub room_of : Decision → ℕ
 room_of d = room_in (operation_of d)
 

@@ -25,6 +25,7 @@ given value payload follows = Ok (Answered (record {
 abbrev pub performed : Operation → Outcome
 performed op = Ok (Answered (record { answer = Performed op; consequence = consequence.Nothing }))
 
+-- success without data: the response is all that the host is sent
 abbrev pub done : ℕ → Consequence → Outcome
 done value follows = given value None follows
 
@@ -36,6 +37,7 @@ waits = Ok Waits
 abbrev pub asked : ℕ → Outcome
 asked len = Ok (Asked len)
 
+-- the result of a refusal is 0, but in that of a Connect, which may name the parameter that is invalid
 abbrev pub refused : Status → Outcome
 refused status = Err (record { status = status; result = 0 })
 

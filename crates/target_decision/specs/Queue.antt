@@ -10,6 +10,7 @@ new_queue sqsize = record { sqsize = sqsize; head = 0 }
 abbrev pub next_head : ℕ → ℕ → ℕ
 next_head sqsize head = if nat_le sqsize head then 0 else head + 1
 
+-- each response moves the head of its own queue: CATTR, by which a host may turn flow control off, is not looked at
 abbrev pub next_head_of : SubmissionQueue → ℕ
 next_head_of q = next_head q.sqsize q.head
 

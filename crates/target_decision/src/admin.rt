@@ -14,8 +14,9 @@ use pdu_codec::Sqe;
 pub(crate) fn command(world: &World<'_>, notices: &Notices, cntlid: u16, sqe: &Sqe<'_>) -> Outcome
     ensures { result ≡ admin_at (world_in world.now) notices.now cntlid sqe.now.entry.now }
 {
-    match world.admin_controller(notices, cntlid) {
-        Some(controller) if is_ready(world.rows.get(cntlid)) => {
+    let row = world.rows.get(cntlid);
+    match world.admin_controller_by(notices, cntlid, row) {
+        Some(controller) if is_ready(row) => {
             answered(cntlid, admin(world.pages, world.config, &controller, sqe))
         }
         _ => refused(Status::COMMAND_SEQUENCE_ERROR),

@@ -6,7 +6,7 @@ ghost use Rattle.data_transfer.specs.Parts.{Stand, count_of, free_tag, part_at, 
 ghost use Rattle.pdu_cut.specs.Cut.{front_shown};
 ghost use Rattle.pdu_cut.specs.Front.{whole};
 ghost use Rattle.pdu_cut.specs.Pdu.{data_part};
-ghost use Rattle.target_decision.specs.Carry.{CarriesWell, brought_by, brought_in, bytes_in};
+ghost use Rattle.target_decision.specs.Carry.{CanCarry, brought_by, brought_in, bytes_in};
 ghost use Rattle.target_decision.specs.Carry.{tags_after, with_own};
 ghost use Rattle.target_decision.specs.Decision.{waiting_in};
 ghost use Rattle.target_decision.specs.Transfer.{came_of, h2c_of};
@@ -62,8 +62,7 @@ pub(crate) fn carry(
     decision: &Decision,
     front: &Cut<'_>,
 ) -> Result<Carried, AllocError>
-    requires known { connection < 64 }
-    requires well { CarriesWell (part_at transfers.old connection) decision.now (front_shown front.now) }
+    requires { CanCarry connection transfers.old decision.now (front_shown front.now) }
     ensures after { let tags = tags_after decision.now (front_shown front.now) (part_at transfers.old connection) in
         IfOk result (λ carried. Stand transfers.new (with_own (part_at transfers.old) connection tags)) }
     ensures carried { let given = brought_by (part_at transfers.old connection) decision.now (front_shown front.now) in

@@ -6,7 +6,7 @@ ghost use Rattle.target_decision.specs.World.{world_in};
 use crate::capsule::{Outcome, Refusal, done};
 use crate::consequence::{Beginning, Consequence, Joining};
 use crate::world::World;
-use fabrics_connect::{AdmitAs, Connect, Decision, decide};
+use fabrics_connect::{AdmitAs, Connect, decide};
 use pdu_codec::Sqe;
 
 /// Answers a Connect on this port.
@@ -15,8 +15,8 @@ pub(crate) fn command(world: &World<'_>, port: u16, sqe: &Sqe<'_>, payload: &[u8
 {
     let connect = Connect::new(sqe, payload);
     match decide(world.config, world.rows, port, &connect) {
-        Decision::Admit(admission) => admitted(&admission, sqe),
-        Decision::Deny { status, result } => Err(Refusal { status, result }),
+        fabrics_connect::Decision::Admit(admission) => admitted(&admission, sqe),
+        fabrics_connect::Decision::Deny { status, result } => Err(Refusal { status, result }),
     }
 }
 

@@ -9,8 +9,8 @@ ghost use Rattle.fabrics_connect.specs.Row.{row_begun};
 ghost use Rattle.pdu_cut.specs.Pdu.{data_part};
 ghost use Rattle.target_decision.specs.Begin.{NamesIn, NamesWell, row_decided};
 ghost use Rattle.target_decision.specs.Fulfilment.{Does, room_for, room_of};
-ghost use Rattle.target_decision.specs.Carry.{CarriesWell, brought_by, brought_in, tags_after, with_own};
-ghost use Rattle.target_decision.specs.Decision.{PerformsWithin, consumed_of, data_of, entry_of, head_of};
+ghost use Rattle.target_decision.specs.Carry.{CanCarry, brought_by, brought_in, tags_after, with_own};
+ghost use Rattle.target_decision.specs.Decision.{CanPerform, consumed_of, data_of, entry_of, head_of};
 ghost use Rattle.target_decision.specs.Session.{turned};
 ghost use Rattle.target_decision.specs.World.{world_in};
 
@@ -32,7 +32,8 @@ use pdu_cut::{Cut, PduView};
 use std::alloc::{AllocError, Global};
 
 /// Makes room in the output for all that a decision on this front sends, and for the completions of as
-/// many event requests as may wait, and carries on the transfer that it is about. Only here memory can be wanted, and want of it changes nothing.
+/// many event requests as may wait, and carries on the transfer that it is about. It alone takes memory.
+/// A refusal changes nothing.
 pub fn prepare(
     world: &World<'_>,
     transfers: &mut Transfers<WaitingCommand>,
@@ -42,10 +43,9 @@ pub fn prepare(
     decision: &Decision,
     front: &Cut<'_>,
 ) -> Result<Carried, AllocError>
-    requires known { connection < 64 }
+    requires carries { CanCarry connection transfers.old decision.now (front_shown front.now) }
     requires head { length (head_of (front_shown front.now)) ≤ 128 }
     requires small { room_of decision.now < 2 ^ 18 }
-    requires well { CarriesWell (part_at transfers.old connection) decision.now (front_shown front.now) }
     ensures room { let room = room_for (world_in world.now) state.now decision.now (front_shown front.now) in
         OnOk result (room + TOLD_ROOM ≤ output.new.spare) }
     ensures output { output.new.items ≡ output.old.items }
@@ -74,8 +74,8 @@ pub fn fulfil<D: Disk>(
     front: &Cut<'_>,
     carried: &Carried,
 )
-    requires head { length (head_of (front_shown front.now)) ≤ 128 }
-    requires within { PerformsWithin (sizes stores.old) decision.now (brought_in carried.now (front_shown front.now)) }
+    requires performs { let brought = brought_in carried.now (front_shown front.now) in
+        CanPerform (sizes stores.old) decision.now brought (front_shown front.now) }
     requires room { let room = room_for (world_in world.now) state.old decision.now (front_shown front.now) in
         room ≤ output.old.spare }
     ensures state { state.new ≡ turned state.old decision.now }
@@ -86,6 +86,7 @@ pub fn fulfil<D: Disk>(
     ensures spare { let room = room_for (world_in world.now) state.old decision.now (front_shown front.now) in
         output.old.spare ≤ output.new.spare + room }
 {
+    // Looked up as in `prepare` was, for its length: `Carried` owns what it has, and the world lends this.
     let data = Data::of(world, state, decision);
     wire::write(
         output,

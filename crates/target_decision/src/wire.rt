@@ -7,7 +7,7 @@ ghost use Rattle.io_queue.specs.Reply.{data_pdus, data_room, piece_pdu, returned
 ghost use Rattle.pdu_cut.specs.Cut.{front_shown};
 ghost use Rattle.target_decision.specs.Fulfilment.{Does, room_in, room_of};
 ghost use Rattle.target_decision.specs.Carry.{brought_in};
-ghost use Rattle.target_decision.specs.Decision.{PerformsWithin, WithinIn, bytes_at, format_of, head_of, operation_in, response_of};
+ghost use Rattle.target_decision.specs.Decision.{CanPerform, WithinIn, bytes_at, format_of, head_of, operation_in, response_of};
 ghost use Rattle.nvt_fields.specs.FatalErrorStatus.{fatal_code_of};
 ghost use Rattle.pdu_codec.specs.Initialize.{ic_resp};
 ghost use Rattle.pdu_codec.specs.R2t.{r2t};
@@ -42,8 +42,8 @@ pub(crate) fn write<D: Disk>(
 )
     requires room { let head = head_of (front_shown front.now) in
         WIRE_MAX + length head + data_room (len_in returned.now) + room_of decision.now ≤ output.old.spare }
-    requires head { length (head_of (front_shown front.now)) ≤ 128 }
-    requires within { PerformsWithin (sizes stores.old) decision.now (brought_in carried.now (front_shown front.now)) }
+    requires performs { let brought = brought_in carried.now (front_shown front.now) in
+        CanPerform (sizes stores.old) decision.now brought (front_shown front.now) }
     ensures does { let brought = brought_in carried.now (front_shown front.now) in
         Does alignment decision.now (front_shown front.now) brought (bytes_in returned.now)
         stores.old stores.new output.old.items output.new.items }

@@ -1,14 +1,14 @@
 //! What a decision may look at beside its own connection.
 ghost use Rattle.std.specs.Prelude.{◌≡◌};
 ghost use Rattle.target_decision.specs.Controller.{registers_at};
-ghost use Rattle.std.specs.Option.{option_map};
+ghost use Rattle.std.specs.Option.{option_copied, option_map};
 ghost use Rattle.admin_queue.specs.Controller.{controller_in};
-ghost use Rattle.target_decision.specs.World.{admin_controller, admin_controller_in, world_in};
+ghost use Rattle.target_decision.specs.World.{admin_controller, admin_controller_by, admin_controller_in, world_in};
 
 use crate::controller::Controller;
 use crate::session::{ConnectionState, Role, Session};
 use admin_queue::{AdminController, Notices, Pages};
-use fabrics_connect::Controllers;
+use fabrics_connect::{Controllers, Row};
 use nvt_config::Config;
 use property_regs::{ControllerKind, Regs};
 use tables::NumberTable;
@@ -48,7 +48,20 @@ impl<'a> World<'a> {
         ensures { option_map controller_in result
             ≡ admin_controller (world_in self.now) notices.now cntlid }
     {
-        let row = self.rows.get(cntlid)?;
+        self.admin_controller_by(notices, cntlid, self.rows.get(cntlid))
+    }
+
+    /// .. whose row was looked up already.
+    pub(crate) fn admin_controller_by<'b>(
+        &'b self,
+        notices: &'b Notices,
+        cntlid: u16,
+        row: Option<&'b Row>,
+    ) -> Option<AdminController<'b>>
+        ensures { option_map controller_in result ≡ admin_controller_by notices.now cntlid
+            (option_copied row.entry) ((world_in self.now).controller cntlid) }
+    {
+        let row = row?;
         let own = self.controllers.get(usize::from(cntlid))?;
         Some(AdminController {
             cntlid,
