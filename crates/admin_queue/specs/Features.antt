@@ -19,6 +19,7 @@ abbrev pub queues_on : Option (List ℕ) → Outcome
 queues_on None = Err invalid_field
 queues_on (Some subsystem) = done 0x00070007 effect.Nothing
 
+-- it is the kind of controller that decides: no Set Features changes how many queues there are
 abbrev pub get_queues : AdminController → Outcome
 get_queues c = queues_on c.subsystem
 
@@ -42,6 +43,7 @@ set_by c feature =
 abbrev pub set_features : AdminController → List ℕ → Outcome
 set_features c entry = refuse (feature_of entry).save feature_not_saveable (set_by c (feature_of entry))
 
+-- a feature has one value, that in force: which of its values Select asks for is not looked at
 abbrev pub get_features : AdminController → List ℕ → Outcome
 get_features c entry =
     if (feature_of entry).fid == 0x07 then get_queues c else

@@ -51,6 +51,7 @@ state_code Inaccessible = 0x3
 state_code PersistentLoss = 0x4
 state_code Change = 0xF
 
+-- a group's identifiers rise, so that it holds the same namespaces exactly where the lists are the same
 abbrev pub are_same_numbers : List ℕ → List ℕ → Bool
 are_same_numbers [] [] = true
 are_same_numbers [] (n ∷ ns) = false

@@ -22,6 +22,7 @@ is_member namespaces nsid group = is_in_group (slice_index_or namespaces nsid No
 unfoldable pub nsids_of : Groups → ℕ → List ℕ
 nsids_of t group = nsids_where (λ nsid. is_member t.namespaces.now nsid group)
 
+-- a group can be used without any setting: it is optimized unless the operator set another state for it on the port
 abbrev pub state_of : Groups → ℕ → AnaState
 state_of t group = slice_index_or t.states group Optimized
 

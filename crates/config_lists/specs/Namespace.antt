@@ -21,6 +21,7 @@ is_nsid n = nat_le 1 n && nat_le n nsid_max
 abbrev pub is_group : ℕ → Bool
 is_group n = nat_le 1 n && nat_le n 32
 
+-- a block is one unit of a disk, or eight; `block_size_of` reads it back
 abbrev pub bytes_of : BlockSize → ℕ
 bytes_of Bytes512 = 512
 bytes_of Bytes4096 = 4096

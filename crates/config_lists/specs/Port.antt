@@ -7,6 +7,7 @@ use Rattle.config_lists.specs.Text.{is_word}
 abbrev pub is_port_number : ℕ → Bool
 is_port_number n = nat_le 1 n && nat_le n 65535
 
+-- it fits TRADDR of a discovery record, and is one word of a line: no space is in it
 abbrev pub is_address : List ℕ → Bool
 is_address = is_word 256
 

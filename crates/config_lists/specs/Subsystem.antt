@@ -7,10 +7,12 @@ use Rattle.config_lists.specs.declared.subsystem.Access.TheVariants.{Open, Close
 use Rattle.config_lists.specs.declared.subsystem.Subsystem.{Subsystem}
 use Rattle.config_lists.specs.Text.{is_word}
 
+-- an open subsystem needs no allow: each host may use it on the ports that it is linked to
 abbrev pub is_open : Access → Bool
 is_open Open = true
 is_open Closed = false
 
+-- it fits SN of Identify Controller, and is one word of a line: no space is in it
 abbrev pub is_serial : List ℕ → Bool
 is_serial = is_word 20
 

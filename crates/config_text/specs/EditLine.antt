@@ -10,6 +10,7 @@ use Rattle.config_text.specs.Said.{said_words}
 use Rattle.config_text.specs.declared.command.EditCommand.{EditCommand}
 use Rattle.config_text.specs.declared.command.EditCommand.TheVariants.{SubsystemAdd, SubsystemSet, SubsystemDel, NamespaceAdd, NamespaceSize, NamespaceGroup, NamespaceDel, NamespaceView, NamespaceShow, NamespaceHide, PortAdd, PortSet, PortDel, LinkAdd, LinkDel, HostAdd, HostDel, AllowAdd, AllowDel, AnaSet, ReferralAdd, ReferralSet, ReferralDel}
 
+-- what the first two words of its line name; by `lines_are_read_back` no line is that of two edits
 abbrev pub command_of : Edit → EditCommand
 command_of (edit.SubsystemAdd n s a) = SubsystemAdd
 command_of (edit.SubsystemSet n a) = SubsystemSet

@@ -8,6 +8,7 @@ use Rattle.std.specs.Str.Parse.{digits_value}
 abbrev pub IsNumber : List ℕ → ℕ → Type 0
 IsNumber word n = (word ≡ decimal n) × (n < 2 ^ 64)
 
+-- each number has one spelling: 0 is spelled by its one digit, and no longer word begins with it
 abbrev pub has_leading_zero : List ℕ → Bool
 has_leading_zero word = nat_lt 1 (length word) && (slice_index word 0 == 48)
 

@@ -15,18 +15,22 @@ use Rattle.config_lists.specs.declared.subsystem.Access.TheVariants.{Open, Close
 use Rattle.nvt_fields.specs.Name.{fault_of}
 use Rattle.uuid.specs.Text.{hyphenated_text, lower, parsed}
 
+-- the one word for a family of addresses in a line: `read_family` takes it back, and no other word
 abbrev pub family_word : Family → List ℕ
 family_word Ipv4 = codes "ipv4"
 family_word Ipv6 = codes "ipv6"
 
+-- how the operator says that a subsystem is for each host, or for those alone that it allows
 abbrev pub access_word : Access → List ℕ
 access_word Open = codes "open"
 access_word Closed = codes "closed"
 
+-- how the operator says that a namespace is for each host, or for those alone that it is shown to
 abbrev pub visibility_word : Visibility → List ℕ
 visibility_word All = codes "all"
 visibility_word Named = codes "named"
 
+-- the standard's names of the ANA states, in lower case and hyphenated, so that each is one word of a line
 abbrev pub state_word : AnaState → List ℕ
 state_word Optimized = codes "optimized"
 state_word NonOptimized = codes "non-optimized"

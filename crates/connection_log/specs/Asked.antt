@@ -61,5 +61,6 @@ term_req_of _ = None
 unfoldable pub termination_of : List ℕ → Option TermReq
 termination_of front = term_req_of (explanation_of front None)
 
+-- a target sends nothing behind its termination, so that this is its last PDU; one that came in part tells no reason
 abbrev pub termination_in : Reading → Option TermReq
 termination_in r = if is_whole r then termination_of r.front else None

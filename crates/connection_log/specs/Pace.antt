@@ -16,6 +16,7 @@ brought_to micros p =
 abbrev pub has_room : LinePace → Bool
 has_room p = nat_lt p.printed 100
 
+-- by `few_in_a_second` at most 100 lines pass in a second; a later second begins anew
 abbrev pub may_print : ℕ → LinePace → Bool
 may_print micros p = has_room (brought_to micros p)
 

@@ -42,6 +42,7 @@ pub record IsInOrder (r : Reading) : Type 0 where
 abbrev pub at_first : ℕ → Reading
 at_first most = record { most = most; came = 0; front = [] }
 
+-- PLEN says where a PDU ends, so that none is whole before its common header came
 abbrev pub is_whole : Reading → Bool
 is_whole r = nat_le (pdu_len r.front) r.came
 

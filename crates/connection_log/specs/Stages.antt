@@ -50,6 +50,7 @@ told_by response (Before ahead) = None
 told_by response (Waits ahead passed) = if ahead == 0 then response else None
 told_by response Over = None
 
+-- Successful Completion: behind a Connect that is answered so no other is looked for
 abbrev pub is_success : Status → Bool
 is_success s = s.sct == 0 && s.sc == 0
 

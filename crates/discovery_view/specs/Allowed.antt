@@ -18,6 +18,7 @@ is_named names nqn = list_any (λ name. bytes_eq name.now nqn) names
 abbrev pub is_allow_of : List ℕ → List ℕ → Allow → Bool
 is_allow_of nqn host a = bytes_eq a.subsystem nqn && bytes_eq a.host host
 
+-- an allow is of one host: what any other host is shown stays as it is
 abbrev pub host_of : Allowance → List ℕ
 host_of (Given nqn host) = host.now
 host_of (Taken nqn host) = host.now

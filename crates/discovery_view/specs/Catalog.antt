@@ -22,6 +22,7 @@ abbrev pub catalog_of : Configuration → List Parts
 catalog_of c =
     flat_map (λ port. linked_among c port (subsystems_in_order c)) (ports_in_order c) ++ map referral_of (referrals_in_order c)
 
+-- a referral is shown to each host, since allows are of subsystems and never of referrals
 abbrev pub is_referral : Subtype → Bool
 is_referral Referral = true
 is_referral NvmSubsystem = false

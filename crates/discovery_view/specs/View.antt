@@ -40,6 +40,7 @@ abbrev pub row_among : {R : Type 0} → List (Named R) → R → List ℕ → R
 row_among [] strangers host = strangers
 row_among (h ∷ hosts) strangers host = if bytes_eq host h.name then h.row else row_among hosts strangers host
 
+-- a host whose name was never added is a stranger: all strangers share one row
 abbrev pub row_in : {R : Type 0} → Rows R → List ℕ → R
 row_in v host = row_among v.hosts v.strangers host
 

@@ -80,7 +80,7 @@ impl Former for RecordFormer {
     }
 }
 
-/// Makes a record of each of these. Where memory is wanted none is made.
+/// Makes a record of each of these. Where memory runs out none is made.
 pub(crate) fn form_all<F: Former>(
     alloc: Global,
     former: &mut F,

@@ -28,9 +28,11 @@ abbrev pub not_read_by : LineFault → LineFaultKind → NotMade
 not_read_by fault kind.Memory = Memory
 not_read_by fault _ = Refused (reply.Line fault)
 
+-- a fault is the line's own, whenever it comes; a lack of memory is the moment's, and the line can be read again
 abbrev pub not_read : LineFault → NotMade
 not_read fault = not_read_by fault fault.kind
 
+-- a refusal is the rule's, by the configuration; a lack of memory is the moment's, and the edit can be made again
 abbrev pub not_made : EditFault → NotMade
 not_made why.Memory = Memory
 not_made fault = Refused (reply.Edit fault)

@@ -51,6 +51,7 @@ limit_exceeded = record {}
 abbrev pub is_full : EventState → Bool
 is_full s = nat_le 4 (length s.waiting)
 
+-- kinds are told in a fixed order, whichever became pending first; the others are left to later requests
 abbrev pub first_pending : EventState → Option EventKind
 first_pending s =
     if is_pending s.namespace.notice then Some Namespace else
@@ -125,6 +126,7 @@ configured s mask = record {
   discovery = with_enabled (is_in_mask mask Discovery) s.discovery;
 }
 
+-- Get Features tells a kind by the bit that Set Features enables it by
 abbrev pub bit_where : Bool → EventKind → ℕ
 bit_where enabled kind = if enabled then 2 ^ bit_of kind else 0
 

@@ -20,9 +20,11 @@ data_by in_capsule out into =
     if nat_lt in_capsule out then Requested out else
     InCapsule out
 
+-- data go one way: a command that sends any wants none back
 abbrev pub data_of : ℕ → Command → Data
 data_of in_capsule c = data_by in_capsule (length c.out) c.into
 
+-- data in the capsule are named by their offset in it, all others by a transport data block, whichever way they go
 abbrev pub descriptor_of : Data → DataSgl
 descriptor_of (InCapsule len) = sgl.InCapsule len
 descriptor_of (Requested len) = sgl.Transport len

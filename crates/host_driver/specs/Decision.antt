@@ -48,6 +48,7 @@ cid_by C2hData pdu = Some (data_head_of (header_part pdu)).cccid
 cid_by R2t pdu = Some (r2t_of (header_part pdu)).cccid
 cid_by _ pdu = None
 
+-- of a controller's PDUs ICResp and C2HTermReq are about the connection, each other one is about one command
 abbrev pub cid_named : Pdu → Option ℕ
 cid_named pdu = cid_by pdu.kind pdu
 
@@ -56,6 +57,7 @@ is_success s = s.sct == 0 && s.sc == 0
 
 -- ---- the first PDU
 
+-- the host ends the connection by an H2CTermReq: its information is the offset of the field at fault, or 0
 abbrev pub terminate : FatalErrorStatus → ℕ → HostDecision
 terminate fes fei = decision.Terminate (record { fes = fes; fei = fei })
 
@@ -68,6 +70,7 @@ initialize r =
     if nat_lt r.maxh2cdata 4096 || not (r.maxh2cdata % 4 == 0) then terminate InvalidHeaderField 12 else
     decision.Initialize (record { cpda = r.cpda; maxh2cdata = r.maxh2cdata })
 
+-- the ICResp comes before all else, but a controller may end the connection instead
 abbrev pub first_by : PduType → Pdu → HostDecision
 first_by IcResp pdu = initialize (ic_resp_of (header_part pdu))
 first_by C2hTermReq pdu = decision.Close (term_req_of (header_part pdu))
@@ -90,6 +93,7 @@ abbrev pub answered_in : Phase → CommandCompletion → HostDecision
 answered_in (Connected limits) response = decision.Complete response
 answered_in _ response = connected response
 
+-- a response is of an outstanding command, by its CID at byte 20; success comes only behind all the data that it wanted
 abbrev pub completed : Phase → Option Outstanding → CommandCompletion → HostDecision
 completed phase None response = terminate InvalidHeaderField 20
 completed phase (Some command) response =
@@ -113,6 +117,7 @@ received (Some command) head carried =
     if not (head.datao == command.came) || nat_lt command.into (command.came + head.datal) then terminate DataOutOfRange 0 else
     accepted command head (command.came + head.datal)
 
+-- R2Ts ask for a command's data in order, each byte once, and not past their end; CCCID stands at byte 8
 abbrev pub requested : Option Outstanding → r2t.R2t → HostDecision
 requested None request = terminate InvalidHeaderField 8
 requested (Some command) request =
@@ -120,6 +125,7 @@ requested (Some command) request =
     if not (request.r2to == command.asked) || nat_lt command.out (command.asked + request.r2tl) then terminate DataOutOfRange 0 else
     decision.Send request
 
+-- there is one ICResp, and a controller sends none of the PDUs that are a host's
 abbrev pub next_by : PduType → Phase → Option Outstanding → Pdu → HostDecision
 next_by C2hTermReq phase command pdu = decision.Close (term_req_of (header_part pdu))
 next_by CapsuleResp phase command pdu = completed phase command (response_in pdu)

@@ -37,6 +37,7 @@ HasLimits (Connected limits) = AreLimits limits
 HasLimits Opened = Unit {0}
 HasLimits Failed = Unit {0}
 
+-- a queue fails for good, by a fault, a termination or a refused Connect: nothing follows
 abbrev pub is_failed : Phase → Bool
 is_failed Failed = true
 is_failed _ = false
@@ -51,6 +52,7 @@ after e s = record { params = s.params; state = after_event s.params s.state e; 
 
 -- ---- submit
 
+-- the ICResp sets the limits, but no command may use them before the Connect succeeded
 abbrev pub limits_in : Phase → Result TransportLimits HostFault
 limits_in (Connected limits) = Ok limits
 limits_in (Initialized limits) = Err fault.NotConnected

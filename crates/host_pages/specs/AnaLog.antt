@@ -5,9 +5,11 @@ use Rattle.host_pages.specs.declared.bad_page.BadPage.{BadPage}
 use Rattle.host_pages.specs.declared.bad_page.BadPage.TheVariants.{TooShort}
 use Rattle.host_pages.specs.Groups.{groups_in, holds_groups}
 
+-- the count of the page as a whole: a change of any group moves it
 abbrev pub change_of : List ℕ → ℕ
 change_of page = field_at 8 0 page
 
+-- by `groups_are_the_split` as many groups stand behind the header, each as long as it says
 abbrev pub group_count : List ℕ → ℕ
 group_count page = field_at 2 8 page
 

@@ -72,6 +72,7 @@ pub record Stands (given : List Given) (d : DiscoverState) : Type 0 where
 
 -- ---- ask
 
+-- in the order of `reads_of`; once the reading is over the header stands in, whose answer changes nothing
 abbrev pub asked : DiscoverState → GetLog
 asked (asks failed read) = asked_of read
 asked (settled page) = header_read
@@ -146,6 +147,7 @@ Answers a old result new = Lacks a old result new ⊎ Takes a old result new
 abbrev pub IsNew : DiscoverState → Type 0
 IsNew d = (d ≡ asks 0 []) × Stands [] d
 
+-- no page is had in part: by `pages_are_of_one_moment` it is the one that stood at each read of its try
 abbrev pub page_in : DiscoverState → Option (List ℕ)
 page_in (asks failed read) = None
 page_in (settled page) = Some page

@@ -7,9 +7,11 @@ use Rattle.host_pages.specs.declared.bad_page.BadPage.TheVariants.{OtherFormat, 
 
 -- ---- the header, of 1,024 bytes: GENCTR, NUMREC and RECFMT
 
+-- GENCTR moves with each change of the records, so that a host sees whether they changed while it read
 abbrev pub genctr_of : List ℕ → ℕ
 genctr_of page = field_at 8 0 page
 
+-- NUMREC as the controller tells it: whether so many records are there is for `fault_of` to say
 abbrev pub record_count : List ℕ → ℕ
 record_count page = field_at 8 8 page
 
@@ -29,6 +31,7 @@ record_at page n = slice_range page (record_place n) (record_place n + 1024)
 unfoldable pub records_from : List ℕ → ℕ → ℕ → List (List ℕ)
 records_from page first count = map (record_at page) (range_with_len first count)
 
+-- by `records_are_joined` the header and these, one after another, are the page, but for what stands behind them
 abbrev pub records_of : List ℕ → List (List ℕ)
 records_of page = records_from page 0 (record_count page)
 

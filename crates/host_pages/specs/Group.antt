@@ -3,12 +3,15 @@ use Rattle.std.specs.Prelude.{◌≡◌, ℕ, ◌+◌, ◌*◌, ◌%◌, List, l
 use Rattle.nvt_fields.specs.Field.{field_at}
 use Rattle.host_pages.specs.Numbers.{numbers_of}
 
+-- the identifier of the ANA group, which a namespace tells as ANAGRPID
 abbrev pub id_of : List ℕ → ℕ
 id_of group = field_at 4 0 group
 
+-- how many identifiers follow: none in a read of groups only (RGO), whatever the group holds
 abbrev pub nsid_count : List ℕ → ℕ
 nsid_count group = field_at 4 4 group
 
+-- the group's own count: a change of another group does not move it
 abbrev pub change_of : List ℕ → ℕ
 change_of group = field_at 8 8 group
 

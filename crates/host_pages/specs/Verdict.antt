@@ -46,6 +46,7 @@ asked_of read = if nat_lt 0 (left_of read) then record { offset = length read; l
 abbrev pub is_past_end : Status → Bool
 is_past_end s = s.sct == 0 && s.sc == 2
 
+-- a status as of a place behind the page's end says that the page became shorter: the try fails, and another is made
 abbrev pub records_verdict : ℕ → Given → Verdict
 records_verdict len (Ok bytes) = if length bytes == len then GoesOn else Ends (bad_page bad.OtherLength)
 records_verdict len (Err s) = if is_past_end s then Fails else Ends (Refused s)
@@ -59,6 +60,7 @@ header_fault bytes =
     if not (record_format bytes == 0) then Some bad.OtherFormat else
     if nat_lt 1024 (record_count bytes) then Some bad.TooManyRecords else None
 
+-- by `pages_are_of_one_moment` the records that were read between two such headers are of one moment
 abbrev pub are_alike : List ℕ → List ℕ → Bool
 are_alike a b = genctr_of a == genctr_of b && record_count a == record_count b
 
@@ -71,6 +73,7 @@ abbrev pub header_by : Option BadPage → List ℕ → List ℕ → Verdict
 header_by (Some fault) read header = Ends (bad_page fault)
 header_by None read header = compared read header
 
+-- no page ends before its header, so that each refusal of a header ends the reading
 abbrev pub header_verdict : List ℕ → Given → Verdict
 header_verdict read (Ok header) = header_by (header_fault header) read header
 header_verdict read (Err s) = Ends (Refused s)

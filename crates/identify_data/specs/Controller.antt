@@ -27,10 +27,12 @@ abbrev pub cntlid_of : Controller → ℕ
 cntlid_of (io cntlid serial subnqn) = cntlid
 cntlid_of (discovery cntlid) = cntlid
 
+-- SN: the operator gives a subsystem its own; the discovery subsystem, which nobody adds, has a fixed one
 abbrev pub serial_of : Controller → List ℕ
 serial_of (io cntlid serial subnqn) = serial
 serial_of (discovery cntlid) = codes "DISCOVERY"
 
+-- SUBNQN: the discovery subsystem has its well-known name on every target
 abbrev pub subnqn_of : Controller → List ℕ
 subnqn_of (io cntlid serial subnqn) = subnqn
 subnqn_of (discovery cntlid) = discovery_nqn

@@ -40,6 +40,7 @@ read n c sgl = then_do (limited n c) (λ extent.
     refuse (not (sgl.len == data_len n c)) data_sgl_length_invalid (
     Ok (operation_on extent action.Read))))
 
+-- an address is an offset into the capsule's data, which have to hold it all; data that are to come have no place yet
 abbrev pub locate_at : Extent → Sgl → ℕ → Result Placed Status
 locate_at extent sgl capsule_len =
     if is_transport sgl.sgl_type then Ok (ToCome sgl.len) else
@@ -53,10 +54,12 @@ locate n c sgl capsule_len = then_do (limited n c) (λ extent.
     refuse (not (sgl.len == data_len n c)) data_sgl_length_invalid (
     locate_at extent sgl capsule_len)))
 
+-- nothing is written before all the data are there: `finish` then looks at the command again, FUA included
 abbrev pub write_begun : Bool → Placed → Begun
 write_begun fua (InCapsule extent at) = Perform (operation_on extent (action.Write at fua))
 write_begun fua (ToCome len) = Receive len
 
+-- nothing is compared before all the data are there: `finish` then looks at the command again
 abbrev pub compare_begun : Placed → Begun
 compare_begun (InCapsule extent at) = Perform (operation_on extent (action.Compare at))
 compare_begun (ToCome len) = Receive len

@@ -27,6 +27,7 @@ abbrev pub room_by : Action → ℕ → ℕ
 room_by action.Read units = 512 + 512 * units
 room_by _ units = 0
 
+-- so much room is made before the disk is asked: an operation that began lacks no memory
 abbrev pub room_for : Operation → ℕ
 room_for op = room_by op.action op.extent.units
 

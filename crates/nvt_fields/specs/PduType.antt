@@ -3,6 +3,7 @@ use Rattle.std.specs.Prelude.{ℕ, ◌==◌, Option, Some, None, if◌then◌els
 use Rattle.nvt_fields.specs.declared.pdu_type.PduType.{PduType}
 use Rattle.nvt_fields.specs.declared.pdu_type.PduType.TheVariants.{IcReq, IcResp, H2cTermReq, C2hTermReq, CapsuleCmd, CapsuleResp, H2cData, C2hData, R2t}
 
+-- even codes are of PDUs that a host sends, odd ones of a controller's; `type_of_code` reads them back
 abbrev pub code_of : PduType → ℕ
 code_of IcReq = 0x00
 code_of IcResp = 0x01

@@ -9,6 +9,7 @@ over_at now pace.Free = pace.Free
 over_at now (pace.Busy since) = pace.Rests (min (now + (now - since)) (2 ^ 64 - 1))
 over_at now (pace.Rests until) = pace.Rests until
 
+-- the clock is read only where a line may have to wait for the one before it
 abbrev pub is_timed : EditPace → Bool
 is_timed pace.Free = false
 is_timed (pace.Busy since) = true

@@ -5,6 +5,7 @@ use Rattle.nvt_ports.specs.declared.outbox.Outbox.{Outbox}
 use Rattle.nvt_ports.specs.declared.sending.Standing.{Standing}
 use Rattle.nvt_ports.specs.Kept.{room_of}
 
+-- of the bytes that wait only the number counts: what they say does not bear on when they are sent
 abbrev pub standing_of : Bool → Outbox → Standing
 standing_of is_answered o = record {
   kept = length o.kept.waiting;

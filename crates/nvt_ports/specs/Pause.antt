@@ -21,6 +21,7 @@ abbrev pub quiet_at : ℕ → Option ℕ → Pause
 quiet_at now None = Awake 0 (Some now)
 quiet_at now (Some since) = if nat_le 4000 (now - since) then Asleep 50 else Awake 0 (Some since)
 
+-- 64 calls in vain go by without a look at the clock: the time counts only in the one behind them
 abbrev pub watched_at : ℕ → ℕ → Option ℕ → Pause
 watched_at now vain since = if nat_lt vain 64 then Awake (vain + 1) since else quiet_at now since
 

@@ -17,6 +17,7 @@ speaker_of number =
     else if nat_lt number 81 then Control
     else Editor (number - 81)
 
+-- how often it is tried in vain until it counts as silent: listeners sooner, since a try of one costs eight times as much
 abbrev pub patience_of : Speaker → ℕ
 patience_of (Host slot) = 4096
 patience_of (Port place) = 64

@@ -8,7 +8,7 @@ use nvt_config::Config;
 use std::alloc::{AllocError, Global};
 
 /// Ports in memory. They hand out the steps of a script in their order, one at a call, and answer `Nothing` where
-/// the next one has no room, where memory is wanted for what they keep of it, and behind the last. A step that
+/// the next one has no room, where memory runs out for what they keep of it, and behind the last. A step that
 /// names no slot that it may is passed over: an `Open` a slot that is open, another one that is not.
 #[derive(Drop)]
 pub struct MemoryPorts {

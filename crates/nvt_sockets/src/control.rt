@@ -35,7 +35,7 @@ pub fn control_address(port: u16) -> SocketAddr {
 }
 
 impl<L: Drop, S: Drop> Control<L, S> {
-    /// Listens. Fails where the port cannot be listened to, or memory is wanted.
+    /// Listens. Fails where the port cannot be listened to, or memory runs out.
     pub fn open<N: Network<Listener = L, Stream = S>>(
         network: &mut N,
         alloc: Global,

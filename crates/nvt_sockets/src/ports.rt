@@ -81,7 +81,7 @@ pub struct SocketPorts<N: Network> {
 impl<N: Network + Drop> SocketPorts<N> {
     /// Opens the control port, at 127.0.0.1, and then the ports of this configuration, of which those that cannot be
     /// listened to are named on standard output. Who connects and what is edited is told on standard error, or is not. Fails
-    /// where the control port cannot be listened to, where what is to be printed cannot be, and where memory is wanted.
+    /// where the control port cannot be listened to, where what is to be printed cannot be, and where memory runs out.
     pub fn open(
         mut network: N,
         alloc: Global,

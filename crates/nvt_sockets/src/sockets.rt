@@ -41,7 +41,7 @@ pub struct Sockets<L, S> {
 }
 
 impl<L: Drop, S: Drop> Sockets<L, S> {
-    /// Listens for lines of edits, on this port. Fails where it cannot be listened to, or memory is wanted.
+    /// Listens for lines of edits, on this port. Fails where it cannot be listened to, or memory runs out.
     pub fn open<N: Network<Listener = L, Stream = S>>(
         network: &mut N,
         alloc: Global,

@@ -38,6 +38,7 @@ c2h_data p =
 abbrev pub piece_of : C2hData → Piece
 piece_of d = record { cid = d.cid; offset = d.offset; last = d.last; hpda = d.hpda; payload = d.payload.now }
 
+-- all that the header says: of the data it has the length alone, so that they can be written behind it later
 abbrev pub head_of : C2hData → C2hHead
 head_of d = record { cid = d.cid; offset = d.offset; last = d.last; hpda = d.hpda; len = length d.payload.now }
 

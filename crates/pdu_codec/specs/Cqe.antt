@@ -8,9 +8,11 @@ use Rattle.nvt_fields.specs.declared.status.Status.{Status}
 abbrev pub completion_in : List ℕ → List ℕ
 completion_in header = slice_range header 8 24
 
+-- dwords 0 and 1, which each command defines for itself: a CNTLID, the value of a property, a kind of event
 abbrev pub result_of : List ℕ → ℕ
 result_of entry = field_at 8 0 entry
 
+-- how far the controller has come in the submission queue, going round behind its size
 abbrev pub sqhd_of : List ℕ → ℕ
 sqhd_of entry = field_at 2 8 entry
 
@@ -25,6 +27,7 @@ status_of_word word = record {
   dnr = nat_le (2 ^ 15) word;
 }
 
+-- each word has a status, whatever controller sent it: the phase tag, CRD and More are not looked at
 abbrev pub status_of : List ℕ → Status
 status_of entry = status_of_word (field_at 2 14 entry)
 

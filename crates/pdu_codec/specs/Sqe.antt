@@ -14,6 +14,7 @@ use Rattle.pdu_codec.specs.declared.command.BlockCommand.{BlockCommand}
 abbrev pub entry_in : List ℕ → List ℕ
 entry_in header = slice_range header 8 72
 
+-- what it means depends on the queue, but for 7Fh: that is a Fabrics command on each
 abbrev pub opcode_of : List ℕ → ℕ
 opcode_of entry = slice_index entry 0
 
@@ -21,9 +22,11 @@ opcode_of entry = slice_index entry 0
 abbrev pub fuse_of : List ℕ → ℕ
 fuse_of entry = slice_index entry 1 % 4
 
+-- the host chooses it: no two outstanding commands of a connection may have the same
 abbrev pub cid_of : List ℕ → ℕ
 cid_of entry = field_at 2 2 entry
 
+-- a Fabrics command names no namespace: the first of these bytes is its type
 abbrev pub nsid_of : List ℕ → ℕ
 nsid_of entry = field_at 4 4 entry
 
@@ -31,6 +34,7 @@ nsid_of entry = field_at 4 4 entry
 abbrev pub fctype_of : List ℕ → ℕ
 fctype_of entry = slice_index entry 4
 
+-- over Fabrics an SGL descriptor says where the data are, and never a PRP: PSDT is not looked at
 abbrev pub sgl1_of : List ℕ → Sgl
 sgl1_of entry = sgl_of (slice_range entry 24 40)
 

@@ -21,6 +21,7 @@ impl<'a> Sqe<'a> {
         }
     }
 
+    /// The opcode; 7Fh is a Fabrics command on each queue.
     pub fn opcode(&self) -> u8
         ensures { result ≡ opcode_of self.now.entry.now }
     {

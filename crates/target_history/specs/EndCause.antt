@@ -72,16 +72,19 @@ abbrev pub is_barred : Configuration → List ℕ → Option (List ℕ) → ℕ 
 is_barred config host None port = false
 is_barred config host (Some nqn) port = not (may_use config host nqn port)
 
+-- a controller ends with its port, with its host's permission (`edits_end_controllers`) or with its admin queue
 abbrev pub ends_row : EndCause → Configuration → ℕ → Row → Bool
 ends_row (cause.Port id) config cntlid row = (id == row.port) || is_barred config row.host row.subsystem row.port
 ends_row cause.Permission config cntlid row = is_barred config row.host row.subsystem row.port
 ends_row (cause.Controller ended) config cntlid row = cntlid == ended
 ends_row _ config cntlid row = false
 
+-- where the identifier is free there is no controller to end
 abbrev pub ends_row_at : EndCause → Configuration → ℕ → Option Row → Bool
 ends_row_at e config cntlid None = false
 ends_row_at e config cntlid (Some row) = ends_row e config cntlid row
 
+-- time passes by ticks alone: no other event finds a Keep Alive Timer run out (`nothing_expires_without_ticks`)
 abbrev pub ends_timer : EndCause → Option Controller → Bool
 ends_timer (cause.Clock now) (Some c) = runs_out now c
 ends_timer _ o = false
@@ -92,6 +95,7 @@ ends_controller e config cntlid row controller = ends_row_at e config cntlid row
 
 -- ---- the connections that it ends, where it ends these controllers
 
+-- a reset ends the I/O queues of its controller, and nothing else (`resets_end_their_queues_alone`)
 abbrev pub resets : EndCause → ℕ → Bool
 resets (cause.Reset c) cntlid = c == cntlid
 resets _ cntlid = false
@@ -104,6 +108,7 @@ abbrev pub ends_session : EndCause → (ℕ → Bool) → Session → Bool
 ends_session e ended (Connected role queue) = ends_role e ended role
 ends_session e ended _ = false
 
+-- with a port each connection on it ends, whatever it is (`deleted_ports_end`)
 abbrev pub is_on_port : EndCause → ℕ → Bool
 is_on_port (cause.Port id) port = id == port
 is_on_port _ port = false
