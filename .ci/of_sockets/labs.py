@@ -1,11 +1,13 @@
 """`nvt_host lab`: a target and two hosts, each a process of its own, which are ended whatever comes."""
 
+import contextlib
 import os
 import signal
 import socket
 import subprocess
 import tempfile
 from pathlib import Path
+from shlex import quote
 
 from .served import SECONDS, check, check_equal, free_ports
 
@@ -37,6 +39,16 @@ def ends_group(group):
     return True
 
 
+@contextlib.contextmanager
+def script(text):
+    """A program of these lines of a shell."""
+    with tempfile.TemporaryDirectory(prefix="sockets-") as folder:
+        path = Path(folder, "target")
+        path.write_text(f"#!/bin/sh\n{text}\n")
+        path.chmod(0o755)
+        yield path
+
+
 def check_ended(ran):
     status, out, lines = ran
     check_equal("how it ends", (status, out, lines[-1:]), ENDED)
@@ -58,18 +70,17 @@ def a_target_that_is_no_program_ends_the_lab(_, host):
 
 
 def a_target_that_does_not_listen_ends_the_lab(_, host):
-    with tempfile.TemporaryDirectory(prefix="sockets-") as folder:
-        silent = Path(folder, "silent")
-        silent.write_text("#!/bin/sh\nexec sleep 60\n")
-        silent.chmod(0o755)
+    with script("exec sleep 60") as silent:
         check_ended(lab(host, silent, free_ports(2), turns=200))
 
 
 def a_port_that_is_taken_ends_the_lab(program, host):
-    with socket.create_server(("127.0.0.1", 0)) as taken:
+    # The target has all turns, not the lab's: as few as host 1 waits for are over while it starts.
+    with socket.create_server(("127.0.0.1", 0)) as taken, script(f"exec {quote(str(program))} $1 $2 $3 $4") as target:
         [control] = free_ports(1)
-        ran = lab(host, program, (taken.getsockname()[1], control), turns=25_000)
-        check(b"host 1: error: turns" in ran[2], "host 1 waits for its turns")
+        ran = lab(host, target, (taken.getsockname()[1], control), turns=10_000)
+        check(b"target: port 1: cannot listen" in ran[2], f"the target says that the port is taken: {ran[2]}")
+        check(b"host 1: error: turns" in ran[2], f"host 1 waits for its turns: {ran[2]}")
         check_ended(ran)
 
 
