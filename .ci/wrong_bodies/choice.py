@@ -35,11 +35,12 @@ def age(line, landing):
 
 class Choice:
     """Which edits of a crate are tried: `owed` are those that have to be, `shared` the others. `turns` are the standings
-    whose turn it is in this crate."""
+    whose turn it is in this crate, and `promised` the labels of those that stand for main promises."""
 
-    def __init__(self, edits, standings, lines, landing, turns):
+    def __init__(self, edits, standings, lines, landing, turns, promised):
         self.edits, self.standings, self.lines, self.landing = edits, standings, lines, landing
-        self.owed = [it for it in edits if it.promise or self.of(it) is Standing.NEW or self.is_due(it)]
+        new = [it for it in edits if self.of(it) is Standing.NEW or self.is_due(it)]
+        self.owed = new + [it for it in edits if it.label() in promised and it not in new]
         self.shared = [it for it in edits if self.of(it) in turns and it not in self.owed] + self.share()
 
     def of(self, edit):
@@ -57,6 +58,15 @@ class Choice:
         left.sort(key=lambda it: (-self.age(it), self.lines[it.label()].landing))
         number = math.ceil(len(left) / HERE) - sum(it in self.owed for it in left)
         return [it for it in left if it not in self.owed][: max(number, 0)]
+
+
+def of_promises(edits, landing):
+    """Returns the labels of the edits that stand for the main promises at this landing: one for each, in turn."""
+    found = {}
+    for it in edits:
+        if it.promise:
+            found.setdefault(it.promise, []).append(it.label())
+    return {sorted(same)[landing % len(same)] for same in found.values()}
 
 
 def in_turn(numbers, landing, one_in):

@@ -19,8 +19,8 @@ class Change:
 
 @dataclass
 class Edit:
-    """A wrong body. `promise` is the main promise that it would break, or empty: such an edit is tried always.
-    `function` is the one whose body it changes, or None where it changes more than one, or what is no function."""
+    """A wrong body. `promise` is the main promise that it would break, or empty: of those of one promise one is tried
+    at each landing. `function` is the one whose body it changes, or None where it changes more than one, or what is no function."""
 
     crate: str
     name: str
