@@ -1,7 +1,7 @@
 -- What the commands ask of the world, and how many bytes they return.
-use Rattle.std.proofs.Common.{◌≡◌, ◌==◌, ◌*◌, ◌||◌, ℕ, Bool, true, false, not, List, Option, Some, None, Result, Ok, Err, IfOk, IfSome, is_some, refl, sym, ap, ◌∙◌}
+use Rattle.std.proofs.Common.{◌≡◌, ◌==◌, ◌*◌, ℕ, Bool, true, false, not, List, Option, Some, None, Result, Ok, Err, IfOk, IfSome, is_some, refl, sym, ap}
 use Rattle.std.proofs.lemmas.Bool.{eqb-true}
-use Rattle.std.specs.Prelude.{if◌then◌else◌, nat_lt, length}
+use Rattle.std.specs.Prelude.{if◌then◌else◌}
 use Rattle.nvt_config.specs.Configuration.{Configuration}
 use Rattle.nvt_config.specs.SeenBy.{seen_by}
 use Rattle.event_queue.specs.declared.completion.Completion.{Completion}
@@ -11,7 +11,7 @@ use Rattle.nvt_fields.specs.declared.status.Status.{Status}
 use Rattle.nvt_fields.specs.Status.{data_sgl_length_invalid, sgl_type_invalid}
 use Rattle.pdu_codec.specs.declared.command.GetLogPage.{GetLogPage}
 use Rattle.pdu_codec.specs.declared.command.Identify.{Identify}
-use Rattle.pdu_codec.specs.Sqe.{feature_of, get_log_page_of, identify_of, opcode_of, sgl1_of}
+use Rattle.pdu_codec.specs.Sqe.{get_log_page_of, identify_of, sgl1_of}
 use Rattle.admin_queue.specs.declared.outcome.Accepted.TheVariants.{Answered}
 use Rattle.admin_queue.specs.declared.outcome.Effect.{Effect}
 use Rattle.admin_queue.specs.declared.outcome.Effect.TheVariants as effect
@@ -23,13 +23,13 @@ use Rattle.admin_queue.specs.Commands.{admin}
 use Rattle.admin_queue.specs.Controller.{AdminController}
 use Rattle.admin_queue.specs.EventRequest.{request_by}
 use Rattle.admin_queue.specs.Features.{get_features, queues_on, set_features}
-use Rattle.admin_queue.specs.Identify.{given_where, identified, identify, structure_asked, structure_in, structure_of}
+use Rattle.admin_queue.specs.Identify.{identified, identify, structure_in}
 use Rattle.admin_queue.specs.Laws.{AnsweredByOwnAlone, AsMuchAsAsked, ToldAlike}
 use Rattle.admin_queue.specs.Log.{page_of_lid}
-use Rattle.admin_queue.specs.LogPage.{get_log_page, read_known, read_page}
+use Rattle.admin_queue.specs.LogPage.{read_known, read_page}
 use Rattle.admin_queue.specs.Outcome.{IfAnswered, Outcome, is_transport, returned}
-use Rattle.admin_queue.specs.Pages.{Pages, log_page_bytes}
-use Rattle.admin_queue.specs.Payload.{namespace_of, payload_bytes, payload_len, structure_bytes}
+use Rattle.admin_queue.specs.Pages.{Pages}
+use Rattle.admin_queue.specs.Payload.{namespace_of, payload_bytes, payload_len}
 
 -- ---- the world
 

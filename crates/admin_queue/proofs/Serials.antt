@@ -1,5 +1,5 @@
 -- The serial numbers of a configuration's subsystems fit their field.
-use Rattle.std.proofs.Common.{◌≡◌, ◌≤◌, ◌&&◌, ℕ, not, List, IsTrue, length, nat_le}
+use Rattle.std.proofs.Common.{◌≤◌, ◌&&◌, not, IsTrue, length, nat_le}
 use Rattle.std.specs.Char.{is_ascii_graphic}
 use Rattle.std.specs.List.{list_all}
 use Rattle.std.proofs.lemmas.Bool.{and_parts, leb-true}

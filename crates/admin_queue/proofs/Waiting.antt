@@ -1,7 +1,6 @@
 -- Which event requests wait after a command.
 use Rattle.std.proofs.Common.{◌≡◌, ◌==◌, ℕ, Bool, true, false, not, ◌+◌, List, [], ◌∷◌, ◌++◌, Option, Some, None, Result, Ok, Err, IfOk, refl}
 use Rattle.std.specs.Prelude.{if◌then◌else◌}
-use Rattle.nvt_config.specs.Configuration.{Configuration}
 use Rattle.event_queue.specs.declared.completion.Completion.{Completion}
 use Rattle.event_queue.specs.declared.events.LimitExceeded.{LimitExceeded}
 use Rattle.event_queue.specs.declared.kind.EventKind.{EventKind}
@@ -9,7 +8,6 @@ use Rattle.event_queue.specs.declared.kind.EventKind.TheVariants.{Namespace, Ana
 use Rattle.event_queue.specs.Events.{EventState, after_read, first_pending, is_full, request_answer, requested}
 use Rattle.admin_queue.specs.declared.update.NoticeUpdate.TheVariants as update
 use Rattle.admin_queue.specs.Notices.{NoticeState}
-use Rattle.admin_queue.specs.Update.{updated}
 use Rattle.nvt_fields.specs.declared.status.Status.{Status}
 use Rattle.nvt_fields.specs.Status.{data_sgl_length_invalid, invalid_field, sgl_type_invalid}
 use Rattle.pdu_codec.specs.declared.command.GetLogPage.{GetLogPage}
@@ -20,7 +18,6 @@ use Rattle.admin_queue.specs.declared.outcome.Effect.TheVariants as effect
 use Rattle.admin_queue.specs.declared.payload.Payload.{Payload}
 use Rattle.admin_queue.specs.declared.payload.Payload.TheVariants as payload
 use Rattle.admin_queue.specs.declared.payload.Structure.{Structure}
-use Rattle.admin_queue.specs.Commands.{admin}
 use Rattle.admin_queue.specs.Controller.{AdminController}
 use Rattle.admin_queue.specs.EventRequest.{event_request, request_by}
 use Rattle.admin_queue.specs.Features.{get_features, queues_on, set_features}

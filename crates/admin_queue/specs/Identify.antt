@@ -1,5 +1,5 @@
 -- Identify (Base 2.0, section 5.17).
-use Rattle.std.specs.Prelude.{ℕ, ◌==◌, not, nat_lt, Bool, List, Option, Some, None, is_some, find, Result, Ok, Err, if◌then◌else◌}
+use Rattle.std.specs.Prelude.{ℕ, ◌==◌, nat_lt, Bool, List, Option, Some, None, is_some, find, Result, Ok, Err, if◌then◌else◌}
 use Rattle.config_lists.specs.Namespace.{is_named, is_nsid}
 use Rattle.nvt_config.specs.Configuration.{Configuration}
 use Rattle.nvt_config.specs.SeenBy.{seen_by}

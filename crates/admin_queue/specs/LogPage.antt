@@ -1,5 +1,5 @@
 -- Get Log Page (Base 2.0, section 5.16).
-use Rattle.std.specs.Prelude.{ℕ, ◌+◌, ◌*◌, ◌%◌, not, ◌==◌, ◌||◌, nat_lt, List, length, Option, Some, None, Err, if◌then◌else◌}
+use Rattle.std.specs.Prelude.{ℕ, ◌+◌, ◌*◌, ◌%◌, not, ◌==◌, ◌||◌, nat_lt, List, length, Option, Some, None, Err}
 use Rattle.admin_queue.specs.declared.update.NoticeUpdate.{NoticeUpdate}
 use Rattle.admin_queue.specs.declared.update.NoticeUpdate.TheVariants as update
 use Rattle.nvt_fields.specs.Status.{invalid_field, invalid_log_page}

@@ -1,10 +1,10 @@
 -- The least plan forms no more than the stretch in which two tables differ.
-use Rattle.std.proofs.Common.{◌≡◌, ◌⊎◌, ℕ, zero, suc, ◌≤◌, ◌<◌, ◌+◌, ◌-◌, ◌==◌, ◌&&◌, Bool, true, List, [], ◌∷◌, ◌++◌, length, take, drop, refl, sym, ap, ◌∙◌, subst, inl, inr, arith, length-append, bytes_eq}
+use Rattle.std.proofs.Common.{◌≡◌, ◌⊎◌, ℕ, zero, suc, ◌≤◌, ◌+◌, ◌-◌, List, [], ◌∷◌, ◌++◌, length, take, drop, refl, sym, ap, ◌∙◌, inl, inr, arith, length-append}
 use Rattle.std.specs.Prelude.{reverse, slice_range, if◌then◌else◌}
-use Rattle.std.proofs.lemmas.Bool.{cases_lt, eq-eqb}
+use Rattle.std.proofs.lemmas.Bool.{cases_lt}
 use Rattle.std.proofs.lemmas.List.{length-drop, length-reverse, length-take, reverse-append, take-append-drop}
 use Rattle.discovery_view.specs.Plan.{IsLeast, Planned, common_first, common_last}
-use Rattle.discovery_view.specs.Record.{Parts, family_code, same_parts, subtype_code}
+use Rattle.discovery_view.specs.Record.{Parts, same_parts}
 use Rattle.discovery_view.proofs.Changing.{Changes}
 use Rattle.discovery_view.proofs.Told.{own}
 

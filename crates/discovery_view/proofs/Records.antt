@@ -1,27 +1,19 @@
 -- What each edit changes of the records of a configuration: one stretch of them, and no more than it reaches.
-use Rattle.std.proofs.Common.{◌≡◌, ◌≢◌, ◌⊎◌, ℕ, ◌≤◌, ◌+◌, ◌==◌, ◌&&◌, ◌||◌, Bool, true, false, not, nat_lt, List, [], ◌∷◌, ◌++◌, All, AllPairs, length, filter, map, Result, Ok, IfOk, refl, sym, ap, ◌∙◌, inl, inr, arith, append-nil, append_assoc, bytes_eq}
-use lib.Pointwise.{bytes_decides}
-use Rattle.std.specs.Prelude.{if◌then◌else◌}
-use Rattle.std.specs.List.{AllByRecursion, flat_map, list_any}
+use Rattle.std.proofs.Common.{◌≡◌, ℕ, ◌≤◌, ◌+◌, ◌==◌, Bool, true, false, List, [], ◌∷◌, ◌++◌, length, filter, map, refl, sym, ap, ◌∙◌, arith, bytes_eq}
+use Rattle.std.specs.List.{AllByRecursion, flat_map}
 use Rattle.std.proofs.Math.Path.{fun_ext}
-use Rattle.std.proofs.lemmas.Bool.{cases_Bool, both_ways, eq-eqb, eqb-true, false_from_ne_true}
 use Rattle.std.proofs.lemmas.Grind.{flat_map-append}
 use Rattle.std.proofs.lemmas.List.{map-append}
 use Rattle.std.proofs.lemmas.List.Concat.{flat_map-cons}
 use Rattle.std.proofs.lemmas.List.Elements.{filter-append}
-use Rattle.std.proofs.lemmas.List.Folds.{list_any-append}
 use Rattle.config_lists.specs.declared.link.Link.{Link}
 use Rattle.config_lists.specs.declared.port.Port.{Port}
 use Rattle.config_lists.specs.declared.subsystem.Subsystem.{Subsystem}
-use Rattle.config_lists.specs.Lists.{without}
-use Rattle.nvt_config.specs.Configuration.{Configuration, has_link, has_port, has_subsystem, is_port_linked, is_subsystem_linked}
-use Rattle.nvt_config.specs.Valid.{ArePorts, AreSubsystems, IsLink}
-use Rattle.discovery_view.specs.Order.{in_order, name_below}
+use Rattle.nvt_config.specs.Configuration.{has_link}
 use Rattle.discovery_view.specs.Record.{Parts}
 use Rattle.discovery_view.specs.Records.{parts_of, referral_of}
-use Rattle.discovery_view.proofs.Changing.{Changes, ahead, behind, changed, changes_where, mapped, unchanged}
-use Rattle.discovery_view.proofs.Ordering.{Apart, name_chain, names_apart, number_chain, numbers_apart}
-use Rattle.discovery_view.proofs.Splitting.{Fail, Ordered, Split, at_most_one, every_more, in_turn, length_ordered, none_passes, ordered, split, with_it_changed, without_it}
+use Rattle.discovery_view.proofs.Changing.{Changes, ahead, behind, changed, changes_where, mapped}
+use Rattle.discovery_view.proofs.Splitting.{Fail, every_more}
 
 -- ---- the records, by the lists that they are of
 

@@ -1,5 +1,5 @@
 -- A list at the one element that passes a test, and the same in order.
-use Rattle.std.proofs.Common.{◌≡◌, ◌⊎◌, ℕ, suc, ◌≤◌, Bool, true, false, not, List, [], ◌∷◌, ◌++◌, All, AllPairs, length, filter, map, refl, sym, ap, ◌∙◌, inl, inr, arith, append-nil, length-append}
+use Rattle.std.proofs.Common.{◌≡◌, suc, ◌≤◌, Bool, true, false, not, List, [], ◌∷◌, ◌++◌, All, AllPairs, length, filter, map, refl, ap, ◌∙◌, inl, inr, arith}
 use Rattle.std.specs.Prelude.{◌||◌, if◌then◌else◌}
 use Rattle.std.specs.List.{AllByRecursion, list_any}
 use Rattle.std.proofs.lemmas.Bool.{cases_Bool}
@@ -7,7 +7,7 @@ use Rattle.std.proofs.lemmas.List.{map-append}
 use Rattle.std.proofs.lemmas.List.Elements.{All-head, All-tail, filter-append}
 use Rattle.config_lists.specs.Lists.{changed_where, without}
 use Rattle.discovery_view.specs.Order.{in_order, put_in_order}
-use Rattle.discovery_view.proofs.Ordering.{Apart, Between, Chains, between, every_in_order, put_last}
+use Rattle.discovery_view.proofs.Ordering.{Apart, Chains, between, every_in_order, put_last}
 
 module _ {T : Type 0} where
   pub in_turn : (P : T → Type 0) (xs : List T) → All P xs → AllByRecursion P xs

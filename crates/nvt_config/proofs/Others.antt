@@ -20,7 +20,7 @@ use Rattle.config_lists.specs.declared.edit.Edit.{Edit}
 use Rattle.config_lists.specs.declared.edit.Edit.TheVariants.{NamespaceAdd, NamespaceSize, NamespaceGroup, NamespaceDel, NamespaceView, NamespaceShow, NamespaceHide, LinkDel, HostAdd, AnaSet}
 use Rattle.std.specs.List.{list_any}
 use Rattle.nvt_config.specs.Accept.{accept, effect, namespace_of}
-use Rattle.nvt_config.specs.Configuration.{Configuration, has_state, with_ana_state, with_host, with_namespace, with_namespace_set, with_show, without_link, without_namespace, without_show}
+use Rattle.nvt_config.specs.Configuration.{Configuration, has_state, with_ana_state, with_host, with_namespace, with_namespace_set, with_show, without_link, without_namespace}
 use Rattle.nvt_config.proofs.Hosts.{hosts_alone}
 use Rattle.nvt_config.proofs.Refusals.{IfOk-effect}
 use Rattle.nvt_config.proofs.States.{states_alone}

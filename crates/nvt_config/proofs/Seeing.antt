@@ -1,5 +1,5 @@
 -- A host sees what each host sees, and what it is shown.
-use Rattle.std.proofs.Common.{◌≡◌, ◌⊎◌, ◌↔◌, ◌==◌, ◌<◌, ◌++◌, ◌∷◌, [], ℕ, Bool, true, false, List, All, AllPairs, Any, Contains, filter, length, get_or, refl, sym, ap, ◌∙◌, subst, inl, inr, arith}
+use Rattle.std.proofs.Common.{◌≡◌, ◌↔◌, ◌==◌, ◌∷◌, [], ℕ, Bool, true, List, All, AllPairs, Any, Contains, filter, get_or, refl, sym, ap, ◌∙◌, subst, inl, inr, arith}
 use Rattle.std.proofs.lemmas.Bool.{and_parts, cases_Bool, eqb-true, eq-eqb, and_from, or_cases, or_left, or_right}
 use Rattle.std.proofs.lemmas.List.Elements.{All-cons, All-contains, All-contains_itself, All-filter, All-weaker, Contains-append_right, Contains-get_or, filter_passes}
 use Rattle.std.proofs.lemmas.List.Folds.{Any-from_list_any, list_any_at}
@@ -14,7 +14,7 @@ use Rattle.config_lists.specs.Show.{has_show, is_seen, is_show_of, is_show_to}
 use Rattle.config_lists.proofs.Names.{bytes_eq-same, same_name}
 use Rattle.nvt_config.specs.Configuration.{Configuration}
 use Rattle.nvt_config.specs.SeenBy.{SeesNamespace, SeesWhatIsShown, seen_by, seen_by_strangers}
-use Rattle.nvt_config.specs.Valid.{AreShows, IsNamespace, IsShow, IsValid}
+use Rattle.nvt_config.specs.Valid.{AreShows, IsNamespace, IsValid}
 
 -- ---- what passes a test
 

@@ -66,7 +66,9 @@ impl MemoryPorts {
     }
 
     /// All replies to lines, each with a line's end; those for which there was no memory are lost.
-    pub fn replies(&self) -> &[u8] {
+    pub fn replies(&self) -> &[u8]
+        ensures { result.now ≡ self.now.replies.items }
+    {
         &self.replies
     }
 

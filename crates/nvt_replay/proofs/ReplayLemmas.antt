@@ -1,11 +1,9 @@
 -- The lines of a file, taken in turn.
-use Rattle.std.proofs.Common.{◌≡◌, ℕ, ◌+◌, ◌-◌, ◌*◌, ◌<◌, MatchResult, IsOk, List, [], ◌∷◌, ◌++◌, length, suc, get_or, get_or-drop, take, drop, length-drop, refl, sym, ap, subst, ◌∙◌, arith, Bool, true, false, inl, inr, Result, Ok, Err}
-use Rattle.std.specs.Bool.{OnFalse}
+use Rattle.std.proofs.Common.{◌≡◌, ℕ, ◌+◌, ◌-◌, ◌*◌, ◌<◌, MatchResult, IsOk, List, [], ◌∷◌, length, get_or, take, drop, refl, sym, ap, subst, ◌∙◌, arith, Bool, inl, inr, Result, Ok, Err}
 use Rattle.std.specs.List.{All, AllPass}
 use Rattle.hex.specs.Hex.{decode_sized, is_hex_digit}
 use Rattle.hex.specs.declared.error.FromHexError.{FromHexError}
 use Rattle.hex.proofs.HexLemmas.{IsOk-decode_sized}
-use Rattle.std.proofs.lemmas.List.{drop-drop, take_all, take_more}
 use Rattle.std.proofs.lemmas.List.Elements.{All-push}
 use Rattle.config_text.specs.Lines.{lines_of}
 use Rattle.edit_lines.specs.Configured.{AcceptsAll, RefusesEdits}

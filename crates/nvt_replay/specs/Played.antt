@@ -1,5 +1,5 @@
 -- What a replay makes of a target, line by line, and what it prints of it.
-use Rattle.std.specs.Prelude.{◌≡◌, ◌⊎◌, ℕ, zero, suc, ◌<◌, ◌&&◌, Bool, true, false, nat_lt, List, [], ◌∷◌, ◌++◌, length, take, drop, min, codes, Option, Some, None, MatchOption, Ok, if◌then◌else◌}
+use Rattle.std.specs.Prelude.{◌≡◌, ◌⊎◌, ℕ, zero, suc, ◌<◌, ◌&&◌, Bool, nat_lt, List, [], ◌∷◌, ◌++◌, length, take, drop, min, codes, Option, Some, None, MatchOption, Ok, if◌then◌else◌}
 use Rattle.std.specs.Io.KnownBytes.{Appends}
 use Rattle.hex.specs.Hex.{decode_of}
 use Rattle.io_queue.specs.Execution.{contents_at}

@@ -6,7 +6,7 @@ use Rattle.tables.specs.NumberTable.{place}
 use Rattle.nvt_ports.specs.Told.{PortsState, given_once}
 use Rattle.nvt_serve.specs.declared.ties.Ties.{Ties}
 use Rattle.nvt_serve.specs.Deed as deed
-use Rattle.nvt_serve.specs.Deed.{Deed, Does, IsSlotOf, Serving}
+use Rattle.nvt_serve.specs.Deed.{Deed, Does, Serving}
 use Rattle.nvt_serve.specs.Looks.{AreLooks, ForgetsAlone, Unties}
 use Rattle.nvt_serve.specs.Served.{AreTies, Goes, no_numbers, serving}
 use Rattle.nvt_serve.proofs.Runs.{goes_on, goes_once, goes_same, numbers_of_one}

@@ -4,7 +4,7 @@ use Rattle.std.specs.Prelude.{if◌then◌else◌}
 use Rattle.std.specs.Option.{option_map}
 use Rattle.nvt_ports.specs.Told.{HandedOut, PortsState, Told, given_once, heard, more, with_handed_out}
 use Rattle.nvt_serve.specs.Deed as deed
-use Rattle.nvt_serve.specs.Deed.{Asked, Deed, Does, DoesToPorts, Runs, Serving, is_asking}
+use Rattle.nvt_serve.specs.Deed.{Asked, Deed, DoesToPorts, Runs, Serving, is_asking}
 use Rattle.nvt_serve.specs.History.{PortsTellDeeds, handed_out_for, handed_out_in, took_after, took_with}
 use Rattle.nvt_serve.specs.Served.{count_of}
 

@@ -9,7 +9,7 @@ use Rattle.tables.specs.NumberTable.{place, with_value, without}
 use Rattle.tables.proofs.NumberTables.{least_free-Some, length-with_value, place-with_value, place-without, place_past}
 use Rattle.nvt_ports.specs.Told.{PortsState}
 use Rattle.nvt_serve.specs.Deed as deed
-use Rattle.nvt_serve.specs.Deed.{ClosedSlot, Deed, Does, IsUnused, Runs, Serving}
+use Rattle.nvt_serve.specs.Deed.{Deed, Does, IsUnused, Runs, Serving}
 use Rattle.nvt_serve.specs.declared.ties.Ties.{Ties}
 use Rattle.nvt_serve.specs.Looks.{AreLooks}
 use Rattle.nvt_serve.specs.Served.{AreTied, AreTies, IsTiedWithin, serving}

@@ -1,5 +1,5 @@
 -- A part of a list that loses its front, or grows by what was written behind it.
-use Rattle.std.proofs.Common.{◌≡◌, ℕ, ◌+◌, ◌-◌, ◌≤◌, List, length, take, drop, slice_range, ◌++◌, ap, ◌∙◌, arith, sym, length-take-le, length-drop}
+use Rattle.std.proofs.Common.{◌≡◌, ℕ, ◌+◌, ◌-◌, ◌≤◌, List, length, take, drop, slice_range, ◌++◌, ap, ◌∙◌, arith, sym, length-take-le}
 use Rattle.std.proofs.lemmas.List.{drop-drop, drop-append-le}
 use Rattle.std.proofs.lemmas.Slice.{between_is}
 use Rattle.pdu_cut.specs.declared.side.Side.{Side}

@@ -8,7 +8,7 @@ use Rattle.pdu_codec.specs.declared.command.Connect.{Connect}
 use Rattle.pdu_codec.specs.declared.command.GetLogPage.{GetLogPage}
 use Rattle.pdu_words.specs.declared.command.Command.{Command}
 use Rattle.pdu_words.specs.declared.command.Command.TheVariants as command
-use Rattle.pdu_words.specs.Words.{hex_words}
+use Rattle.pdu_words.specs.Words.{event_configuration, hex_words}
 
 -- the size of the submission queue, 0's based, and the Keep Alive Timeout, in ms
 abbrev pub queue_words : Connect → List ℕ
@@ -34,7 +34,7 @@ aborted_words sqid cid = codes ": SQID " ++ decimal sqid ++ codes ", CID " ++ de
 
 -- the kinds of events have names already
 abbrev pub set_words : ℕ → ℕ → List ℕ
-set_words fid value = if fid == 0x0B then [] else value_words value
+set_words fid value = if fid == event_configuration then [] else value_words value
 
 -- the first block, how many there are, and whether they are to be on the medium
 abbrev pub access_words : BlockCommand → List ℕ

@@ -57,9 +57,13 @@ kinds_by namespaces ana discovery =
 abbrev pub kinds_words : ℕ → List ℕ
 kinds_words value = kinds_by (value / 2 ^ 8 % 2 == 1) (value / 2 ^ 11 % 2 == 1) (value / 2 ^ 31 % 2 == 1)
 
+-- the feature Asynchronous Event Configuration
+abbrev pub event_configuration : ℕ
+event_configuration = 0x0B
+
 abbrev pub set_features_words : ℕ → ℕ → List ℕ
 set_features_words fid value =
-    if fid == 0x0B then codes "Set Features 0Bh: " ++ kinds_words value else numbered_words (codes "Set Features") fid
+    if fid == event_configuration then codes "Set Features 0Bh: " ++ kinds_words value else numbered_words (codes "Set Features") fid
 
 abbrev pub command_words : Command → List ℕ
 command_words (command.Connect qid) = connect_words qid
@@ -158,7 +162,7 @@ event_words_by (Some name) result = notice_words name (log_to_read result)
 -- Select 0 to 2 ask for the value of a feature (Base 2.0, section 5.15)
 abbrev pub feature_words : ResponseFields → ℕ → ℕ → List ℕ
 feature_words completion fid select =
-    if succeeds completion.status && fid == 0x0B && nat_lt select 3
+    if succeeds completion.status && fid == event_configuration && nat_lt select 3
     then codes ", " ++ kinds_words completion.result else result_words completion.result
 
 -- the result, by the command that it is of

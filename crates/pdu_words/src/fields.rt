@@ -7,6 +7,7 @@ ghost use Rattle.pdu_words.specs.Fields.{field_words, namespace_words, queue_wor
 ghost use Rattle.pdu_words.specs.Fields.{retain_words, set_words, value_words};
 
 use crate::command::Command;
+use crate::names::EVENT_CONFIGURATION;
 use nvt_fields::u16_at;
 use pdu_codec::{BlockCommand, Connect, GetLogPage, Sqe};
 use std::fmt::{self, Formatter};
@@ -72,7 +73,7 @@ fn write_value<W: fmt::Write>(f: &mut Formatter<W>, value: u64) -> fmt::Result
 fn write_set<W: fmt::Write>(f: &mut Formatter<W>, fid: u8, value: u32) -> fmt::Result
     ensures { WritesOnOk W.write_str_gives f.old result (set_words fid value) f.new }
 {
-    if fid == 0x0B {
+    if fid == EVENT_CONFIGURATION {
         return Ok(());
     }
     write_value(f, u64::from(value))

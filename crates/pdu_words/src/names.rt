@@ -6,6 +6,9 @@ ghost use Rattle.pdu_words.specs.Names.{media_name, notice_name, path_name, prop
 
 use nvt_fields::Status;
 
+/// The feature Asynchronous Event Configuration (Base 2.0, section 5.27.1.8).
+pub(crate) const EVENT_CONFIGURATION: u8 = 0x0B;
+
 /// The name of a status code of its type (Base 2.0, section 3.3.3.2.1; Fabrics Connect, section 6.3),
 /// of those that this target sends or that reads and writes may have.
 pub(crate) fn status_name(status: Status) -> Option<&'static str>

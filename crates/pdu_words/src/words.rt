@@ -15,7 +15,8 @@ ghost use Rattle.pdu_words.specs.Names.{identify_name, log_page_name};
 use crate::command::Command;
 use crate::explanation::{Explanation, ResponseFields};
 use crate::names::{
-    fatal_error_name, identify_name, log_page_name, notice_name, property_name, status_name,
+    EVENT_CONFIGURATION, fatal_error_name, identify_name, log_page_name, notice_name,
+    property_name, status_name,
 };
 use nvt_fields::Status;
 use pdu_codec::{DataHead, IcReq, IcResp, R2t, TermReq};
@@ -282,7 +283,7 @@ fn write_feature<W: fmt::Write>(
 ) -> fmt::Result
     ensures { WritesOnOk W.write_str_gives f.old result (feature_words completion fid select) f.new }
 {
-    if succeeds(completion.status) && fid == 0x0B && select < 3 {
+    if succeeds(completion.status) && fid == EVENT_CONFIGURATION && select < 3 {
         let kinds = kinds_words(completion.result);
         return write!(f, ", {kinds}");
     }
@@ -447,7 +448,7 @@ fn write_connect<W: fmt::Write>(f: &mut Formatter<W>, qid: u16) -> fmt::Result
 fn write_set_features<W: fmt::Write>(f: &mut Formatter<W>, fid: u8, value: u32) -> fmt::Result
     ensures { WritesOnOk W.write_str_gives f.old result (set_features_words fid value) f.new }
 {
-    if fid == 0x0B {
+    if fid == EVENT_CONFIGURATION {
         let kinds = kinds_words(u64::from(value));
         return write!(f, "Set Features 0Bh: {kinds}");
     }

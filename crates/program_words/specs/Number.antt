@@ -1,5 +1,5 @@
 -- Numbers among the words of a command.
-use Rattle.std.specs.Prelude.{◌≡◌, ℕ, List, Option, MatchOption}
+use Rattle.std.specs.Prelude.{ℕ, List, Option, MatchOption}
 use Rattle.config_text.specs.Number.{IsNumber}
 
 abbrev pub IsNone : List ℕ → Type 0

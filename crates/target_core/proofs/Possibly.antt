@@ -1,6 +1,6 @@
 -- What a target that agrees with a history says of the events that may come.
-use Rattle.std.proofs.Common.{◌≡◌, ℕ, ◌<◌, Bool, true, false, ◌||◌, ◌&&◌, List, length, Option, Some, None, IsSome, IsOk, Ok, Result, is_some, refl, sym, ap, ◌∙◌, subst, arith}
-use Rattle.std.specs.Prelude.{not, is_none, position, if◌then◌else◌}
+use Rattle.std.proofs.Common.{◌≡◌, ℕ, ◌<◌, Bool, true, false, ◌||◌, ◌&&◌, List, Option, Some, None, IsSome, IsOk, Ok, is_some, refl, sym, ap, ◌∙◌, subst}
+use Rattle.std.specs.Prelude.{not, is_none, if◌then◌else◌}
 use Rattle.std.specs.Option.{option_map}
 use Rattle.config_lists.specs.declared.edit.Edit.{Edit}
 use Rattle.nvt_config.specs.Accept.{accept}
@@ -10,10 +10,10 @@ use Rattle.tables.proofs.NumberTables.{least_free-Some, least_free_below}
 use Rattle.pdu_cut.specs.declared.side.Side.TheVariants.{Target}
 use Rattle.pdu_cut.specs.Front.{Front, front}
 use Rattle.target_core.specs.declared.fault.OpenFault.{OpenFault}
-use Rattle.target_core.specs.declared.fault.OpenFault.TheVariants.{NoSuchPort, Full}
+use Rattle.target_core.specs.declared.fault.OpenFault.TheVariants.{NoSuchPort}
 use Rattle.target_core.specs.Agreement.{Agrees, AgreesWith}
 use Rattle.target_core.specs.Connection.{KnownConnection}
-use Rattle.target_core.specs.Target.{TargetState, free_number, is_ended_at, is_idle, is_incomplete, open_fault, port_of}
+use Rattle.target_core.specs.Target.{TargetState, free_number, is_ended_at, is_incomplete, open_fault, port_of}
 use Rattle.target_core.specs.Transition.{StandsIn}
 use Rattle.target_core.proofs.Calls.{ended_tells}
 use Rattle.target_decision.specs.declared.session.ConnectionState.{ConnectionState}

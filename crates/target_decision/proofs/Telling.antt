@@ -1,14 +1,12 @@
 -- What an edit sends on the admin queue of a controller, and the room for it.
-use Rattle.std.proofs.Common.{◌≡◌, ◌<◌, ℕ, suc, ◌+◌, Bool, true, false, List, [], ◌∷◌, ◌++◌, drop, get_or, length, length-append, append_assoc, Option, Some, None, refl, sym, ap, ◌∙◌, arith}
+use Rattle.std.proofs.Common.{◌≡◌, ◌<◌, ℕ, suc, ◌+◌, Bool, true, false, List, [], ◌∷◌, ◌++◌, drop, get_or, length, length-append, append_assoc, refl, sym, ap, ◌∙◌, arith}
 use Rattle.std.proofs.Math.Seq.{drop-cons}
-use Rattle.std.specs.Prelude.{if◌then◌else◌}
-use Rattle.std.specs.Option.{option_map}
 use Rattle.event_queue.specs.declared.changes.ViewChanges.{ViewChanges}
 use Rattle.event_queue.specs.declared.completion.Completion.{Completion}
 use Rattle.event_queue.specs.declared.kind.EventKind.{EventKind}
 use Rattle.event_queue.specs.declared.kind.EventKind.TheVariants.{Namespace, Ana, Discovery}
-use Rattle.event_queue.specs.Completion.{completion_of, completions_in}
-use Rattle.event_queue.specs.Events.{EventState, after_edit, all_answers, all_changed, change_answer, changed, edit_answers, first_of, kind_in, kinds_told, told_to}
+use Rattle.event_queue.specs.Completion.{completions_in}
+use Rattle.event_queue.specs.Events.{EventState, after_edit, all_answers, all_changed, change_answer, changed, edit_answers, kind_in, kinds_told}
 use Rattle.event_queue.specs.Notice.{takes_change}
 use Rattle.target_decision.specs.declared.session.Session.{Session}
 use Rattle.target_decision.specs.Session.{responded_in}

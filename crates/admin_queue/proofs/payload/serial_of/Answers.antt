@@ -1,5 +1,5 @@
 use Rattle.std.proofs.Common.{◌≡◌, Some, find, sym, ap, ◌∙◌}
-use Rattle.std.specs.Prelude.{IsTrue, IfSome}
+use Rattle.std.specs.Prelude.{IsTrue}
 use Rattle.std.specs.Option.{option_copied}
 use Rattle.std.specs.Str.{bytes_eq}
 use Rattle.config_lists.specs.declared.subsystem.Subsystem.{Subsystem}

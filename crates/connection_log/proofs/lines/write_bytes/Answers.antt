@@ -1,5 +1,5 @@
-use Rattle.std.proofs.Common.{◌≡◌, ◌++◌, ◌∷◌, flat_map, sym, ap, ◌∙◌, append_assoc, append-nil, rules}
-use Rattle.std.proofs.Output.{has_written_append, has_written_of_eq}
+use Rattle.std.proofs.Common.{◌≡◌, ◌++◌, ◌∷◌, flat_map, sym, ap, ◌∙◌, append_assoc, rules}
+use Rattle.std.proofs.Output.{has_written_append}
 use Rattle.connection_log.specs.Lines.{shown_byte}
 use Rattle.connection_log.proofs.lines.write_bytes.Goals as goal
 

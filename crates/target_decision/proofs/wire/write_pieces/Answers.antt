@@ -1,5 +1,5 @@
-use Rattle.std.proofs.Common.{◌≡◌, ◌∙◌, ◌∷◌, inl, inr, refl, arith}
-use Rattle.io_queue.proofs.Sending.{begins_sending, goes_on, room_left}
+use Rattle.std.proofs.Common.{inr}
+use Rattle.io_queue.proofs.Sending.{goes_on}
 use Rattle.admin_queue.specs.Controller.{controller_in}
 use Rattle.target_decision.specs.World.{world_in}
 use Rattle.target_decision.proofs.Pieces.{given_done, is_long, next_part}
