@@ -60,13 +60,19 @@ class Choice:
         return [it for it in left if it not in self.owed][: max(number, 0)]
 
 
-def of_promises(edits, landing):
-    """Returns the labels of the edits that stand for the main promises at this landing: one for each, in turn."""
-    found = {}
-    for it in edits:
-        if it.promise:
-            found.setdefault(it.promise, []).append(it.label())
-    return {sorted(same)[landing % len(same)] for same in found.values()}
+def of_promises(edits, landing, turns):
+    """Returns the labels of the edits that stand for the main promises at this landing: one for each, in turn, of few
+    crates, since a crate with one costs nearly what it does with all: first of those in `turns`, which are tried
+    anyway, and then of those with edits for the most promises that are left."""
+    left, found = [it for it in edits if it.promise], set()
+    while left:
+        promises = {name: {it.promise for it in left if it.crate == name} for name in sorted({it.crate for it in left})}
+        crate = max(promises, key=lambda it: (it in turns, len(promises[it])))
+        for promise in promises[crate]:
+            same = sorted(it.label() for it in left if it.crate == crate and it.promise == promise)
+            found.add(same[landing % len(same)])
+        left = [it for it in left if it.promise not in promises[crate]]
+    return found
 
 
 def in_turn(numbers, landing, one_in):
