@@ -3,6 +3,7 @@ use Rattle.std.proofs.Common.{◌≡◌, ℕ, zero, suc, ◌+◌, ◌-◌, ◌<�
 use Rattle.std.proofs.Math.Seq.{take-add, take-length, take-nil}
 use Rattle.std.proofs.lemmas.Bool.{both_ways, cases_lt, cases_Bool, leb-true, le-leb}
 use Rattle.std.proofs.lemmas.List.{length-take, length-take-le, take-append-drop, take-append-le}
+use Rattle.nvt_fields.specs.Field.{field_at}
 use Rattle.connection_log.specs.Reading.{none, behind, HasRead, IsInOrder, IsPdu, Reading, ReadsOn, at_first, is_whole, kept, next_pdu, pdu_len, read_on, with_bytes}
 
 pub pdu_len_least : (bytes : List ℕ) → 8 ≤ pdu_len bytes
@@ -11,7 +12,7 @@ pdu_len_least bytes = omega arith
 
 -- it is told by the first 8 bytes
 pdu_len-take_8 : (bytes : List ℕ) → 8 ≤ length bytes → pdu_len (take 8 bytes) ≡ pdu_len bytes
-unfolding pdu_len
+unfolding field_at pdu_len
 pdu_len-take_8 [] long = absurd (omega arith)
 pdu_len-take_8 (a ∷ []) long = absurd (omega arith)
 pdu_len-take_8 (a ∷ b ∷ []) long = absurd (omega arith)

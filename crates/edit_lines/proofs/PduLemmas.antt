@@ -34,6 +34,7 @@ which_front output =
 
 -- what follows the common header is no part of its PLEN
 plen-append : (s t : List ℕ) → 8 ≤ length s → field_at 4 4 (s ++ t) ≡ field_at 4 4 s
+unfolding field_at
 plen-append [] t long = absurd (omega arith)
 plen-append (a ∷ []) t long = absurd (omega arith)
 plen-append (a ∷ b ∷ []) t long = absurd (omega arith)

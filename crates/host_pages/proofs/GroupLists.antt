@@ -1,9 +1,12 @@
 -- Groups one after the other: the one in front, and those behind it.
-use Rattle.std.proofs.Common.{◌≡◌, ℕ, zero, suc, ◌+◌, ◌-◌, ◌<◌, ◌≤◌, true, false, List, [], ◌∷◌, length, map, drop, refl, sym, ap, ◌∙◌, arith, length-drop}
+use Rattle.std.proofs.Common.{◌≡◌, ℕ, zero, suc, ◌+◌, ◌-◌, ◌*◌, ◌<◌, ◌≤◌, true, false, List, [], ◌∷◌, length, map, take, drop, refl, sym, ap, ◌∙◌, arith, length-drop}
 use Rattle.std.proofs.lemmas.Bool.Decides.{nat_tests}
-use Rattle.std.proofs.lemmas.List.{drop-drop}
+use Rattle.std.proofs.lemmas.List.{drop-drop, drop-take, length-take-le}
 use Rattle.std.specs.List.{range_with_len}
-use Rattle.host_pages.specs.Group.{group_len}
+use Rattle.byteorder.specs.Endian.{little_number}
+use Rattle.byteorder.specs.Numbers.{little_from-take}
+use Rattle.nvt_fields.specs.Field.{field_at}
+use Rattle.host_pages.specs.Group.{IsGroup, group_len, nsid_count}
 use Rattle.host_pages.specs.Groups.{front_group, group_at, group_place, groups_in, holds_groups}
 
 -- ---- places
@@ -47,6 +50,20 @@ pub groups_in-more : (count : ℕ) (bytes : List ℕ) → 0 < count
 groups_in-more zero bytes some = absurd (omega (arith, some))
 groups_in-more (suc n) bytes some = let same : suc n - 1 ≡ n = omega arith in rw same (groups_in-suc n bytes)
 
+-- how many identifiers a group counts is seen in its first 8 bytes
+pub nsid_count-take : (m : ℕ) (bytes : List ℕ) → 8 ≤ m → nsid_count (take m bytes) ≡ nsid_count bytes
+unfolding field_at
+nsid_count-take m bytes enough =
+    let split : m ≡ 4 + (m - 4) = omega arith in
+    ap (λ k. nsid_count (take k bytes)) split
+    ∙ ap (little_number 4) (drop-take 4 (m - 4) bytes)
+    ∙ little_from-take 0 4 (m - 4) (drop 4 bytes) (omega arith)
+
+pub front_is_group : (bytes : List ℕ) → group_len bytes ≤ length bytes → IsGroup (front_group bytes)
+front_is_group bytes room =
+    let same = nsid_count-take (group_len bytes) bytes (omega arith) in
+    length-take-le (group_len bytes) bytes room ∙ ap (λ k. 32 + 4 * k) (sym same)
+
 -- ---- bytes that hold groups
 
 pub holds_groups-none : (bytes : List ℕ) → holds_groups 0 bytes ≡ true
@@ -79,4 +96,4 @@ holds_groups-short zero bytes some short = absurd (omega (arith, some))
 holds_groups-short (suc n) bytes some short =
     let place = group_place-behind bytes n in grind (arith, nat_tests, place)
 
-pub ruleset groups = (groups_in-none, groups_in-more, holds_groups-room, holds_groups-more)
+pub ruleset groups = (front_is_group, groups_in-none, groups_in-more, holds_groups-room, holds_groups-more)

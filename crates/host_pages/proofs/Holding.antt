@@ -13,7 +13,7 @@ use Rattle.host_pages.specs.declared.verdict.Verdict.TheVariants.{Ends, Fails, G
 use Rattle.host_pages.specs.Discover.{IsAsking, after, after_verdict, answers_left, asks}
 use Rattle.host_pages.specs.Reads.{header_read}
 use Rattle.host_pages.specs.Tries.{bytes_in}
-use Rattle.host_pages.specs.Verdict.{Given, IsBegun, IsHeaded, asked_of, header_fault, left_of, verdict}
+use Rattle.host_pages.specs.Verdict.{Given, IsBegun, IsHeaded, asked_of, answer_fault, left_of, verdict}
 use Rattle.host_pages.proofs.Verdicts.{first_goes, none_left_is_whole, records_goes, settles_by}
 
 -- the next read, by what is left
@@ -25,12 +25,13 @@ asked_none read none = let is : nat_lt 0 (left_of read) ≡ false = grind (arith
 
 -- a field of the front is the same in more
 pub field_at-append : (n at : ℕ) (read more : List ℕ) → at + n ≤ length read → field_at n at (read ++ more) ≡ field_at n at read
+unfolding field_at
 field_at-append n at read more within =
     ap (little_number n) (drop-append-le at read more (omega (arith, within)))
     ∙ little_from-append n (drop at read) more (omega (arith, within, length-drop at read))
 
 -- what a header is
-pub headed_from : (h : List ℕ) → header_fault h ≡ None → (length h ≡ 1024) × IsHeaded h
+pub headed_from : (h : List ℕ) → answer_fault h ≡ None → (length h ≡ 1024) × IsHeaded h
 headed_from h none =
     let len : length h ≡ 1024 = grind (arith, nat_tests, none) in
     let format : record_format h ≡ 0 = grind (arith, nat_tests, none) in

@@ -47,11 +47,11 @@ length-bytes_of p is =
     omega (arith, length-joined p.records is.each, length-append genctr (count ++ (zeros ++ records)), length-append count (zeros ++ records), length-append zeros records, length-replicate {A = ℕ} 1008 0)
 
 pub genctr-bytes_of : (p : Page) → IsPage p → genctr_of (bytes_of p) ≡ p.genctr
-unfolding bytes_of
+unfolding bytes_of field_at
 genctr-bytes_of p is = little_number-reads_back 8 p.genctr (to_le_bytes w64 (length p.records) ++ (replicate 1008 0 ++ joined p.records)) is.genctr
 
 pub count-bytes_of : (p : Page) → IsPage p → record_count (bytes_of p) ≡ length p.records
-unfolding bytes_of
+unfolding bytes_of field_at
 count-bytes_of p is =
     ap (little_number 8) (drop_at (to_le_bytes w64 p.genctr) (to_le_bytes w64 (length p.records) ++ (replicate 1008 0 ++ joined p.records)) 8 refl)
     ∙ little_number-reads_back 8 (length p.records) (replicate 1008 0 ++ joined p.records) is.count

@@ -9,6 +9,7 @@ use Rattle.std.proofs.lemmas.List.Concat.{flat_map-cons}
 use Rattle.std.proofs.lemmas.List.Elements.{All-head, All-tail}
 use Rattle.std.proofs.Math.Seq.{drop-append_seam}
 use Rattle.byteorder.specs.Numbers.{little_number-reads_back}
+use Rattle.nvt_fields.specs.Field.{field_at}
 use Rattle.host_pages.specs.Laws.{IsNsid, ListsAreReadBack, OverflowsAreTold, begins_with_all, list_of, overflow_of}
 use Rattle.host_pages.specs.NsList.{all_namespaces, is_overflowed, is_zero, listed_from}
 use Rattle.host_pages.specs.Numbers.{number_at, numbers_from}
@@ -20,7 +21,7 @@ number_in : List ℕ → ℕ
 number_in bytes = number_at bytes 0
 
 number_at-behind : (front rest : List ℕ) (n : ℕ) → length front ≡ 4 → number_at (front ++ rest) (suc n) ≡ number_at rest n
-unfolding number_in
+unfolding field_at number_in
 number_at-behind front rest n four =
     let place : suc n * 4 ≡ 4 + n * 4 = omega arith in
     let behind : drop 4 (front ++ rest) ≡ rest = ap (λ k. drop k (front ++ rest)) (sym four) ∙ drop-append_seam front rest in
@@ -38,9 +39,11 @@ abbrev listed : List ℕ → List ℕ
 listed bytes = listed_from bytes 0 (length bytes / 4)
 
 first_number : (nsid : ℕ) (rest : List ℕ) → nsid < 2 ^ 32 → number_at (to_le_bytes w32 nsid ++ rest) 0 ≡ nsid
+unfolding field_at
 first_number nsid rest within = little_number-reads_back 4 nsid rest within
 
 zero_number : (zeros : ℕ) → 4 ≤ zeros → number_at (replicate zeros 0) 0 ≡ 0
+unfolding field_at
 zero_number zeros some =
     let a = get_or-replicate {A = ℕ} zeros 0 0 0 (omega (arith, some)) in
     let b = get_or-replicate {A = ℕ} zeros 1 0 0 (omega (arith, some)) in

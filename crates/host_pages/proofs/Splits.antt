@@ -1,28 +1,13 @@
 -- The groups at the front of bytes, one after another, and that no others stand there.
 use Rattle.std.proofs.Common.{◌≡◌, ℕ, zero, suc, ◌+◌, ◌-◌, ◌*◌, ◌≤◌, All, true, List, [], ◌∷◌, ◌++◌, length, take, drop, refl, sym, ap, ◌∙◌, arith, append_assoc, length-append}
-use Rattle.std.proofs.lemmas.List.{drop-take, length-take-le, take-append-drop}
+use Rattle.std.proofs.lemmas.List.{take-append-drop}
 use Rattle.std.proofs.lemmas.List.Concat.{flat_map-cons}
 use Rattle.std.proofs.lemmas.List.Elements.{All-cons, All-head, All-nil, All-same, All-tail}
 use Rattle.std.proofs.Math.Seq.{drop-append_seam, take-append_seam}
-use Rattle.byteorder.specs.Numbers.{little_from-take}
-use Rattle.byteorder.specs.Endian.{little_number}
 use Rattle.host_pages.specs.Group.{IsGroup, group_len, nsid_count}
 use Rattle.host_pages.specs.Groups.{front_group, groups_in, holds_groups}
 use Rattle.host_pages.specs.Laws.{BeginsWith, GroupsAreTheSplit, joined}
-use Rattle.host_pages.proofs.GroupLists.{groups_in-more, groups_in-none, holds_groups-more, holds_groups-none, holds_groups-room}
-
--- how many identifiers a group counts is seen in its first 8 bytes
-nsid_count-take : (m : ℕ) (bytes : List ℕ) → 8 ≤ m → nsid_count (take m bytes) ≡ nsid_count bytes
-nsid_count-take m bytes enough =
-    let split : m ≡ 4 + (m - 4) = omega arith in
-    ap (λ k. nsid_count (take k bytes)) split
-    ∙ ap (little_number 4) (drop-take 4 (m - 4) bytes)
-    ∙ little_from-take 0 4 (m - 4) (drop 4 bytes) (omega arith)
-
-front_is_group : (bytes : List ℕ) → group_len bytes ≤ length bytes → IsGroup (front_group bytes)
-front_is_group bytes room =
-    let same = nsid_count-take (group_len bytes) bytes (omega arith) in
-    length-take-le (group_len bytes) bytes room ∙ ap (λ k. 32 + 4 * k) (sym same)
+use Rattle.host_pages.proofs.GroupLists.{front_is_group, groups_in-more, groups_in-none, holds_groups-more, holds_groups-none, holds_groups-room, nsid_count-take}
 
 -- what stands behind a group in front of it
 len_of_front : (group behind : List ℕ) → IsGroup group → group_len (group ++ behind) ≡ length group

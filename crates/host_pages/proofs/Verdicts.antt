@@ -7,7 +7,7 @@ use Rattle.host_pages.specs.declared.bad_page.BadPage.{BadPage}
 use Rattle.host_pages.specs.DiscoveryPage.{genctr_of, record_count, record_place}
 use Rattle.host_pages.specs.declared.verdict.Verdict.{Verdict}
 use Rattle.host_pages.specs.declared.verdict.Verdict.TheVariants.{GoesOn, Settles}
-use Rattle.host_pages.specs.Verdict.{Given, are_alike, compared, header_by, header_fault, header_verdict, is_past_end, left_of, records_verdict, verdict}
+use Rattle.host_pages.specs.Verdict.{Given, are_alike, compared, header_by, answer_fault, header_verdict, is_past_end, left_of, records_verdict, verdict}
 
 -- ---- what a verdict says of the answer
 
@@ -42,11 +42,11 @@ records_go len (Err s) is =
     ]
 
 -- of a header
-header_goes : (read : List ℕ) (a : Given) → header_verdict read a ≡ GoesOn → (h : List ℕ) × (a ≡ Ok h) × (header_fault h ≡ None) × (read ≡ [])
+header_goes : (read : List ℕ) (a : Given) → header_verdict read a ≡ GoesOn → (h : List ℕ) × (a ≡ Ok h) × (answer_fault h ≡ None) × (read ≡ [])
 header_goes read (Err s) is = absurd (false≢true (ap is_on is))
-header_goes read (Ok h) is = by_fault (header_fault h) refl is
+header_goes read (Ok h) is = by_fault (answer_fault h) refl is
   where
-    by_read : (r : List ℕ) → r ≡ read → header_fault h ≡ None → compared r h ≡ GoesOn → (x : List ℕ) × (◌≡◌ {A = Given} (Ok h) (Ok x)) × (header_fault x ≡ None) × (read ≡ [])
+    by_read : (r : List ℕ) → r ≡ read → answer_fault h ≡ None → compared r h ≡ GoesOn → (x : List ℕ) × (◌≡◌ {A = Given} (Ok h) (Ok x)) × (answer_fault x ≡ None) × (read ≡ [])
     by_read [] same none goes = (h, refl, none, sym same)
     by_read (b ∷ r) same none goes =
         elim (cases_Bool (are_alike (b ∷ r) h)) [
@@ -54,7 +54,7 @@ header_goes read (Ok h) is = by_fault (header_fault h) refl is
           | inr apart ↦ absurd (false≢true (ap is_on (rw apart at goes)))
         ]
 
-    by_fault : (f : Option BadPage) → header_fault h ≡ f → header_by f read h ≡ GoesOn → (x : List ℕ) × (◌≡◌ {A = Given} (Ok h) (Ok x)) × (header_fault x ≡ None) × (read ≡ [])
+    by_fault : (f : Option BadPage) → answer_fault h ≡ f → header_by f read h ≡ GoesOn → (x : List ℕ) × (◌≡◌ {A = Given} (Ok h) (Ok x)) × (answer_fault x ≡ None) × (read ≡ [])
     by_fault None none goes = by_read read refl none goes
     by_fault (Some f) some goes = absurd (false≢true (ap is_on goes))
 
@@ -65,7 +65,7 @@ of_records read a some = let is : nat_lt 0 (left_of read) ≡ true = grind (arit
 of_header : (read : List ℕ) (a : Given) → left_of read ≡ 0 → verdict read a ≡ header_verdict read a
 of_header read a none = let is : nat_lt 0 (left_of read) ≡ false = grind (arith, nat_tests, none) in rw is refl
 
-pub first_goes : (a : Given) → verdict [] a ≡ GoesOn → (h : List ℕ) × (a ≡ Ok h) × (header_fault h ≡ None)
+pub first_goes : (a : Given) → verdict [] a ≡ GoesOn → (h : List ℕ) × (a ≡ Ok h) × (answer_fault h ≡ None)
 first_goes a is = let found = header_goes [] a is in (found.0, found.1, found.2)
 
 pub records_goes : (read : List ℕ) (a : Given) → 0 < length read → verdict read a ≡ GoesOn → Records read a
@@ -82,12 +82,12 @@ records_goes read a some is =
     ]
 
 -- .. that settles: nothing was left of the page, whose header came before
-of_settling : (read : List ℕ) (a : Given) → header_verdict read a ≡ Settles → (h : List ℕ) × (a ≡ Ok h) × (header_fault h ≡ None) × (read ≢ []) × (are_alike read h ≡ true)
+of_settling : (read : List ℕ) (a : Given) → header_verdict read a ≡ Settles → (h : List ℕ) × (a ≡ Ok h) × (answer_fault h ≡ None) × (read ≢ []) × (are_alike read h ≡ true)
 of_settling read (Err s) is = absurd (false≢true (ap is_settled is))
-of_settling read (Ok h) is = by_fault (header_fault h) refl is
+of_settling read (Ok h) is = by_fault (answer_fault h) refl is
   where
-    by_read : (r : List ℕ) → r ≡ read → header_fault h ≡ None → compared r h ≡ Settles
-        → (x : List ℕ) × (◌≡◌ {A = Given} (Ok h) (Ok x)) × (header_fault x ≡ None) × (read ≢ []) × (are_alike read x ≡ true)
+    by_read : (r : List ℕ) → r ≡ read → answer_fault h ≡ None → compared r h ≡ Settles
+        → (x : List ℕ) × (◌≡◌ {A = Given} (Ok h) (Ok x)) × (answer_fault x ≡ None) × (read ≢ []) × (are_alike read x ≡ true)
     by_read [] same none settles = absurd (false≢true (ap is_settled settles))
     by_read (b ∷ r) same none settles =
         let some : read ≢ [] = λ empty. let long = ap length (same ∙ empty) in absurd (omega (arith, long)) in
@@ -96,8 +96,8 @@ of_settling read (Ok h) is = by_fault (header_fault h) refl is
           | inr apart ↦ absurd (false≢true (ap is_settled (rw apart at settles)))
         ]
 
-    by_fault : (f : Option BadPage) → header_fault h ≡ f → header_by f read h ≡ Settles
-        → (x : List ℕ) × (◌≡◌ {A = Given} (Ok h) (Ok x)) × (header_fault x ≡ None) × (read ≢ []) × (are_alike read x ≡ true)
+    by_fault : (f : Option BadPage) → answer_fault h ≡ f → header_by f read h ≡ Settles
+        → (x : List ℕ) × (◌≡◌ {A = Given} (Ok h) (Ok x)) × (answer_fault x ≡ None) × (read ≢ []) × (are_alike read x ≡ true)
     by_fault None none settles = by_read read refl none settles
     by_fault (Some f) some settles = absurd (false≢true (ap is_settled settles))
 
@@ -116,7 +116,7 @@ records_unsettled len (Err s) is =
 pub record Settling (read : List ℕ) (a : Given) : Type 0 where
   pub header : List ℕ
   pub is : a ≡ Ok header
-  pub sound : header_fault header ≡ None
+  pub sound : answer_fault header ≡ None
   pub some : read ≢ []
   pub alike : are_alike read header ≡ true
   pub none_left : left_of read ≡ 0

@@ -37,13 +37,16 @@ records_of page = records_from page 0 (record_count page)
 
 -- ---- what is a page
 
--- what is wrong with bytes first, if they are no page: they are shorter than the records that they count, these have
--- another format than 0, or are more than 1,024
+-- what is wrong with a header first: it is of another format than 0, or counts more than 1,024 records
+abbrev pub header_fault : List ℕ → Option BadPage
+header_fault header =
+    if not (record_format header == 0) then Some OtherFormat else
+    if nat_lt 1024 (record_count header) then Some TooManyRecords else None
+
+-- what is wrong with bytes first, if they are no page: they are shorter than the records that they count, or have such
+-- a header
 abbrev pub fault_of : List ℕ → Option BadPage
-fault_of bytes =
-    if nat_lt (length bytes) (record_place (record_count bytes)) then Some TooShort else
-    if not (record_format bytes == 0) then Some OtherFormat else
-    if nat_lt 1024 (record_count bytes) then Some TooManyRecords else None
+fault_of bytes = if nat_lt (length bytes) (record_place (record_count bytes)) then Some TooShort else header_fault bytes
 
 abbrev pub IsDiscoveryPage : List ℕ → Type 0
 IsDiscoveryPage page = fault_of page ≡ None

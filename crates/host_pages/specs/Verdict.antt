@@ -4,7 +4,7 @@ use Rattle.std.specs.Borrow.{Bor}
 use Rattle.nvt_fields.specs.declared.status.Status.{Status}
 use Rattle.host_pages.specs.declared.bad_page.BadPage.{BadPage}
 use Rattle.host_pages.specs.declared.bad_page.BadPage.TheVariants as bad
-use Rattle.host_pages.specs.DiscoveryPage.{genctr_of, record_count, record_format, record_place}
+use Rattle.host_pages.specs.DiscoveryPage.{genctr_of, header_fault, record_count, record_format, record_place}
 use Rattle.host_pages.specs.declared.fault.DiscoverFault.TheVariants.{BadPage as bad_page, Refused}
 use Rattle.host_pages.specs.declared.get_log.GetLog.{GetLog}
 use Rattle.host_pages.specs.declared.verdict.Verdict.{Verdict}
@@ -54,11 +54,8 @@ records_verdict len (Err s) = if is_past_end s then Fails else Ends (Refused s)
 -- ---- headers
 
 -- what is wrong with bytes first, if they are no header
-abbrev pub header_fault : List ℕ → Option BadPage
-header_fault bytes =
-    if not (length bytes == 1024) then Some bad.OtherLength else
-    if not (record_format bytes == 0) then Some bad.OtherFormat else
-    if nat_lt 1024 (record_count bytes) then Some bad.TooManyRecords else None
+abbrev pub answer_fault : List ℕ → Option BadPage
+answer_fault bytes = if not (length bytes == 1024) then Some bad.OtherLength else header_fault bytes
 
 -- by `pages_are_of_one_moment` the records that were read between two such headers are of one moment
 abbrev pub are_alike : List ℕ → List ℕ → Bool
@@ -75,7 +72,7 @@ header_by None read header = compared read header
 
 -- no page ends before its header, so that each refusal of a header ends the reading
 abbrev pub header_verdict : List ℕ → Given → Verdict
-header_verdict read (Ok header) = header_by (header_fault header) read header
+header_verdict read (Ok header) = header_by (answer_fault header) read header
 header_verdict read (Err s) = Ends (Refused s)
 
 -- ---- either

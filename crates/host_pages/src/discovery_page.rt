@@ -1,7 +1,7 @@
 //! The discovery log page.
-ghost use Rattle.std.specs.Prelude.{◌≡◌, MatchOption};
+ghost use Rattle.std.specs.Prelude.{◌≡◌, ◌≤◌, MatchOption, length, nat_lt, not};
 ghost use Rattle.std.specs.Iterator.{YieldsFirst, item_count};
-ghost use Rattle.host_pages.specs.DiscoveryPage.{fault_of, genctr_of, record_count, records_of};
+ghost use Rattle.host_pages.specs.DiscoveryPage.{fault_of, genctr_of, header_fault, record_count, record_place, records_of};
 
 use crate::bad_page::BadPage;
 use crate::record::DiscoveryRecord;
@@ -77,18 +77,29 @@ impl<'a> DiscoveryPage<'a> {
 fn fault_of(bytes: &[u8]) -> Option<BadPage>
     ensures { result ≡ fault_of bytes.now }
 {
-    if bytes.len() < PART_LEN {
+    if bytes.len() < PART_LEN || !holds_records(bytes.len(), u64_at(bytes, 8)) {
         return Some(BadPage::TooShort);
     }
-    let count = u64_at(bytes, 8);
-    let room = bytes.len() / PART_LEN - 1;
-    if count > room as u64 {
-        return Some(BadPage::TooShort);
-    }
-    if u16_at(bytes, 16) != 0 {
+    header_fault(bytes)
+}
+
+// Whether so many bytes, a header at least, have room for so many records.
+fn holds_records(len: usize, count: u64) -> bool
+    requires { 1024 ≤ len }
+    ensures { result ≡ not (nat_lt len (record_place count)) }
+{
+    count <= (len / PART_LEN - 1) as u64
+}
+
+/// What is wrong with a header first, if anything.
+pub(crate) fn header_fault(header: &[u8]) -> Option<BadPage>
+    requires { 18 ≤ length header.now }
+    ensures { result ≡ header_fault header.now }
+{
+    if u16_at(header, 16) != 0 {
         return Some(BadPage::OtherFormat);
     }
-    if count > RECORDS_MAX {
+    if u64_at(header, 8) > RECORDS_MAX {
         return Some(BadPage::TooManyRecords);
     }
     None

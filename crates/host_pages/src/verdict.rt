@@ -1,20 +1,18 @@
 //! What an answer makes of a try.
 ghost use Rattle.std.specs.Prelude.{◌≡◌, ◌≤◌, Ok, length};
-ghost use Rattle.host_pages.specs.Verdict.{IsBegun, are_alike, asked_of, given, header_fault, header_verdict, is_past_end, left_of, records_verdict, verdict};
+ghost use Rattle.host_pages.specs.Verdict.{IsBegun, answer_fault, are_alike, asked_of, given, header_verdict, is_past_end, left_of, records_verdict, verdict};
 
 use crate::BadPage;
+use crate::discovery_page::header_fault;
 use crate::fault::DiscoverFault;
 use crate::get_log::GetLog;
-use nvt_fields::{Status, u16_at, u64_at};
+use nvt_fields::{Status, u64_at};
 
 /// The length of the header, and that of each record, in bytes.
 const PART_LEN: usize = 1024;
 
 /// The most that is read of the records at a time, in bytes.
 const READ_LEN: usize = 32_768;
-
-/// The most records of a page that is read.
-const RECORDS_MAX: u64 = 1024;
 
 /// What an answer makes of the try whose read it answers.
 #[derive(Clone, Copy, Debug, PartialEq, Eq)]
@@ -95,7 +93,7 @@ fn header_verdict(read: &[u8], header: &[u8]) -> Verdict
     requires { IsBegun read.now }
     ensures { result ≡ header_verdict read.now (Ok header.now) }
 {
-    match header_fault(header) {
+    match answer_fault(header) {
         Some(fault) => Verdict::Ends(DiscoverFault::BadPage(fault)),
         None if read.is_empty() => Verdict::GoesOn,
         None if are_alike(read, header) => Verdict::Settles,
@@ -104,19 +102,13 @@ fn header_verdict(read: &[u8], header: &[u8]) -> Verdict
 }
 
 // What is wrong with the bytes first, if they are no header.
-fn header_fault(header: &[u8]) -> Option<BadPage>
-    ensures { result ≡ header_fault header.now }
+fn answer_fault(header: &[u8]) -> Option<BadPage>
+    ensures { result ≡ answer_fault header.now }
 {
     if header.len() != PART_LEN {
         return Some(BadPage::OtherLength);
     }
-    if u16_at(header, 16) != 0 {
-        return Some(BadPage::OtherFormat);
-    }
-    if u64_at(header, 8) > RECORDS_MAX {
-        return Some(BadPage::TooManyRecords);
-    }
-    None
+    header_fault(header)
 }
 
 // Whether GENCTR and NUMREC are the same in both.

@@ -25,6 +25,7 @@ use Rattle.identify_data.proofs.Found.{fields_are_found, subnqn_fits}
 
 -- a number that stands at a place
 number_at : (n offset x : ℕ) (structure : List ℕ) → x < 256 ^ n → take n (drop offset structure) ≡ bytes_low_first 0 n x → field_at n offset structure ≡ x
+unfolding field_at
 number_at n offset x structure small stands =
     ap (little_number n) (sym (take-append-drop n (drop offset structure)) ∙ ap (λ (b : List ℕ). b ++ drop n (drop offset structure)) stands)
     ∙ little_number-reads_back n x (drop n (drop offset structure)) small

@@ -3,7 +3,7 @@ use Rattle.std.specs.Prelude.{ℕ, ◌-◌, List, ◌++◌, length, drop, replic
 use Rattle.byteorder.specs.Endian.{little_number}
 
 -- the number in n bytes from place at, the lowest byte first (Base 2.0, section 1.4)
-abbrev pub field_at : ℕ → ℕ → List ℕ → ℕ
+unfoldable pub field_at : ℕ → ℕ → List ℕ → ℕ
 field_at n at bytes = little_number n (drop at bytes)
 
 -- the text, and as many bytes after it as the field's length wants

@@ -4,7 +4,7 @@ use Rattle.std.proofs.lemmas.List.{drop_at, take_at, length-replicate}
 use Rattle.std.specs.Int.{w16, to_le_bytes}
 use Rattle.byteorder.specs.Endian.{little_number}
 use Rattle.byteorder.specs.Numbers.{little_number-reads_back}
-use Rattle.nvt_fields.specs.Field.{padded}
+use Rattle.nvt_fields.specs.Field.{field_at, padded}
 use Rattle.pdu_codec.specs.Laws.{ConnectDataAreReadBack}
 use Rattle.pdu_codec.proofs.ConnectWritten.{length-padded}
 
@@ -39,6 +39,7 @@ parts_back hostid zeros sub host back cntlid l_hostid fits l_zeros l_sub l_host 
     )
 
 pub connect_data_back : ConnectDataAreReadBack
+unfolding field_at
 connect_data_back hostid cntlid subnqn hostnqn l_hostid fits short_sub short_host =
     let parts = parts_back hostid (replicate 238 0) (padded 256 0 subnqn) (padded 256 0 hostnqn) (replicate 256 0) cntlid l_hostid fits (length-replicate {A = ℕ} 238 0) (length-padded 256 subnqn short_sub) (length-padded 256 hostnqn short_host) (length-replicate {A = ℕ} 256 0) in
     record { len = parts.0; host = parts.1; controller = parts.2; subsystem_name = parts.3; host_name = parts.4 }

@@ -23,12 +23,15 @@ use Rattle.pdu_codec.specs.TermReq.{h2c_term_req}
 use Rattle.pdu_codec.proofs.NextMultiple.{next-is_multiple, next-near}
 
 two_back : (x : ℕ) (rest : List ℕ) → x < 2 ^ 16 → field_at 2 0 (to_le_bytes w16 x ++ rest) ≡ x
+unfolding field_at
 two_back x rest fits = little_number-reads_back 2 x rest fits
 
 four_back : (x : ℕ) (rest : List ℕ) → x < 2 ^ 32 → field_at 4 0 (to_le_bytes w32 x ++ rest) ≡ x
+unfolding field_at
 four_back x rest fits = little_number-reads_back 4 x rest fits
 
 pub requests_back : RequestsAreReadBack
+unfolding field_at
 requests_back r pfv maxr2t = record {
   request = rw (two_back r.pfv (drop 10 (ic_req r)) pfv, four_back r.maxr2t (drop 16 (ic_req r)) maxr2t) refl;
   len = refl;
@@ -36,6 +39,7 @@ requests_back r pfv maxr2t = record {
 }
 
 pub terminations_back : TerminationsAreReadBack
+unfolding field_at
 terminations_back fes fei head f i short =
     let bytes = h2c_term_req fes fei head in
     let whole : length bytes ≡ 24 + length head = omega arith in
@@ -49,6 +53,7 @@ terminations_back fes fei head f i short =
 -- ---- commands
 
 sgl_back : (sgl : DataSgl) → sgl_len sgl < 2 ^ 32 → sgl_of (data_descriptor sgl) ≡ sgl_named sgl
+unfolding field_at
 sgl_back NoData fits = refl
 sgl_back (InCapsule len) fits =
     ap (λ (n : ℕ). sgl_named (InCapsule n)) (four_back len (0 ∷ 0 ∷ 0 ∷ 1 ∷ []) fits)
@@ -56,6 +61,7 @@ sgl_back (Transport len) fits =
     ap (λ (n : ℕ). sgl_named (Transport n)) (four_back len (0 ∷ 0 ∷ 0 ∷ 90 ∷ []) fits)
 
 pub entries_back : EntriesAreReadBack
+unfolding field_at
 entries_back s f =
     let entry = sqe_entry s in
     record {
@@ -75,9 +81,11 @@ entries_back s f =
     }
 
 low_half : (a b : ℕ) (rest : List ℕ) → a < 2 ^ 16 → b < 2 ^ 16 → field_at 2 0 (to_le_bytes w32 (a + 2 ^ 16 * b) ++ rest) ≡ a
+unfolding field_at
 low_half a b rest low high = omega arith
 
 high_half : (a b : ℕ) (rest : List ℕ) → a < 2 ^ 16 → b < 2 ^ 16 → field_at 2 2 (to_le_bytes w32 (a + 2 ^ 16 * b) ++ rest) ≡ b
+unfolding field_at
 high_half a b rest low high = omega arith
 
 third_byte : (a b : ℕ) (rest : List ℕ) → a < 2 ^ 16 → b < 2 ^ 8 → slice_index (to_le_bytes w32 (a + 2 ^ 16 * b) ++ rest) 2 ≡ b
@@ -88,6 +96,7 @@ connect_made : {a b c d e f g h i j : ℕ} → a ≡ f → b ≡ g → c ≡ h �
 connect_made v w x y z = cc
 
 pub connects_back : ConnectsAreReadBack
+unfolding field_at
 connects_back c s f dwords =
     let entry = sqe_entry (record s { cdw = connect_dwords c }) in
     let size : c.cattr < 2 ^ 16 = omega (arith, f.cattr) in
@@ -105,6 +114,7 @@ front_len head n pdo e after =
 
 with_data_back : (sqe : SqeFields) (cpda byte : ℕ) (payload : List ℕ) → cpda ≤ 31 → length (byte ∷ payload) + 200 < 2 ^ 32
     → IsCapsuleOf sqe cpda (byte ∷ payload) (capsule_with_data sqe cpda (byte ∷ payload))
+unfolding field_at
 with_data_back sqe cpda byte payload small short =
     let all = byte ∷ payload in
     let pdo = capsule_data_offset cpda in
@@ -128,6 +138,7 @@ with_data_back sqe cpda byte payload small short =
     }
 
 pub capsules_back : CapsulesAreReadBack
+unfolding field_at
 capsules_back sqe cpda [] small short = record {
   entry = refl;
   plen = refl;
@@ -157,6 +168,7 @@ head_made : {a b c d e f g h : ℕ} {p q r s : Bool} → a ≡ e → b ≡ f →
 head_made w x y z last success = cc
 
 pub data_back : DataAreReadBack
+unfolding field_at
 data_back s f =
     let pdo = data_offset s.cpda in
     let bytes = h2c_data s in

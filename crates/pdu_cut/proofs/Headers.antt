@@ -2,6 +2,7 @@
 use Rattle.std.proofs.Common.{◌≡◌, ℕ, ◌≤◌, Bool, true, false, cond, not, ◌==◌, ◌||◌, ◌&&◌, nat_lt, bit_and, List, [], ◌∷◌, ◌++◌, length, take, drop, Option, Some, None, Ok, Err, refl, sym, ap, subst, ◌∙◌, arith, lit≤}
 use Rattle.std.proofs.lemmas.Bool.Decides.{nat_tests}
 use Rattle.std.proofs.lemmas.List.{take-append-drop, length-take-le}
+use Rattle.nvt_fields.specs.Field.{field_at}
 use Rattle.nvt_fields.specs.declared.pdu_type.PduType.{PduType}
 use Rattle.nvt_fields.specs.declared.pdu_type.PduType.TheVariants.{IcReq, IcResp, H2cTermReq, C2hTermReq, CapsuleCmd, CapsuleResp, H2cData, C2hData, R2t}
 use Rattle.pdu_cut.specs.declared.side.Side.{Side}
@@ -120,6 +121,7 @@ data_within side pdu h = rw h.len (data_within_by pdu.kind (header_of pdu.bytes)
 
 -- what follows 8 bytes is no part of the common header
 pub header_of-append : (s t : List ℕ) → 8 ≤ length s → header_of (s ++ t) ≡ header_of s
+unfolding field_at
 header_of-append [] t h = absurd (omega arith)
 header_of-append (a ∷ []) t h = absurd (omega arith)
 header_of-append (a ∷ b ∷ []) t h = absurd (omega arith)

@@ -9,7 +9,7 @@ four_more : (n : ℕ) → 4 * suc n ≡ suc (suc (suc (suc (4 * n))))
 four_more n = omega arith
 
 pub dwords_take : (n : ℕ) (bytes : List ℕ) → dwords (take (4 * n) bytes) ≡ take n (dwords bytes)
-unfolding dwords
+unfolding field_at dwords
 dwords_take zero bytes = refl
 dwords_take (suc n) [] = rw (four_more n) refl
 dwords_take (suc n) (a ∷ []) = rw (four_more n) refl

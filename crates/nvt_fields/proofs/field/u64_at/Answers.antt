@@ -1,0 +1,10 @@
+use Rattle.std.proofs.Common.{arith, drop, length, ◌-◌, ◌∙◌}
+use Rattle.byteorder.specs.Numbers.{little_from-take}
+use Rattle.nvt_fields.specs.Field.{field_at}
+use Rattle.nvt_fields.proofs.field.u64_at.Goals as goal
+
+pub returns : goal.returns
+unfolding field_at
+returns c =
+    let bytes = c.args.bytes.now in
+    c.read_u64.ensures ∙ little_from-take 0 8 (length bytes - c.args.at) (drop c.args.at bytes) (omega (arith, c.requires))
