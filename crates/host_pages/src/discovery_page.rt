@@ -9,7 +9,7 @@ use nvt_fields::{u16_at, u64_at};
 use std::marker::Model;
 
 /// The length of the header, and that of each record, in bytes.
-const PART_LEN: usize = 1024;
+pub(crate) const PART_LEN: usize = 1024;
 
 /// The most records of a page that is read.
 const RECORDS_MAX: u64 = 1024;

@@ -3,13 +3,10 @@ ghost use Rattle.std.specs.Prelude.{◌≡◌, ◌≤◌, Ok, length};
 ghost use Rattle.host_pages.specs.Verdict.{IsBegun, answer_fault, are_alike, asked_of, given, header_verdict, is_past_end, left_of, records_verdict, verdict};
 
 use crate::BadPage;
-use crate::discovery_page::header_fault;
+use crate::discovery_page::{PART_LEN, header_fault};
 use crate::fault::DiscoverFault;
 use crate::get_log::GetLog;
 use nvt_fields::{Status, u64_at};
-
-/// The length of the header, and that of each record, in bytes.
-const PART_LEN: usize = 1024;
 
 /// The most that is read of the records at a time, in bytes.
 const READ_LEN: usize = 32_768;
