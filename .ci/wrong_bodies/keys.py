@@ -10,6 +10,7 @@ import hashlib
 import os
 import re
 import subprocess
+from functools import lru_cache
 
 from checks import PARTS, compiled
 from edits import edited_texts
@@ -103,8 +104,14 @@ class Keys:
 
     def constants(self, crate, words):
         """Returns the constants of these names, of the crate and of those below it."""
-        texts = [text for name in [*crate.below, crate.name] for text in self.crates[name].sources().values()]
-        return sorted(it[0].strip() for text in texts for it in CONST.finditer(text) if it[1] in words)
+        told = (it for name in [*crate.below, crate.name] for it in self.constants_of(name))
+        return sorted(text for name, text in told if name in words)
+
+    @lru_cache(maxsize=None)
+    def constants_of(self, crate):
+        """Returns the name and the text of each constant of a crate."""
+        texts = self.crates[crate].sources().values()
+        return [(it[1], it[0].strip()) for text in texts for it in CONST.finditer(text)]
 
     def paths_of(self, function, crate):
         """Returns the paths of the function's modules and of those of the closures in it."""

@@ -4,6 +4,7 @@ import hashlib
 import json
 import os
 import re
+from functools import lru_cache
 
 PARTS = ("specs", "proofs")
 KIND = re.compile(rb'\{"(\w+)"')
@@ -53,6 +54,7 @@ class Made:
         text = self.bytes[start : start + length].decode()
         return told(text) if self.kind(name) in OF_TYPES else text
 
+    @lru_cache(maxsize=None)
     def sum(self, name):
         return sum_of(self.text(name)) if self.kind(name) in OF_TYPES else self.sums[name]
 

@@ -37,7 +37,7 @@ class Reach:
         # By the name of a library, a call that reads what was made of it.
         self.made_of = made_of
         names = "|".join(sorted(made_of, key=len, reverse=True))
-        self.symbol = re.compile(rf"(?<![\w:])({names})((?:::[\w+]+)+)")
+        self.symbol = re.compile(r"(?<![\w:])(\w+)((?:::[\w+]+)+)")
         self.module = re.compile(rf"Rattle[-.](?:\w+\.below\.)?({names})[-.](specs|proofs)((?:\.[\w+]+)*)")
         self.named = {}
 
@@ -78,7 +78,8 @@ class Reach:
         """Returns the nodes that a text names."""
         found = set()
         for crate, path in {*self.symbol.findall(text)}:
-            found |= self.interface(crate, path[2:].replace("::", "/"))
+            if crate in self.made_of:
+                found |= self.interface(crate, path[2:].replace("::", "/"))
         for crate, part, path in {*self.module.findall(text)}:
             found |= self.imported(crate, part + path.replace(".", "/"))
         return found
@@ -92,8 +93,14 @@ class Reach:
 
     def cycles(self, crate, path):
         """Returns where the proof stands that a function shares with those that it calls in turn, or with itself."""
-        made, symbol = self.made(crate), f'"{crate}::{path.replace("/", "::")}"'
-        return [f"{it}/" for it in made.places if made.kind(it) == "Cycle" and symbol in made.text(it)]
+        symbol = f'"{crate}::{path.replace("/", "::")}"'
+        return [f"{name}/" for name, text in self.cycles_of(crate) if symbol in text]
+
+    @lru_cache(maxsize=None)
+    def cycles_of(self, crate):
+        """Returns the path and the text of each module that says which functions share a proof."""
+        made = self.made(crate)
+        return [(it, made.text(it)) for it in made.places if made.kind(it) == "Cycle"]
 
     def all_of(self, crate):
         """Returns all modules and files of a library."""
