@@ -33,7 +33,7 @@ class HostCase(Case):
         self.steps = steps_of(files.get("SCRIPT", b""), parts)
         # Most of a case's time is that of its pauses.
         self.has_turns = TURNS in self.words
-        self.stage, self.tries = ((2, 6), 8) if self.has_turns else ((1, 16), 1)
+        self.stage, self.tries = ((2, 6), 8) if self.has_turns else ((1, 6), 1)
 
     def ways(self):
         """How it is run, by the name of the way: the size of the pieces that the host receives."""

@@ -106,7 +106,7 @@ def cut(stream, size):
     """STREAM with each well-formed line `rx K HEX` as lines of so many digits."""
 
     def pieces(line):
-        return b"\n".join(line[1] + line[2][at : at + size] for at in range(0, len(line[2]), size))
+        return line[1] + (b"\n" + line[1]).join(re.findall(b".{1,%d}" % size, line[2]))
 
     return RECEIVE.sub(pieces, stream)
 

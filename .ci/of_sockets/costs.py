@@ -17,20 +17,35 @@ GIVEN_UP_AFTER = 29
 
 def idle_share(target):
     """The share of a processor that it takes while nothing comes."""
+    [share] = idle_shares(target)
+    return share
+
+
+def idle_shares(*targets):
+    """The share of a processor that each takes while nothing comes, in the same two seconds."""
     time.sleep(0.3)
-    before = target.processor_time()
+    before = [it.processor_time() for it in targets]
     time.sleep(2)
-    return (target.processor_time() - before) / 2
+    return [(it.processor_time() - taken) / 2 for it, taken in zip(targets, before)]
 
 
 @on_one_port
 def idle_hosts_cost_little(target, port):
     hosts = [Queue(target, port) for _ in range(8)]
-    share = idle_share(target)
-    check(share < 0.05, f"8 idle connections take {share:.1%} of a processor")
+    check_idle(target, 8, 0.05)
     hosts += [target.connect(port) for _ in range(56)]
-    share = idle_share(target)
-    check(share < 0.1, f"64 idle connections take {share:.1%} of a processor")
+    check_idle(target, 64, 0.1)
+
+
+def check_idle(target, count, most):
+    """So many idle connections take less of a processor. Other work makes it slower now and then, so the best of some
+    looks counts."""
+    shares = []
+    for _ in range(3):
+        shares.append(idle_share(target))
+        if shares[-1] < most:
+            return
+    check(False, f"{count} idle connections take {min(shares):.1%} of a processor")
 
 
 @on_one_port
@@ -84,16 +99,15 @@ def send_back(peer):
 
 
 def unread_output_costs_little(program):
-    idle, delay = what_idle_connections_cost(program)
-    [port] = free_ports(1)
-    with Served(program, one_disk(port), options=("--disks", "1")) as target:
-        *deaf, io = queues_of_many(target, port, 64, each=8, **SMALL)
+    with serving(program) as (idle, hosts), serving(program, **SMALL) as (target, others):
+        delay = min(delay_after(lambda: hosts[-1].read(0, 8), 0.2) for _ in range(10))
+        *deaf, io = others
         asked = time.monotonic()
         for queue in deaf:
             ask_for_much(queue)
         time.sleep(1.5)
         until_nothing_moves(queue.peer for queue in deaf)
-        check_share(target, idle + 0.01)
+        check_share(target, idle, 0.01, 1 / 5)
         check_is_soon(io, delay + 0.003, 0.2)
         # After half a minute without taking a byte they are given up.
         check(time.monotonic() < asked + GIVEN_UP_AFTER, "it was looked at for too long")
@@ -101,22 +115,22 @@ def unread_output_costs_little(program):
         check(all(is_held(far_place(queue.peer), found) for queue in deaf), "a connection ended too soon")
 
 
-def what_idle_connections_cost(program):
-    """The share of a processor that 64 idle connections take, and the delay of a Read after silence."""
+@contextlib.contextmanager
+def serving(program, **room):
+    """A target, and 64 connections to it."""
     [port] = free_ports(1)
     with Served(program, one_disk(port), options=("--disks", "1")) as target:
-        hosts = queues_of_many(target, port, 64, each=8)
-        idle = min(idle_share(target) for _ in range(2))
-        return idle, min(delay_after(lambda: hosts[-1].read(0, 8), 0.2) for _ in range(10))
+        yield target, queues_of_many(target, port, 64, each=8, **room)
 
 
-def check_share(target, most):
-    shares = []
+def check_share(target, idle, more, part):
+    """It takes at most so much more of a processor than an idle one beside it; or, where the machine is slow, by so large
+    a part of what that takes. What else runs there takes from both."""
     for _ in range(3):
-        shares.append(idle_share(target))
-        if shares[-1] <= most:
+        share, most = idle_shares(target, idle)
+        if share <= most + max(more, part * most):
             return
-    check(False, f"63 with unread output take {min(shares):.1%} of a processor, more than {most:.1%}")
+    check(False, f"63 with unread output take {share:.1%} of a processor, 64 idle ones {most:.1%}")
 
 
 @on_one_port

@@ -15,6 +15,8 @@ SECONDS = 10
 NQN = b"nqn.2026-01.test:a"
 # What a segment has on Ethernet.
 ETHERNET = 1448
+# Of the clocks of a process, that of the time for which it had a processor.
+PROCESS_CLOCK = 2
 # The first port that is given, and the one that follows the last: below those that a system gives out by itself.
 PORTS = 10_000, 32_768
 
@@ -163,8 +165,8 @@ class Served:
 
     def processor_time(self):
         """The seconds of processor time that it took so far."""
-        fields = Path(f"/proc/{self.process.pid}/stat").read_text().rsplit(")", 1)[1].split()
-        return (int(fields[11]) + int(fields[12])) / os.sysconf("SC_CLK_TCK")
+        # The clock of another process: that of its ticks is too coarse for one that takes a hundredth of a processor.
+        return time.clock_gettime(~self.process.pid << 3 | PROCESS_CLOCK)
 
     def memory(self):
         """The bytes of memory that it has in use."""
