@@ -1,4 +1,4 @@
-"""A copy of the kit, of links, for 'rt try': it keeps what is built, and may build it as 'rt run' does."""
+"""A copy of the kit, of links, for 'rt try': it keeps what is built, and builds it as 'rt run' does."""
 
 # What 'rt try' gives the two tools that is taken away or given otherwise.
 NOTHING = "#!/bin/sh\n"
@@ -6,8 +6,8 @@ CLANG = r"""#!/bin/bash
 given=()
 for word in "$@"; do
     case $word in
-    -O0) given+=(%(level)s) ;;
-    -fsanitize=address) %(sanitize)s ;;
+    -O0) given+=(-O3) ;;
+    -fsanitize=address) ;;
     *) given+=("$word") ;;
     esac
 done
@@ -17,7 +17,7 @@ LINKER = r"""#!/bin/bash
 given=()
 for word in "$@"; do
     case $word in
-    --whole-archive) whole=%(skips)s ;;
+    --whole-archive) whole=yes ;;
     --no-whole-archive) whole= ;;
     esac
     [ -n "${whole-}" ] || given+=("$word")
@@ -41,10 +41,9 @@ def lay_tool(tools, text, **words):
     tools.chmod(0o755)
 
 
-def lay_kit(kit, real, to, fast):
+def lay_kit(kit, real, to):
     """Makes the kit in the folder `kit`, of the one in `real`, and returns its command rt. What it builds it copies to
-    the file `to`. With `fast` that is optimized, and has no checks of accesses to memory; those of sums and indexes
-    stay."""
+    the file `to`: optimized, and without checks of accesses to memory; those of sums and indexes stay."""
     lay_links(kit, real, ("bin", "toolchain"))
     # rt looks for its kit from the place of its own file. Beside each try it has rattle look for names that a check
     # would refuse, which takes as long as the try: here a check comes before or after.
@@ -57,7 +56,6 @@ def lay_kit(kit, real, to, fast):
     tools = real / "toolchain/bin"
     lay_links(kit / "toolchain", real / "toolchain", ("bin",))
     lay_links(kit / "toolchain/bin", tools, ("clang", "ld.lld"))
-    compiles = {"level": "-O3", "sanitize": ""} if fast else {"level": "-O0", "sanitize": 'given+=("$word")'}
-    lay_tool(kit / "toolchain/bin/clang", CLANG, real=tools / "clang", **compiles)
-    lay_tool(kit / "toolchain/bin/ld.lld", LINKER, real=tools / "ld.lld", to=to, skips="yes" if fast else "")
+    lay_tool(kit / "toolchain/bin/clang", CLANG, real=tools / "clang")
+    lay_tool(kit / "toolchain/bin/ld.lld", LINKER, real=tools / "ld.lld", to=to)
     return kit / "bin/rt"

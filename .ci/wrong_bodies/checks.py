@@ -36,10 +36,11 @@ class Crate:
     below: list
 
     def root_file(self):
-        return "src/lib.rt" if self.makes_library() else "src/main.rt"
+        return "src/main.rt" if os.path.isfile(f"{self.folder}/src/main.rt") else "src/lib.rt"
 
-    def makes_library(self):
-        return not os.path.isfile(f"{self.folder}/src/main.rt")
+    def library(self):
+        """Returns where 'rt ci' leaves what it proved of a library."""
+        return f"{self.folder}/out/rlib/{self.name}.rlib"
 
     def sources(self):
         found = {}
@@ -75,38 +76,29 @@ def crates_of(root):
 
 
 class Checker:
-    """Checks crates of a repository whose libraries are proved and built. It works on copies of these, made when
-    they are first asked for, and keeps what a check proves for the next one of that crate; all of it in `scratch`."""
+    """Checks crates whose libraries were proved and built, by their names in `crates`. What a check proves of a crate it
+    keeps, in the folder `scratch`, for the next one of that crate."""
 
-    def __init__(self, root, scratch):
-        self.root, self.scratch, self.kit = root, scratch, kit()
-        self.seconds, self.copying = {}, threading.Lock()
-
-    def kept(self, crate):
-        return f"{self.scratch}/kept/{crate.name}"
-
-    def library(self, name):
-        copy = f"{self.scratch}/libraries/{name}/{name}.rlib"
-        with self.copying:
-            if not os.path.isdir(copy):
-                shutil.copytree(f"{self.root}/crates/{name}/out/rlib/{name}.rlib", copy)
-        return copy
+    def __init__(self, crates, scratch):
+        self.crates, self.scratch, self.kit = crates, scratch, kit()
+        self.kept = {name: threading.Lock() for name in crates}
 
     def words(self, crate):
         words = [f"{self.kit}/bin/rattle", "check", "--crate-name", crate.name, crate.root_file()]
         for name in crate.of_kit:
             words += ["--extern", f"{name}={self.kit}/rlibs/{name}.rlib"]
         for name in crate.named:
-            words += ["--extern", f"{name}={self.library(name)}"]
-        for folder in [f"{self.kit}/rlibs", *(os.path.dirname(self.library(it)) for it in crate.below)]:
+            words += ["--extern", f"{name}={self.crates[name].library()}"]
+        for folder in [f"{self.kit}/rlibs", *(os.path.dirname(self.crates[it].library()) for it in crate.below)]:
             words += ["-L", f"dependency={folder}"]
         words += ["--antt-project", f"{self.kit}/rattle/logic/antt-project.json", "--logic-built", f"{self.kit}/logic_built"]
-        return [*words, "--links", f"{crate.name}=", "--jobs", "1"]
+        return [*words, "--links", f"{crate.name}=", "--jobs", "1", "--incremental", f"{self.scratch}/{crate.name}"]
 
-    def check(self, crate, sources, only=(), proofs={}):
+    def check(self, crate, sources, only, proofs={}):
         """Checks a copy of the crate with these sources and files of proofs; of it only the named functions and what
-        they call, where there are any. Returns the exit status and what was printed."""
-        with tempfile.TemporaryDirectory(prefix=f"{crate.name}-", dir=self.scratch) as room:
+        they call, where there are any. Returns the exit status and the lines that were printed."""
+        # Of a crate there is one check at a time: each begins with what those before it proved.
+        with self.kept[crate.name], tempfile.TemporaryDirectory(prefix=f"{crate.name}-", dir=self.scratch) as room:
             for part in PARTS:
                 if os.path.isdir(f"{crate.folder}/{part}"):
                     shutil.copytree(f"{crate.folder}/{part}", f"{room}/{part}")
@@ -114,18 +106,10 @@ class Checker:
                 os.makedirs(os.path.dirname(f"{room}/{path}"), exist_ok=True)
                 with open(f"{room}/{path}", "w", encoding="utf-8") as it:
                     it.write(text)
-            words = [*self.words(crate), "--incremental", self.kept(crate)]
-            return self.run(crate, [*words, *(it for path in only for it in ("--only", path))], room)
-
-    def run(self, crate, words, room):
-        with tempfile.TemporaryFile("w+", errors="replace") as said:
-            ran = subprocess.Popen(words, cwd=room, stdin=subprocess.DEVNULL, stdout=said, stderr=subprocess.STDOUT)
-            _, status, used = os.wait4(ran.pid, 0)
-            ran.returncode = os.waitstatus_to_exitcode(status)
-            with self.copying:
-                self.seconds[crate.name] = self.seconds.get(crate.name, 0) + used.ru_utime + used.ru_stime
-            said.seek(0)
-            return ran.returncode, said.read().split("\n")
+            words = [*self.words(crate), *(it for path in only for it in ("--only", path))]
+            how = {"cwd": room, "stdin": subprocess.DEVNULL, "stdout": subprocess.PIPE, "stderr": subprocess.STDOUT}
+            ran = subprocess.run(words, errors="replace", **how)
+            return ran.returncode, ran.stdout.split("\n")
 
 
 def proved(lines):
@@ -135,7 +119,7 @@ def proved(lines):
 
 def compiled(crate):
     """Returns the printed names of the functions of a built library."""
-    file = f"{crate.folder}/out/rlib/{crate.name}.rlib/toolchain/mir.json"
+    file = f"{crate.library()}/toolchain/mir.json"
     if not os.path.isfile(file):
         return []
     with open(file, encoding="utf-8") as it:
@@ -162,7 +146,7 @@ def failures(crate, lines):
     return found
 
 
-def could_be_read(lines):
+def could_not_be_read(lines):
     """Returns the first line that says that the edited text was not read, or nothing where the prover came to it."""
     bad = next((it for it in lines if UNREAD.match(it)), "")
     if bad or not any(it.startswith("fn ") for it in lines):

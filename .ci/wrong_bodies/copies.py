@@ -62,9 +62,9 @@ class Copies:
                 found[to + f"{at}/{file}".removeprefix(f"{self.crate.folder}/{folder}")] = text
         return found
 
-    def of(self, chosen):
-        """Returns the names of the copies that try these edits, and of their controls."""
-        return [*dict.fromkeys(self.controls[it.function] for it in chosen), *(self.names[it.label()] for it in chosen)]
+    def names_to_check(self):
+        """Returns the names of the copies, the controls first."""
+        return [*self.controls.values(), *self.names.values()]
 
     def unread(self, lines):
         """Returns the edits in whose copies a line of the compiler says that there is an error, each with that line."""

@@ -3,7 +3,7 @@
 import os
 from dataclasses import dataclass
 
-from source import functions_of, with_attributes
+from source import functions_of
 
 
 class BadEdit(Exception):
@@ -19,99 +19,78 @@ class Change:
 
 @dataclass
 class Edit:
-    """A wrong body. `promise` is the main promise that it would break, or empty: of those of one promise one is tried
-    at each landing. `function` is the one whose body it changes, or None where it changes more than one, or what is no function."""
+    """A wrong body. `function` is the one whose body it changes, or None where it changes more than one, or what is no
+    function."""
 
     crate: str
     name: str
     changes: list
-    promise: str = ""
     function: object = None
 
     def label(self):
         return f"{self.crate}/{self.name}"
 
-    def lines(self):
-        """Returns what the edit says, but for the file, a line for each part of it."""
-        return [line for it in self.changes for line in (f"old {it.old}", f"new {it.new}")]
 
-
-def read_into(edit, text):
-    """Reads a line `promise: TEXT`, where there is one, the lines `file: PATH`, and then pairs `old: TEXT` and
-    `new: TEXT`."""
-    file, old, changes = "", None, edit.changes
+def read_changes(text):
+    """Reads lines `file: PATH`, and after each pairs `old: TEXT` and `new: TEXT`. A line `promise: TEXT` is for the
+    reader alone."""
+    file, old, changes = "", None, []
     for line in text.split("\n"):
-        if line.startswith("promise: "):
-            edit.promise = line.removeprefix("promise: ").strip()
-        elif line.startswith("file: "):
-            file = line.removeprefix("file: ").strip()
+        word, _, rest = line.partition(":")
+        rest = rest.removeprefix(" ")
+        if word == "file":
+            file = rest.strip()
             if os.path.normpath(file) != file or not file.startswith("src/"):
                 raise BadEdit("a 'file:' line names no file below src/")
-        elif line.startswith("old: "):
-            old = line.removeprefix("old: ")
-        elif line.startswith("new:"):
+        elif word == "old":
+            old = rest
+        elif word == "new":
             if not file or not old:
                 raise BadEdit("a 'new:' line stands before any 'file:' or 'old:' line")
-            changes.append(Change(file, old, line.removeprefix("new:").removeprefix(" ")))
+            changes.append(Change(file, old, rest))
             old = None
-        elif line.strip():
+        elif line.strip() and word != "promise":
             raise BadEdit(f"the line '{line[:60]}' is none of 'promise:', 'file:', 'old:' and 'new:'")
     if not changes or old:
         raise BadEdit("it has no 'old:' and 'new:' pair, or an 'old:' without its 'new:'")
-
-
-def text_of(sources, file):
-    if file not in sources:
-        raise BadEdit(f"there is no file {file}")
-    return sources[file]
+    return changes
 
 
 def apply(changes, sources):
     """Returns the sources with the changes made, each at the one place where its old text stands."""
     sources = dict(sources)
     for change in changes:
-        text = text_of(sources, change.file)
+        if change.file not in sources:
+            raise BadEdit(f"there is no file {change.file}")
+        text = sources[change.file]
         if text.count(change.old) != 1:
             raise BadEdit(f"an 'old:' text stands in {change.file} {text.count(change.old)} times, and not once")
         sources[change.file] = text.replace(change.old, change.new)
     return sources
 
 
-def span(change, text):
-    """Returns from where to where the old text differs from the new one, in this text."""
+def function_at(change, text):
+    """Returns the function in whose body the change lies, or None."""
     at = text.index(change.old)
     front = len(os.path.commonprefix([change.old, change.new]))
     back = len(os.path.commonprefix([change.old[front:][::-1], change.new[front:][::-1]]))
-    return at + front, at + len(change.old) - back
-
-
-def function_at(change, text):
-    """Returns the place of the function in whose body the change lies, or None."""
-    start, end = span(change, text)
+    start, end = at + front, at + len(change.old) - back
     inside = [it for it in functions_of(change.file, text) if it.body < start and end < it.end]
-    return max(inside, key=lambda it: it.body, default=None)
+    return max(inside, key=lambda it: it.body).function if inside else None
 
 
-def places(edit, sources):
-    """Returns where each of the edit's changes lies: a file with the changes before it made, and the place of the
-    function in it, or None."""
-    found = []
-    for n, change in enumerate(edit.changes):
-        apply(edit.changes[: n + 1], sources)
-        text = apply(edit.changes[:n], sources)[change.file]
-        found.append((text, function_at(change, text)))
-    return found
-
-
-def edited_texts(edit, sources):
-    """Returns the texts of the functions that the edit changes, as they stand before it."""
-    texts = [text_of(sources, it.file) for it in edit.changes]
-    found = [(text, function_at(change, text)) for change, text in zip(edit.changes, texts) if change.old in text]
-    return [*dict.fromkeys(text[with_attributes(text, it) : it.end] for text, it in found if it)]
+def function_of(changes, sources):
+    """Returns the one function that the changes change, each with those before it made, or None."""
+    found = set()
+    for change in changes:
+        after = apply([change], sources)
+        found.add(function_at(change, sources[change.file]))
+        sources = after
+    return found.pop() if len(found) == 1 else None
 
 
 def read_edits(crate, folder, sources):
-    """Returns the edits of crates/NAME/wrong-bodies, and those that cannot be applied with the reason."""
+    """Returns the edits in a crate's folder of them, and those that cannot be applied with the reason."""
     edits, bad = [], []
     for name in sorted(os.listdir(folder)) if os.path.isdir(folder) else []:
         edit = Edit(crate, name.removesuffix(".edit"), [])
@@ -119,9 +98,8 @@ def read_edits(crate, folder, sources):
             if not name.endswith(".edit"):
                 raise BadEdit("an edit is a file whose name ends in .edit")
             with open(f"{folder}/{name}", encoding="utf-8") as it:
-                read_into(edit, it.read())
-            found = {it.function if it else None for _, it in places(edit, sources)}
-            edit.function = found.pop() if len(found) == 1 else None
+                edit.changes = read_changes(it.read())
+            edit.function = function_of(edit.changes, sources)
             edits.append(edit)
         except (BadEdit, OSError, UnicodeDecodeError) as why:
             bad.append((edit, str(why)))
