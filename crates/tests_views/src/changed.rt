@@ -171,13 +171,5 @@ fn lists_are_those_of_a_plain_table(rt: HostRuntime) {
         let right = is_right(rt.alloc(), number, &mut seen);
         assert!(rt; right == Ok(true), "script {number} of seed {SEED}");
     }
-    let Seen {
-        some,
-        nearly_full,
-        overflowed,
-    } = seen;
-    assert!(rt;
-        some > 50 && nearly_full > 10 && overflowed > 50,
-        "{some}, {nearly_full}, {overflowed}"
-    );
+    assert!(rt; seen.some > 50 && seen.nearly_full > 10 && seen.overflowed > 50);
 }
