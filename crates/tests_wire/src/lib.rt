@@ -1,10 +1,5 @@
-//! Tests of what goes over the wire, through public calls: PDUs and their cuts, the transfers of data, and the words that
-//! are put on PDUs.
+//! Tests of what goes over the wire, through public calls: the transfers of data.
 #![tactic(auto)]
 
 #[cfg(test)]
-mod pdus;
-#[cfg(test)]
 mod transfers;
-#[cfg(test)]
-mod words;

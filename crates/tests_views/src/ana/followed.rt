@@ -5,7 +5,7 @@ ghost use Rattle.ana_view.specs.View.{IsPlannedFor};
 use ana_view::{AnaView, Plan};
 use nvt_config::{Config, Edit};
 use std::alloc::{AllocError, Global};
-use testkit_edits::{Line, config_over, edit};
+use testkit_edits::config_over;
 
 // More disks than a test has namespaces at a time.
 const UNITS: &[u64] = &[64; 12];
@@ -23,18 +23,8 @@ pub fn start(alloc: Global) -> Result<Followed, AllocError> {
     Ok(Followed { config, view })
 }
 
-/// The plan of an edit that the configuration accepts, where it does.
+/// The plan of an edit that the configuration accepts, where it does, by the configuration after the edit.
 pub fn plan(followed: &mut Followed, edit: &Edit) -> Result<Option<Plan>, AllocError>
-    ensures { IfOk result (λ plan. IfSome plan (IsPlannedFor followed.new.view)) }
-{
-    if followed.config.check(edit).is_err() {
-        return Ok(None);
-    }
-    Ok(Some(followed.view.prepare(&followed.config, edit)?))
-}
-
-/// The same, by the configuration after the edit.
-pub fn plan_to(followed: &mut Followed, edit: &Edit) -> Result<Option<Plan>, AllocError>
     ensures { IfOk result (λ plan. IfSome plan (IsPlannedFor followed.new.view)) }
 {
     if followed.config.check(edit).is_err() {
@@ -52,9 +42,4 @@ pub fn make(followed: &mut Followed, edit: &Edit, plan: Plan) -> bool
     let applied = followed.config.apply(edit).is_ok();
     followed.view.commit(plan);
     applied
-}
-
-/// The edit of a line.
-pub fn edit_of(alloc: Global, line: Line<'_>) -> Option<Edit> {
-    edit(alloc, line).ok()
 }

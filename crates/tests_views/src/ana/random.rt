@@ -1,12 +1,14 @@
 //! What controllers show beside the plain program, while random edits are made.
-use super::followed::{Followed, edit_of, make, plan_to, start};
+use super::followed::{Followed, make, plan, start};
 use super::seen::{GROUPS, Group, NSIDS, PLACES, Past, Place, code};
+use crate::drawn::{host, pick, present, subsystem};
 use ana_view::{AnaCounts, AnaGroup, AnaView, Plan};
 use nvt_config::{Access, AnaState, Config, Edit, Visibility};
 use rand_core::utils::NextWord;
 use rand_pcg::Pcg32;
 use std::alloc::{AllocError, Global};
-use testkit_edits::{A, B, H0, H1, H2, Line, on_disk};
+use testkit_edits::growths::edit_of;
+use testkit_edits::{A, B, H0, H1, Line, on_disk};
 
 const SCRIPTS: u64 = 6;
 
@@ -52,41 +54,9 @@ fn state(random: &mut Pcg32) -> AnaState {
     }
 }
 
-fn nsid(random: &mut Pcg32) -> u64 {
-    match NSIDS.get(random.next_word() as usize % 5) {
-        Some(nsid) => u64::from(*nsid),
-        None => 1,
-    }
-}
-
-fn group_id(random: &mut Pcg32) -> u64 {
-    match GROUPS.get(random.next_word() as usize % 3) {
-        Some(group) => u64::from(*group),
-        None => 1,
-    }
-}
-
-// The stranger is named now and then.
-fn host(random: &mut Pcg32) -> &'static [u8] {
-    match random.next_word() % 9 {
-        0 => H2,
-        1..=4 => H1,
-        _ => H0,
-    }
-}
-
 // An edit of who sees a namespace that is there, if one is.
 fn sight(random: &mut Pcg32, config: &Config) -> Line<'static> {
-    let at = random.next_word() as usize % config.namespaces().len().max(1);
-    let Some(namespace) = config.namespaces().get(at) else {
-        return Line::NamespaceView(A, 1, Visibility::Named);
-    };
-    let nqn = if namespace.subsystem.as_bytes() == B {
-        B
-    } else {
-        A
-    };
-    let nsid = u64::from(namespace.nsid);
+    let (nqn, nsid) = present(random, config);
     match random.next_word() % 8 {
         0 => Line::NamespaceView(nqn, nsid, Visibility::All),
         1..=3 => Line::NamespaceView(nqn, nsid, Visibility::Named),
@@ -96,20 +66,23 @@ fn sight(random: &mut Pcg32, config: &Config) -> Line<'static> {
 }
 
 fn line(random: &mut Pcg32, config: &Config) -> Line<'static> {
-    let nqn = if random.next_word() % 3 == 0 { B } else { A };
+    let nqn = subsystem(random);
     let port = u64::from(random.next_word() % 2 + 1);
     match random.next_word() % 20 {
         0..=3 => {
             let disk = (random.next_word() % 8) as u8;
-            Line::NamespaceAdd(nqn, on_disk(nsid(random), disk, group_id(random)))
+            Line::NamespaceAdd(
+                nqn,
+                on_disk(pick(random, &NSIDS), disk, pick(random, &GROUPS)),
+            )
         }
-        4 => Line::NamespaceDel(nqn, nsid(random)),
-        5 => Line::NamespaceSize(nqn, nsid(random), 2),
-        6 => Line::NamespaceGroup(nqn, nsid(random), group_id(random)),
+        4 => Line::NamespaceDel(nqn, pick(random, &NSIDS)),
+        5 => Line::NamespaceSize(nqn, pick(random, &NSIDS), 2),
+        6 => Line::NamespaceGroup(nqn, pick(random, &NSIDS), pick(random, &GROUPS)),
         7 => Line::LinkDel(port, nqn),
         8 => Line::LinkAdd(port, nqn),
         9..=16 => sight(random, config),
-        _ => Line::AnaSet(port, nqn, group_id(random), state(random)),
+        _ => Line::AnaSet(port, nqn, pick(random, &GROUPS), state(random)),
     }
 }
 
@@ -239,12 +212,8 @@ fn are_shown(
 // Each controller is said to show something else, or not.
 fn note_changes(all: &mut [Counted], plan: &Plan) {
     for (counted, place) in all.iter_mut().zip(PLACES) {
-        let Place {
-            host,
-            subsystem,
-            port,
-        } = place;
-        counted.noted = counted.counts.note(plan, host, subsystem, port);
+        let counts = &mut counted.counts;
+        counted.noted = counts.note(plan, place.host, place.subsystem, place.port);
     }
 }
 
@@ -275,7 +244,7 @@ fn is_counted(
     edit: &Edit,
     made: &mut Made,
 ) -> Result<bool, AllocError> {
-    let Some(plan) = plan_to(followed, edit)? else {
+    let Some(plan) = plan(followed, edit)? else {
         return Ok(true);
     };
     note_changes(all, &plan);
@@ -286,17 +255,6 @@ fn is_counted(
     Ok(is_made && are_noted(past, all))
 }
 
-fn is_edit_right(
-    alloc: Global,
-    followed: &mut Followed,
-    past: &mut Past,
-    all: &mut [Counted],
-    edit: &Edit,
-    made: &mut Made,
-) -> Result<bool, AllocError> {
-    Ok(is_counted(followed, past, all, edit, made)? && are_shown(alloc, followed, past, all)?)
-}
-
 fn is_right(
     alloc: Global,
     followed: &mut Followed,
@@ -305,10 +263,10 @@ fn is_right(
     line: Line<'_>,
     made: &mut Made,
 ) -> Result<bool, AllocError> {
-    match edit_of(alloc, line) {
-        Some(edit) => is_edit_right(alloc, followed, past, all, &edit, made),
-        None => Ok(false),
-    }
+    let Some(edit) = edit_of(alloc, line)? else {
+        return Ok(false);
+    };
+    Ok(is_counted(followed, past, all, &edit, made)? && are_shown(alloc, followed, past, all)?)
 }
 
 // The first controller is enabled again, now and then.

@@ -1,5 +1,6 @@
 //! A plain program: it keeps what each host was to see of the groups after each edit, and looks back over it.
-use nvt_config::{AnaState, Config, Namespace, Visibility};
+use crate::drawn::sees;
+use nvt_config::{AnaState, Config};
 use std::alloc::{AllocError, Global};
 use testkit_edits::{A, B, H0, H1, H2};
 
@@ -80,16 +81,6 @@ pub fn code(state: AnaState) -> u8 {
         AnaState::PersistentLoss => 4,
         AnaState::Change => 15,
     }
-}
-
-// Whether a host sees a namespace: each does, or one of the shows says so.
-fn sees(config: &Config, host: &[u8], namespace: &Namespace) -> bool {
-    let is_shown = config.shows().iter().any(|show| {
-        show.subsystem == namespace.subsystem
-            && show.nsid == namespace.nsid
-            && show.host.as_bytes() == host
-    });
-    namespace.visibility == Visibility::All || is_shown
 }
 
 fn members(config: &Config, place: Place, group: u32) -> u32 {

@@ -1,9 +1,9 @@
 //! A configuration and the view that follows its edits.
 use change_lists::{ActiveView, ChangedSet, Plan};
 use nvt_config::{Config, Edit, EditFault};
-use nvt_fields::NqnFault;
 use std::alloc::{AllocError, Global};
-use testkit_edits::{A, B, H0, H1, H2, Line, config_over, edit, on_disk};
+use testkit_edits::growths::edit_of;
+use testkit_edits::{A, B, H0, H1, H2, Line, config_over};
 
 // More disks than a test has namespaces at a time.
 const UNITS: &[u64] = &[8; 12];
@@ -38,49 +38,24 @@ fn changed(plan: &Plan, host: &[u8]) -> [bool; 2] {
     ]
 }
 
-/// An edit.
-#[derive(Clone, Copy)]
-pub enum Change {
-    /// It adds a namespace of that subsystem and that identifier on that disk.
-    Add(&'static [u8], u64, u8),
-    Other(Line<'static>),
-}
-
-fn line(change: Change) -> Line<'static> {
-    match change {
-        Change::Add(subsystem, nsid, disk) => {
-            Line::NamespaceAdd(subsystem, on_disk(nsid, disk, 1))
-        }
-        Change::Other(line) => line,
+/// Makes an edit; whether the configuration accepts it.
+pub fn follow(alloc: Global, followed: &mut Followed, line: Line<'_>) -> Result<bool, AllocError> {
+    match edit_of(alloc, line)? {
+        Some(edit) => follow_edit(followed, &edit),
+        None => Ok(false),
     }
 }
 
-/// Plans an edit and, where `commits`, makes it; whether the configuration accepts it.
-pub fn follow(
-    alloc: Global,
-    followed: &mut Followed,
-    change: Change,
-    commits: bool,
-) -> Result<bool, AllocError> {
-    match edit(alloc, line(change)) {
-        Ok(edit) => follow_edit(followed, &edit, commits),
-        Err(NqnFault::Memory) => Err(AllocError),
-        Err(NqnFault::TooLong | NqnFault::BadNqn) => Ok(false),
-    }
-}
-
-fn follow_edit(followed: &mut Followed, edit: &Edit, commits: bool) -> Result<bool, AllocError> {
+fn follow_edit(followed: &mut Followed, edit: &Edit) -> Result<bool, AllocError> {
     if followed.config.check(edit).is_err() {
         return Ok(false);
     }
     let plan = followed.view.prepare(&followed.config, edit)?;
     followed.changed = [changed(&plan, H0), changed(&plan, H1), changed(&plan, H2)];
-    if commits {
-        match followed.config.apply(edit) {
-            Ok(()) => followed.view.commit(plan),
-            Err(EditFault::Memory) => return Err(AllocError),
-            Err(_) => return Ok(false),
-        }
+    match followed.config.apply(edit) {
+        Ok(()) => followed.view.commit(plan),
+        Err(EditFault::Memory) => return Err(AllocError),
+        Err(_) => return Ok(false),
     }
     Ok(true)
 }

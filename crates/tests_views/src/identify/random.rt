@@ -1,11 +1,12 @@
 //! The lists of two hosts and of a stranger beside a plain filter and sort, on random edits, and whether an edit
 //! changes what they see beside a plain comparison.
-use super::followed::{Change, Followed, HOSTS, follow, start};
+use super::followed::{Followed, HOSTS, follow, start};
+use crate::drawn::{host, pick, present, sees, subsystem};
 use nvt_config::{Access, Config, Namespace, Visibility};
 use rand_core::utils::NextWord;
 use rand_pcg::Pcg32;
 use std::alloc::{AllocError, Global};
-use testkit_edits::{A, B, H0, H1, H2, Line};
+use testkit_edits::{A, B, H0, H1, Line, on_disk};
 use testkit_tables::{Outcome, Placed, check, check_bytes, check_rows, pass};
 
 const SCRIPTS: u64 = 20;
@@ -31,35 +32,6 @@ const ABOVE: &[u32] = &[
     0xFFFF_FFFD,
 ];
 
-fn subsystem(random: &mut Pcg32) -> &'static [u8] {
-    if random.next_word() % 3 == 0 { B } else { A }
-}
-
-// The stranger is named now and then.
-fn host(random: &mut Pcg32) -> &'static [u8] {
-    match random.next_word() % 9 {
-        0 => H2,
-        1..=4 => H1,
-        _ => H0,
-    }
-}
-
-fn nsid(random: &mut Pcg32) -> u64 {
-    let at = random.next_word() as usize % NSIDS.len();
-    NSIDS.get(at).map_or(1, |nsid| u64::from(*nsid))
-}
-
-// A namespace that is there, if one is.
-fn present(random: &mut Pcg32, config: &Config) -> (&'static [u8], u64) {
-    let namespaces = config.namespaces();
-    let at = random.next_word() as usize % namespaces.len().max(1);
-    match namespaces.get(at) {
-        Some(namespace) if namespace.subsystem.as_bytes() == B => (B, u64::from(namespace.nsid)),
-        Some(namespace) => (A, u64::from(namespace.nsid)),
-        None => (A, 1),
-    }
-}
-
 // A show goes, if one is there.
 fn hide(random: &mut Pcg32, config: &Config) -> Line<'static> {
     let at = random.next_word() as usize % config.shows().len().max(1);
@@ -84,30 +56,24 @@ fn sight(random: &mut Pcg32, config: &Config) -> Line<'static> {
     }
 }
 
-fn change(random: &mut Pcg32, config: &Config) -> Change {
+fn line(random: &mut Pcg32, config: &Config) -> Line<'static> {
     let nqn = subsystem(random);
-    let nsid = nsid(random);
+    let nsid = pick(random, NSIDS);
     let disk = (random.next_word() % 12) as u8;
     match random.next_word() % 16 {
-        0 => Change::Other(Line::NamespaceDel(nqn, nsid)),
-        1 => Change::Other(Line::SubsystemDel(nqn)),
-        2 | 3 => Change::Other(Line::SubsystemAdd(nqn, b"SN", Access::Open)),
-        4 if disk < 4 => Change::Other(Line::HostDel(host(random))),
-        4 | 5 => Change::Other(Line::HostAdd(if disk < 6 { H0 } else { H1 })),
-        6..=11 => Change::Other(sight(random, config)),
-        _ => Change::Add(nqn, nsid, disk),
+        0 => Line::NamespaceDel(nqn, nsid),
+        1 => Line::SubsystemDel(nqn),
+        2 | 3 => Line::SubsystemAdd(nqn, b"SN", Access::Open),
+        4 if disk < 4 => Line::HostDel(host(random)),
+        4 | 5 => Line::HostAdd(if disk < 6 { H0 } else { H1 }),
+        6..=11 => sight(random, config),
+        _ => Line::NamespaceAdd(nqn, on_disk(nsid, disk, 1)),
     }
 }
 
-// Whether a namespace is of this subsystem, and this host sees it: each does, or one of the shows says so.
-fn sees(config: &Config, host: &[u8], subsystem: &[u8], namespace: &Namespace) -> bool {
-    let is_shown = config.shows().iter().any(|show| {
-        show.subsystem == namespace.subsystem
-            && show.nsid == namespace.nsid
-            && show.host.as_bytes() == host
-    });
-    namespace.subsystem.as_bytes() == subsystem
-        && (namespace.visibility == Visibility::All || is_shown)
+// Whether a namespace is of this subsystem, and this host sees it.
+fn sees_in(config: &Config, host: &[u8], subsystem: &[u8], namespace: &Namespace) -> bool {
+    namespace.subsystem.as_bytes() == subsystem && sees(config, host, namespace)
 }
 
 // The bytes of the list, by a filter and a sort.
@@ -120,7 +86,7 @@ fn plain(
 ) -> Result<Vec<u8>, AllocError> {
     let mut nsids = Vec::new(alloc);
     for namespace in config.namespaces() {
-        if sees(config, host, subsystem, namespace) && namespace.nsid > above {
+        if sees_in(config, host, subsystem, namespace) && namespace.nsid > above {
             nsids.push(namespace.nsid)?;
         }
     }
@@ -137,14 +103,16 @@ fn sees_same(config: &Config, host: &[u8], subsystem: &[u8], namespace: &Namespa
     config.namespaces().iter().any(|it| {
         it.nsid == namespace.nsid
             && (it.blocks, it.uuid) == (namespace.blocks, namespace.uuid)
-            && sees(config, host, subsystem, it)
+            && sees_in(config, host, subsystem, it)
     })
 }
 
 // Whether a host sees each namespace of the one that it sees in the other too, as it is.
 fn keeps(one: &Config, other: &Config, host: &[u8], subsystem: &[u8]) -> bool {
     for namespace in one.namespaces() {
-        if sees(one, host, subsystem, namespace) && !sees_same(other, host, subsystem, namespace) {
+        if sees_in(one, host, subsystem, namespace)
+            && !sees_same(other, host, subsystem, namespace)
+        {
             return false;
         }
     }
@@ -219,9 +187,9 @@ fn see(changed: &[[bool; 2]; 3], seen: &mut Seen) {
     seen.hidden = seen.hidden.saturating_add(usize::from(is_hidden));
 }
 
-fn check_edit(alloc: Global, followed: &mut Followed, change: Change, seen: &mut Seen) -> Outcome {
+fn check_edit(alloc: Global, followed: &mut Followed, line: Line<'_>, seen: &mut Seen) -> Outcome {
     let before = followed.config.try_clone()?;
-    if follow(alloc, followed, change, true)? {
+    if follow(alloc, followed, line)? {
         see(&followed.changed, seen);
         check_hosts(alloc, followed, &before, seen)
     } else {
@@ -237,12 +205,12 @@ fn check_edits(
     seen: &mut Seen,
 ) -> Outcome {
     for step in 0..EDITS {
-        let change = match step {
-            0 => Change::Other(Line::HostAdd(H0)),
-            1 => Change::Other(Line::HostAdd(H1)),
-            _ => change(random, &followed.config),
+        let line = match step {
+            0 => Line::HostAdd(H0),
+            1 => Line::HostAdd(H1),
+            _ => line(random, &followed.config),
         };
-        pass!(check_edit(alloc, followed, change, seen).at_step(step));
+        pass!(check_edit(alloc, followed, line, seen).at_step(step));
     }
     for host in HOSTS {
         pass!(check_lists(alloc, followed, host, A, seen));
