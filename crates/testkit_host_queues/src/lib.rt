@@ -1,5 +1,4 @@
-//! What the tests of a host's queue share: the PDUs of a controller, and queues at some point of a
-//! conversation. No other crate stands on it.
+//! What the tests of a host's queue share: the PDUs of a controller, and what is done with a queue.
 #![tactic(auto)]
 
 pub mod pdus;

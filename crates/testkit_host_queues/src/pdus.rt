@@ -14,8 +14,6 @@ pub enum Sent {
     Data(u8, u16, u32, u32, u8),
     /// The status and the information of a C2HTermReq.
     Termination(u16, u32),
-    /// Another type, in a header of 24 bytes.
-    Other(u8),
 }
 
 // A PDU of 24 bytes: the common header, and what is behind it.
@@ -63,15 +61,14 @@ fn termination(fes: u16, fei: u32) -> [u8; 16] {
     [s0, s1, i0, i1, i2, i3, 0, 0, 0, 0, 0, 0, 0, 0, 0, 0]
 }
 
-/// Appends a PDU.
-pub fn append(out: &mut Vec<u8>, pdu: Sent) -> Result<(), AllocError> {
+// Appends a PDU.
+fn append(out: &mut Vec<u8>, pdu: Sent) -> Result<(), AllocError> {
     match pdu {
         Sent::IcResp(pfv, cpda, dgst, most) => append_ic_resp(out, pfv, cpda, dgst, most),
         Sent::Response(cid, status, value) => append_short(out, 5, response(cid, status, value)),
         Sent::Request(cid, tag, at, len) => append_short(out, 9, part(cid, tag, at, len)),
         Sent::Data(flags, cid, at, len, carried) => append_data(out, flags, cid, at, len, carried),
         Sent::Termination(fes, fei) => append_short(out, 3, termination(fes, fei)),
-        Sent::Other(kind) => append_short(out, kind, [0; 16]),
     }
 }
 

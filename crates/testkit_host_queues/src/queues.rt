@@ -1,4 +1,4 @@
-//! Queues at some point of a conversation.
+//! A host's queue, what is done with it, and what it says.
 ghost use Rattle.std.specs.Prelude.{IfOk};
 ghost use Rattle.host_driver.specs.Session.{AreParams};
 
@@ -6,7 +6,7 @@ use crate::pdus::{Sent, bytes_of};
 use host_driver::{Answer, HostCommand, HostFault, HostParams, HostQueue, HostStep};
 use nvt_fields::{Nqn, Status};
 use std::alloc::{AllocError, Global};
-use testkit_tables::{Outcome, check, pass};
+use testkit_tables::{Outcome, check};
 
 /// The limits that the controller of these tests sets: no alignment, 4,096 bytes in an H2CData.
 pub const IC_RESP: Sent = Sent::IcResp(0, 0, 0, 4_096);
@@ -118,41 +118,4 @@ fn is_answer(answer: &Answer, cid: u16, status: Status, value: u64, payload: &[u
         && answer.status == status
         && answer.result == value
         && answer.payload.as_slice() == payload
-}
-
-/// A queue that is connected, its output taken.
-pub fn connected(alloc: Global) -> Result<HostQueue, AllocError> {
-    connected_by(alloc, IC_RESP)
-}
-
-/// The same, where the controller sets these limits.
-pub fn connected_by(alloc: Global, limits: Sent) -> Result<HostQueue, AllocError> {
-    let mut queue = HostQueue::start(alloc, params(alloc)?)?;
-    connect(&mut queue, alloc, limits)?;
-    Ok(queue)
-}
-
-fn connect(queue: &mut HostQueue, alloc: Global, limits: Sent) -> Result<(), AllocError> {
-    for pdu in [limits, CONNECTED] {
-        send(queue, alloc, pdu)?;
-        step(queue);
-    }
-    take_output(queue);
-    Ok(())
-}
-
-/// Whether a queue is idle.
-pub fn check_idle(queue: &mut HostQueue) -> Outcome {
-    check(step(queue) == Said::Idle, "the queue is idle")
-}
-
-/// Whether a queue has failed: each call says so.
-pub fn check_failed(queue: &mut HostQueue, alloc: Global) -> Outcome {
-    let again = step(queue) == Said::Fault(HostFault::Failed);
-    pass!(check(again, "each step answers Failed"));
-    let submitted = submit_reading(queue, alloc, 8);
-    check(
-        submitted == Err(HostFault::Failed),
-        "each submit answers Failed",
-    )
 }

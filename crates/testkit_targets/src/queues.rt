@@ -8,8 +8,8 @@ mod script;
 mod transfer;
 
 pub use command::{
-    COMPARE_FAILURE, Command, LBA_OUT_OF_RANGE, Opcode, READ_ERROR, SUCCESS, WRITE_FAULT,
-    block_len, connect_to, enable,
+    COMPARE_FAILURE, Command, Opcode, READ_ERROR, SUCCESS, WRITE_FAULT, block_len, connect_to,
+    enable,
 };
 pub use driver::{Driver, SMALL};
 pub use plain::{fill, part, put};

@@ -1,9 +1,7 @@
-//! Tests of a host's queue, through its public calls: its PDUs, random walks, and the pages that it reads.
+//! Tests of a host's queue, through its public calls: random walks of a controller, and texts that no program prints.
 #![tactic(auto)]
 
 #[cfg(test)]
-mod pages;
-#[cfg(test)]
-mod queue;
+mod texts;
 #[cfg(test)]
 mod walk;

@@ -1,26 +1,11 @@
-//! The syncs of a disk: a Flush, and a command with FUA that writes, ask for one, and no other does.
+//! The calls of a disk: a Flush, and a command with FUA that writes, ask for one sync, and no other does.
+use crate::commands::{Calls, NONE, ROWS, Row, begins, is_done};
 use block_store::{Disk, DiskFault, MemoryDisk};
 use std::alloc::{AllocError, Global};
 use std::cell::Cell;
 use std::rc::Rc;
 use testkit_tables::{Outcome, Placed, check, pass};
-use testkit_targets::queues::{Command, Driver, Opcode, SMALL, Script, holds_over};
-
-// How often a disk was read, written and synced, and how many writes came after the latest sync.
-#[derive(Clone, Copy, PartialEq, Eq)]
-struct Calls {
-    reads: u8,
-    writes: u8,
-    syncs: u8,
-    unsynced: u8,
-}
-
-const NONE: Calls = Calls {
-    reads: 0,
-    writes: 0,
-    syncs: 0,
-    unsynced: 0,
-};
+use testkit_targets::queues::{Driver, Script, holds_over};
 
 // A disk in memory that counts its calls.
 #[derive(Drop)]
@@ -76,105 +61,30 @@ impl Disk for CountingDisk {
     }
 }
 
-// A command on blocks 1 to 3, and the calls that the disk gets for it.
-#[derive(Clone, Copy)]
-struct Row {
-    opcode: Opcode,
-    fua: bool,
-    calls: Calls,
-}
-
-const READS: Calls = Calls { reads: 3, ..NONE };
-
-const FLUSH: Calls = Calls { syncs: 1, ..NONE };
-
-const WRITES: Calls = Calls {
-    writes: 3,
-    unsynced: 3,
+// Six blocks were written.
+const BEGUN: Calls = Calls {
+    writes: 6,
+    unsynced: 6,
     ..NONE
 };
 
-const SYNCED_WRITES: Calls = Calls {
-    writes: 3,
-    syncs: 1,
-    ..NONE
-};
-
-const ROWS: [Row; 9] = [
-    Row {
-        opcode: Opcode::Read,
-        fua: false,
-        calls: READS,
-    },
-    Row {
-        opcode: Opcode::Read,
-        fua: true,
-        calls: READS,
-    },
-    Row {
-        opcode: Opcode::Compare,
-        fua: false,
-        calls: READS,
-    },
-    Row {
-        opcode: Opcode::Compare,
-        fua: true,
-        calls: READS,
-    },
-    Row {
-        opcode: Opcode::Write,
-        fua: false,
-        calls: WRITES,
-    },
-    Row {
-        opcode: Opcode::Write,
-        fua: true,
-        calls: SYNCED_WRITES,
-    },
-    Row {
-        opcode: Opcode::WriteZeroes,
-        fua: false,
-        calls: WRITES,
-    },
-    Row {
-        opcode: Opcode::WriteZeroes,
-        fua: true,
-        calls: SYNCED_WRITES,
-    },
-    Row {
-        opcode: Opcode::Flush,
-        fua: false,
-        calls: FLUSH,
-    },
-];
-
-// Zeros are brought to blocks of zeros, and are read.
-fn is_done(driver: &mut Driver<CountingDisk>, row: &Row) -> bool {
-    let command = Command::of(row.opcode, 1, 1, 3).with_fua(row.fua);
-    match row.opcode {
-        Opcode::Read => driver.reads(0, &command, &[0; 1536]),
-        Opcode::Write | Opcode::Compare => driver.writes(0, &command, &[0; 1536]),
-        Opcode::WriteZeroes | Opcode::Flush => driver.does(0, &command),
-    }
-}
-
-// The calls that the disk counts.
+// The command of a row, and the calls that the disk counts.
 #[derive(Drop)]
-struct Counted {
+struct Counted<'a> {
+    row: &'a Row,
     calls: Rc<Cell<Calls>>,
 }
 
-impl Script<CountingDisk> for Counted {
+impl Script<CountingDisk> for Counted<'_> {
     fn holds(&self, driver: &mut Driver<CountingDisk>) -> Outcome {
-        let calls = &self.calls;
-        let begins = driver.begin(&[SMALL]) && calls.get() == NONE;
-        pass!(check(begins, "no call before the first command"));
-        for (number, row) in ROWS.iter().enumerate() {
-            calls.set(NONE);
-            let are_counted = is_done(driver, row) && calls.get() == row.calls;
-            pass!(check(are_counted, "the answer and the calls").in_row(number));
-        }
-        Ok(())
+        let is_written = begins(driver) && self.calls.get() == BEGUN;
+        pass!(check(is_written, "all blocks, and no other call"));
+        self.calls.set(NONE);
+        let is_done = is_done(driver, self.row);
+        check(
+            is_done && self.calls.get() == self.row.2,
+            "the answer and the calls",
+        )
     }
 }
 
@@ -187,13 +97,16 @@ fn counting_disk(alloc: Global, calls: Rc<Cell<Calls>>) -> Result<Vec<CountingDi
     Ok(disks)
 }
 
-fn check_syncs(alloc: Global) -> Result<Outcome, AllocError> {
+fn check_row(alloc: Global, row: &Row) -> Result<Outcome, AllocError> {
     let calls = Rc::new(alloc, Cell::new(NONE))?;
     let disks = counting_disk(alloc, Rc::clone(&calls)?)?;
-    Ok(holds_over(alloc, disks, &Counted { calls }))
+    Ok(holds_over(alloc, disks, &Counted { row, calls }))
 }
 
 #[test]
 fn a_flush_and_fua_sync_once(rt: HostRuntime) -> Outcome {
-    check_syncs(rt.alloc())?
+    for (number, row) in ROWS.iter().enumerate() {
+        pass!(check_row(rt.alloc(), row)?.in_row(number));
+    }
+    Ok(())
 }

@@ -1,12 +1,8 @@
-//! Tests of serving, over ports in memory: what a script of hosts, lines and ticks gives, turn by turn. The expected
-//! bytes are typed from the formats of NVMe over TCP.
+//! Tests of serving, over ports in memory: that what a target has to send is given, and in which turn, whichever slot fails;
+//! and that what has ended is given up. The expected bytes are typed from the formats of NVMe over TCP.
 
 mod cuts;
 mod ends;
 mod failing;
-mod gives;
-mod lines;
-mod opens;
 mod pdus;
-mod rooms;
 mod turns;

@@ -18,8 +18,6 @@ pub const READ_ERROR: [u8; 2] = [0x02, 0x85];
 
 pub const COMPARE_FAILURE: [u8; 2] = [0x0A, 0x85];
 
-pub const LBA_OUT_OF_RANGE: [u8; 2] = [0x00, 0x81];
-
 // The type of the SGL descriptor of data that are not in the capsule.
 const NOT_IN_CAPSULE: u8 = 0x5A;
 

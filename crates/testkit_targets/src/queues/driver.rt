@@ -144,14 +144,6 @@ impl<D: Disk + Drop> Driver<D> {
             && self.target.empties(k)
     }
 
-    /// Whether a command without data is answered with these bytes.
-    pub fn sends(&mut self, queue: usize, command: &Command, wanted: &[u8]) -> bool {
-        let _head = self.next_head(queue);
-        let k = connection_of(queue);
-        let pdu = command.pdu(self.alloc, &[]);
-        self.takes(k, pdu) && *self.target.sent(k) == *wanted && self.target.empties(k)
-    }
-
     /// Whether a command's capsule is taken, and so many bytes are sent, which are taken away.
     pub fn exchanges(&mut self, queue: usize, capsule: &[u8], len: usize) -> bool {
         let k = connection_of(queue);

@@ -3,81 +3,25 @@ use nvt_ports::{MemoryPorts, PIECE_MAX, PortEvent, PortStep, Ports, SLOTS};
 use std::alloc::{AllocError, Global};
 use testkit_tables::{Outcome, Placed, check, check_bytes, pass};
 
-// What is next in a call, where each slot has so much room, and the bytes that stand in the buffer then.
-struct Row {
-    room: usize,
-    event: PortEvent,
-    bytes: &'static [u8],
-}
+// How much room each slot has in a call, what is next, and the bytes that stand in the buffer then.
+type Row = (usize, PortEvent, &'static [u8]);
 
 const ROWS: &[Row] = &[
-    Row {
-        room: 9,
-        event: PortEvent::Open { slot: 0, port: 1 },
-        bytes: b"",
-    },
-    Row {
-        room: 3,
-        event: PortEvent::Bytes { slot: 0, n: 3 },
-        bytes: b"abc",
-    },
-    Row {
-        room: 0,
-        event: PortEvent::Nothing,
-        bytes: b"",
-    },
-    Row {
-        room: 9,
-        event: PortEvent::Bytes { slot: 0, n: 2 },
-        bytes: b"de",
-    },
+    (9, PortEvent::Open { slot: 0, port: 1 }, b""),
+    (3, PortEvent::Bytes { slot: 0, n: 3 }, b"abc"),
+    (0, PortEvent::Nothing, b""),
+    (9, PortEvent::Bytes { slot: 0, n: 2 }, b"de"),
     // The step is over, which is seen at the next call alone.
-    Row {
-        room: 9,
-        event: PortEvent::Nothing,
-        bytes: b"",
-    },
-    Row {
-        room: 9,
-        event: PortEvent::Line { n: 7 },
-        bytes: b"host ad",
-    },
-    Row {
-        room: 9,
-        event: PortEvent::Tick { ms: 120_000 },
-        bytes: b"",
-    },
+    (9, PortEvent::Nothing, b""),
+    (9, PortEvent::Line { n: 7 }, b"host ad"),
+    (9, PortEvent::Tick { ms: 120_000 }, b""),
     // A slot that is open, one that there is not, and one that is not open.
-    Row {
-        room: 9,
-        event: PortEvent::Nothing,
-        bytes: b"",
-    },
-    Row {
-        room: 9,
-        event: PortEvent::Nothing,
-        bytes: b"",
-    },
-    Row {
-        room: 9,
-        event: PortEvent::Nothing,
-        bytes: b"",
-    },
-    Row {
-        room: 9,
-        event: PortEvent::Open { slot: 63, port: 2 },
-        bytes: b"",
-    },
-    Row {
-        room: 9,
-        event: PortEvent::End { slot: 0 },
-        bytes: b"",
-    },
-    Row {
-        room: 9,
-        event: PortEvent::Nothing,
-        bytes: b"",
-    },
+    (9, PortEvent::Nothing, b""),
+    (9, PortEvent::Nothing, b""),
+    (9, PortEvent::Nothing, b""),
+    (9, PortEvent::Open { slot: 63, port: 2 }, b""),
+    (9, PortEvent::End { slot: 0 }, b""),
+    (9, PortEvent::Nothing, b""),
 ];
 
 fn steps(alloc: Global) -> Result<Vec<PortStep>, AllocError> {
@@ -103,10 +47,10 @@ fn steps(alloc: Global) -> Result<Vec<PortStep>, AllocError> {
 }
 
 fn check_row(ports: &mut MemoryPorts, buf: &mut [u8; PIECE_MAX], row: &Row) -> Outcome {
-    let event = ports.next(&[row.room; SLOTS], buf);
-    pass!(check(event == row.event, "what is next"));
-    let front = buf.get(..row.bytes.len()).unwrap_or(&[]);
-    check_bytes(front, row.bytes)
+    let (room, event, bytes) = row;
+    let next = ports.next(&[*room; SLOTS], buf);
+    pass!(check(next == *event, "what is next"));
+    check_bytes(buf.get(..bytes.len()).unwrap_or(&[]), bytes)
 }
 
 #[test]

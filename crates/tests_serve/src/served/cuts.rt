@@ -1,7 +1,6 @@
 //! A stream that is cut at each byte, and then ended.
-use crate::served::pdus::{ic_resp, property_get, refused_command};
+use crate::served::pdus::{answers, pieces};
 use std::alloc::{AllocError, Global};
-use testkit_edits::ic_req;
 use testkit_tables::{Outcome, Placed, check, check_bytes, pass};
 use testkit_targets::serving::{Rig, Scenario, Step, add, holds_over};
 
@@ -9,26 +8,17 @@ use testkit_targets::serving::{Rig, Scenario, Step, add, holds_over};
 const ENDS: [usize; 3] = [128, 200, 272];
 
 fn stream(alloc: Global) -> Result<Vec<u8>, AllocError> {
-    let mut bytes = ic_req(alloc)?;
-    bytes.extend_from_slice(&property_get(alloc, 1)?)?;
-    bytes.extend_from_slice(&property_get(alloc, 2)?)?;
+    let mut bytes = Vec::new(alloc);
+    for piece in &pieces(alloc)? {
+        bytes.extend_from_slice(piece)?;
+    }
     Ok(bytes)
 }
 
 // What is owed for so many bytes.
 fn owed(alloc: Global, len: usize) -> Result<Vec<u8>, AllocError> {
-    let [first, second, third] = ENDS;
-    let mut wanted = Vec::new(alloc);
-    if len >= first {
-        wanted.extend_from_slice(&ic_resp())?;
-    }
-    if len >= second {
-        wanted.extend_from_slice(&refused_command(1))?;
-    }
-    if len >= third {
-        wanted.extend_from_slice(&refused_command(2))?;
-    }
-    Ok(wanted)
+    let count = ENDS.iter().filter(|end| **end <= len).count();
+    answers(alloc, count as u64)
 }
 
 // The host's end goes away once all that it is owed was given.

@@ -1,36 +1,11 @@
 //! Slots that fail when something is given to them.
-use crate::served::pdus::{ic_resp, property_get, refused_command};
+use crate::served::pdus::{answers, pieces};
 use std::alloc::{AllocError, Global};
-use testkit_edits::ic_req;
 use testkit_tables::{Outcome, Placed, check, check_bytes, pass};
 use testkit_targets::serving::{Rig, Scenario, Step, add, counted, holds_over};
 
-/// How many hosts there are, and how many answers each of them is to get.
+// How many hosts there are. Each of them is to get three answers.
 const HOSTS: usize = 3;
-
-const ANSWERS: u16 = 3;
-
-// What each host sends: an ICReq and two commands.
-fn streams(alloc: Global) -> Result<Vec<Vec<u8>>, AllocError> {
-    let mut pieces = Vec::with_capacity(alloc, 3)?;
-    pieces.push(ic_req(alloc)?)?;
-    pieces.push(property_get(alloc, 1)?)?;
-    pieces.push(property_get(alloc, 2)?)?;
-    Ok(pieces)
-}
-
-fn answers(alloc: Global, count: u64) -> Result<Vec<u8>, AllocError> {
-    let mut wanted = Vec::new(alloc);
-    if count > 0 {
-        wanted.extend_from_slice(&ic_resp())?;
-    }
-    for cid in 1..ANSWERS {
-        if u64::from(cid) < count {
-            wanted.extend_from_slice(&refused_command(cid))?;
-        }
-    }
-    Ok(wanted)
-}
 
 // Each host is opened in a turn of its own. Bytes take two turns, the second to find their end, and one where their slot
 // is closed.
@@ -88,7 +63,7 @@ fn add_all<'a>(steps: &mut Vec<Step<'a>>, pieces: &'a [Vec<u8>]) -> Result<(), A
 }
 
 fn fail(alloc: Global, n: u64) -> Outcome {
-    let pieces = streams(alloc)?;
+    let pieces = pieces(alloc)?;
     let mut steps = Vec::with_capacity(alloc, 15)?;
     add_all(&mut steps, &pieces)?;
     holds_over(alloc, &steps, &Failing { alloc, n })

@@ -39,33 +39,25 @@ pub fn property_get(alloc: Global, cid: u16) -> Result<Vec<u8>, AllocError> {
     capsule(alloc, &entry, &[])
 }
 
-/// An ICReq, and a Connect of CID 1 to the discovery subsystem with a keep alive timeout, in ms.
-pub fn connect_discovery(alloc: Global, kato: u16) -> Result<Vec<u8>, AllocError> {
-    let mut entry = [0; 64];
-    entry[0] = 0x7F;
-    entry[1] = 0x40;
-    entry[2] = 1;
-    entry[4] = 0x01;
-    entry[33] = 0x04;
-    entry[39] = 0x01;
-    entry[44] = 31;
-    let [low, high] = kato.to_le_bytes();
-    entry[48] = low;
-    entry[49] = high;
-    let mut data = [0; 1024];
-    data[16] = 0xFF;
-    data[17] = 0xFF;
-    put(&mut data, 256, b"nqn.2014-08.org.nvmexpress.discovery");
-    put(&mut data, 512, b"nqn.2026-01.test:h1");
-    let mut bytes = ic_req(alloc)?;
-    bytes.extend_from_slice(&capsule(alloc, &entry, &data)?)?;
-    Ok(bytes)
+/// What a host sends: an ICReq, and the commands 1 and 2.
+pub fn pieces(alloc: Global) -> Result<Vec<Vec<u8>>, AllocError> {
+    let mut pieces = Vec::with_capacity(alloc, 3)?;
+    pieces.push(ic_req(alloc)?)?;
+    pieces.push(property_get(alloc, 1)?)?;
+    pieces.push(property_get(alloc, 2)?)?;
+    Ok(pieces)
 }
 
-fn put(data: &mut [u8; 1024], place: usize, text: &[u8]) {
-    for (offset, byte) in text.iter().enumerate() {
-        if let Some(at) = data.get_mut(place.saturating_add(offset)) {
-            *at = *byte;
+/// What it is answered for so many of these pieces.
+pub fn answers(alloc: Global, count: u64) -> Result<Vec<u8>, AllocError> {
+    let mut wanted = Vec::new(alloc);
+    if count > 0 {
+        wanted.extend_from_slice(&ic_resp())?;
+    }
+    for cid in 1..3 {
+        if u64::from(cid) < count {
+            wanted.extend_from_slice(&refused_command(cid))?;
         }
     }
+    Ok(wanted)
 }
