@@ -1,14 +1,11 @@
-use crate::target::driver::target_over;
 use block_store::MemoryDisk;
 use nvt_config::{Edit, NewFault};
 use std::alloc::{AllocError, Global};
 use target_core::{OpenFault, Stepped, Target};
-use testkit_edits::{Line, edit};
+use testkit_edits::{Line, edit, memory_disks};
 use testkit_tables::{Outcome, Placed, check};
 
 pub const CONNECTIONS: u32 = 4;
-
-const UNITS: &[u64] = &[64];
 
 // What a test knows of a connection by itself.
 #[derive(Clone, Copy)]
@@ -39,10 +36,10 @@ pub struct Script {
 }
 
 impl Script {
-    /// A target of one disk.
+    /// Two targets of one disk each.
     pub fn new(alloc: Global) -> Result<Script, NewFault> {
-        let target = target_over(alloc, UNITS)?;
-        let whole = target_over(alloc, UNITS)?;
+        let target = target_over_zeros(alloc)?;
+        let whole = target_over_zeros(alloc)?;
         Ok(Script {
             alloc,
             target,
@@ -161,6 +158,13 @@ impl Script {
     fn is_same(&self, number: usize) -> bool {
         let sent = self.whole.output(number);
         sent.get(self.known[number % 4].taken..) == Some(self.target.output(number))
+    }
+}
+
+fn target_over_zeros(alloc: Global) -> Result<Target<MemoryDisk>, NewFault> {
+    match memory_disks(alloc, &[64]) {
+        Ok(disks) => Target::new(alloc, disks),
+        Err(AllocError) => Err(NewFault::Memory),
     }
 }
 

@@ -1,13 +1,24 @@
 //! Random PDUs and edits.
-use super::pdus::{A, B, H1, H2, capsule, connect_data};
 use nvt_config::{Access, AnaState, Family};
 use rand_core::utils::NextWord;
 use rand_pcg::Pcg32;
 use std::alloc::{AllocError, Global};
-use testkit_edits::{Blocks, Line};
+use testkit_edits::{A, B, Blocks, H1, H2, Line, capsule};
+use testkit_targets::queues::put;
 
-/// One of these.
-pub fn pick<T: Copy>(random: &mut Pcg32, first: T, others: &[T]) -> T {
+const DISCOVERY: &[u8] = b"nqn.2014-08.org.nvmexpress.discovery";
+
+/// The data of a Connect to a subsystem.
+pub fn connect_data(cntlid: u16, subsystem: &[u8], host: &[u8]) -> [u8; 1024] {
+    let mut data = [0u8; 1024];
+    put(&mut data, 16, &cntlid.to_le_bytes());
+    put(&mut data, 256, subsystem);
+    put(&mut data, 512, host);
+    data
+}
+
+// One of these.
+fn pick<T: Copy>(random: &mut Pcg32, first: T, others: &[T]) -> T {
     let at = random.next_word() as usize % 9;
     match others.get(at) {
         Some(other) => *other,
@@ -53,7 +64,7 @@ fn connect(alloc: Global, random: &mut Pcg32) -> Result<Vec<u8>, AllocError> {
     entry[40] = u8::from(rarely(random, 12));
     entry[42] = pick(random, 0u8, &[1, 9]);
     entry[44] = pick(random, 31u8, &[1, 2, 63, 64, 0]);
-    let mut data = connect_data(pick(random, H1, &[H2]));
+    let mut data = connect_data(0xFFFF, DISCOVERY, pick(random, H1, &[H2]));
     if rarely(random, 12) {
         data[16] = 1;
     }
