@@ -8,11 +8,11 @@ use testkit_targets::queues::put;
 
 const DISCOVERY: &[u8] = b"nqn.2014-08.org.nvmexpress.discovery";
 
-/// The data of a Connect to a subsystem.
-pub fn connect_data(cntlid: u16, subsystem: &[u8], host: &[u8]) -> [u8; 1024] {
+// The data of a Connect to the discovery subsystem.
+fn connect_data(host: &[u8]) -> [u8; 1024] {
     let mut data = [0u8; 1024];
-    put(&mut data, 16, &cntlid.to_le_bytes());
-    put(&mut data, 256, subsystem);
+    put(&mut data, 16, &[0xFF; 2]);
+    put(&mut data, 256, DISCOVERY);
     put(&mut data, 512, host);
     data
 }
@@ -48,11 +48,8 @@ fn ic_req(alloc: Global, random: &mut Pcg32) -> Result<Vec<u8>, AllocError> {
 fn entry_of(random: &mut Pcg32, opcode: u8, fctype: u8) -> [u8; 64] {
     let mut entry = [0u8; 64];
     let cid = random.next_word().to_le_bytes();
-    entry[0] = opcode;
-    entry[1] = if rarely(random, 20) { 0x41 } else { 0x40 };
-    entry[2] = cid[0];
-    entry[3] = cid[1];
-    entry[4] = fctype;
+    let flags = if rarely(random, 20) { 0x41 } else { 0x40 };
+    entry[..5].copy_from_slice(&[opcode, flags, cid[0], cid[1], fctype]);
     entry
 }
 
@@ -64,7 +61,7 @@ fn connect(alloc: Global, random: &mut Pcg32) -> Result<Vec<u8>, AllocError> {
     entry[40] = u8::from(rarely(random, 12));
     entry[42] = pick(random, 0u8, &[1, 9]);
     entry[44] = pick(random, 31u8, &[1, 2, 63, 64, 0]);
-    let mut data = connect_data(0xFFFF, DISCOVERY, pick(random, H1, &[H2]));
+    let mut data = connect_data(pick(random, H1, &[H2]));
     if rarely(random, 12) {
         data[16] = 1;
     }
@@ -92,18 +89,12 @@ fn log_read(alloc: Global, random: &mut Pcg32) -> Result<Vec<u8>, AllocError> {
     let mut entry = entry_of(random, opcode, 0);
     let dwords = pick(random, 256u16, &[1, 2, 4, 257, 8192, 8193]);
     let wanted = u32::from(dwords) * 4;
-    let len = pick(random, wanted, &[4]).to_le_bytes();
-    entry[32] = len[0];
-    entry[33] = len[1];
-    entry[34] = len[2];
+    entry[32..36].copy_from_slice(&pick(random, wanted, &[4]).to_le_bytes());
     entry[39] = pick(random, 0x5Au8, &[1]);
     entry[40] = pick(random, 0x70u8, &[2]);
-    let numd = dwords.saturating_sub(1).to_le_bytes();
-    entry[42] = numd[0];
-    entry[43] = numd[1];
-    let offset = pick(random, 0u16, &[4, 8, 1020, 1024, 1028, 2048, 3072, 2]).to_le_bytes();
-    entry[48] = offset[0];
-    entry[49] = offset[1];
+    entry[42..44].copy_from_slice(&dwords.saturating_sub(1).to_le_bytes());
+    let offset = pick(random, 0u16, &[4, 8, 1020, 1024, 1028, 2048, 3072, 2]);
+    entry[48..50].copy_from_slice(&offset.to_le_bytes());
     capsule(alloc, &entry, &[])
 }
 

@@ -1,11 +1,10 @@
 //! Output that is not taken waits, on each of 64 connections, and no memory for more of it is refused.
-use crate::random::connect_data;
 use nvt_config::Access;
 use std::alloc::{AllocError, Global};
 use testkit_edits::{A, Blocks, H1, Line, capsule, ic_req};
 use testkit_tables::{Outcome, Placed, check, pass};
 use testkit_targets::MemoryTarget;
-use testkit_targets::queues::{Command, Opcode, connect_to, enable};
+use testkit_targets::queues::{Command, Opcode, connect_to, enable, put};
 
 // So many Identify commands of an admin queue, and Reads of 32 KiB of an I/O queue, are sent more than
 // 256 KiB.
@@ -34,15 +33,12 @@ const UNITS: Blocks = Blocks {
     group: 1,
 };
 
-// A Connect of CID 1 to an I/O queue of this controller, with SQSIZE 31.
+// A Connect to an I/O queue of this controller.
 fn connect_io(alloc: Global, cntlid: u16) -> Result<Vec<u8>, AllocError> {
-    let mut entry = [0u8; 64];
-    entry[..5].copy_from_slice(&[0x7F, 0x40, 1, 0, 1]);
-    entry[33] = 4;
-    entry[39] = 1;
-    entry[42] = 1;
-    entry[44] = 31;
-    capsule(alloc, &entry, &connect_data(cntlid, A, H1))
+    let mut pdu = connect_to(alloc, A, H1)?;
+    put(&mut pdu, 8 + 42, &[1]);
+    put(&mut pdu, 72 + 16, &cntlid.to_le_bytes());
+    Ok(pdu)
 }
 
 // An Identify of the controller.
