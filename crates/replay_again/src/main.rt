@@ -12,7 +12,6 @@ mod play;
 mod player;
 
 use arguments::{Arguments, read_arguments};
-use fault::PlayFault;
 use std::process::ExitCode;
 use std::rt::{Env, Files};
 
@@ -48,10 +47,6 @@ fn run<R: Files + Print + Eprint + AllocGlobal>(
 ) -> ExitCode {
     let outcome = play::play(rt, arguments, refused);
     let _ = eprintln!(rt; "refused growths: {refused}");
-    finish(rt, outcome)
-}
-
-fn finish(rt: &impl Eprint, outcome: Result<(), PlayFault>) -> ExitCode {
     match outcome {
         Ok(()) => ExitCode::SUCCESS,
         Err(fault) => {

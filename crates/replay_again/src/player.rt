@@ -18,12 +18,11 @@ pub type PlayedTarget = Target<FailingDisk<MemoryDisk>>;
 // What is seen of each connection: its room, whether it is ended, and how much output waits.
 type Seen = [(usize, bool, usize); CONNECTIONS];
 
-/// A target, which of its connections are open, and how many calls answered Memory.
+/// A target, and how many calls answered Memory.
 #[derive(Drop)]
 pub struct Player {
     alloc: Global,
     target: PlayedTarget,
-    is_open: [bool; CONNECTIONS],
     // The bytes that a line brings.
     bytes: Vec<u8>,
     printer: Printer,
@@ -37,7 +36,6 @@ impl Player {
         Player {
             alloc,
             target,
-            is_open: [false; CONNECTIONS],
             bytes: Vec::new(alloc),
             printer: Printer::new(alloc),
             once,
@@ -72,12 +70,7 @@ impl Player {
 
     fn open<W: Write>(&mut self, port: u16, out: &mut W) -> Result<(), PlayFault> {
         match self.opened(port)? {
-            Ok(k) => {
-                if let Some(is_open) = self.is_open.get_mut(k) {
-                    *is_open = true;
-                }
-                self.event(k as u64, "open", out)
-            }
+            Ok(k) => self.event(k as u64, "open", out),
             Err(fault) => {
                 again!(
                     self.refused,
@@ -157,25 +150,15 @@ impl Player {
     }
 
     fn is_open(&self, k: u64) -> bool {
-        match self.is_open.get(k as usize) {
-            Some(is_open) => *is_open,
-            None => false,
-        }
+        self.target.is_known(k as usize)
     }
 
     fn end<W: Write>(&mut self, k: u64, out: &mut W) -> Result<(), PlayFault> {
         if !self.is_open(k) {
             return self.event(k, "none", out);
         }
-        self.give_up(k as usize);
+        self.target.end(k as usize);
         self.drain(out)
-    }
-
-    fn give_up(&mut self, k: usize) {
-        self.target.end(k);
-        if let Some(is_open) = self.is_open.get_mut(k) {
-            *is_open = false;
-        }
     }
 
     fn receive<W: Write>(&mut self, k: u64, hex: &[u8], out: &mut W) -> Result<(), PlayFault> {
@@ -261,7 +244,7 @@ impl Player {
         }
         if self.target.ended(k) {
             self.event(k as u64, "closed", out)?;
-            self.give_up(k);
+            self.target.end(k);
         }
         Ok(())
     }

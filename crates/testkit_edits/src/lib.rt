@@ -14,9 +14,9 @@ mod same_edit;
 mod start;
 
 pub use disks::memory_disks;
-pub use line::{Blocks, Line, edit, is_applied};
+pub use line::{Blocks, Line, edit};
 pub use names::{A, B, H0, H1, H2, host_name};
 pub use pdus::{capsule, ic_req};
-pub use same::{has_same_groups, is_same};
+pub use same::is_same;
 pub use same_edit::is_same_edit;
 pub use start::{config_over, on_disk, uuid_byte};

@@ -1,6 +1,4 @@
-use nvt_config::{
-    Access, AnaState, Config, Edit, Endpoint, Family, NewNamespace, Text, Visibility,
-};
+use nvt_config::{Access, AnaState, Edit, Endpoint, Family, NewNamespace, Text, Visibility};
 use nvt_fields::{Nqn, NqnFault};
 use std::alloc::{AllocError, Global};
 use uuid::Uuid;
@@ -87,14 +85,6 @@ pub fn edit(alloc: Global, line: Line<'_>) -> Result<Edit, NqnFault> {
             referral_set(alloc, id, family, address, service)
         }
         Line::ReferralDel(id) => Ok(Edit::ReferralDel { id }),
-    }
-}
-
-/// Makes the edit of a line; whether it is accepted.
-pub fn is_applied(alloc: Global, config: &mut Config, line: Line<'_>) -> bool {
-    match edit(alloc, line) {
-        Ok(edit) => config.apply(&edit).is_ok(),
-        Err(_) => false,
     }
 }
 

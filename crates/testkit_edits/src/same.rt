@@ -14,12 +14,6 @@ pub fn is_same(config: &Config, other: &Config) -> bool {
         && are_shows_same(config.shows(), other.shows())
 }
 
-/// Whether the namespaces and the ANA states of both are the same.
-pub fn has_same_groups(config: &Config, other: &Config) -> bool {
-    are_namespaces_same(config.namespaces(), other.namespaces())
-        && are_states_same(config.states(), other.states())
-}
-
 fn are_subsystems_same(subsystems: &[Subsystem], others: &[Subsystem]) -> bool {
     for (subsystem, other) in subsystems.iter().zip(others) {
         let is_same = subsystem.nqn == other.nqn

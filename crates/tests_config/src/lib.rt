@@ -1,7 +1,10 @@
-//! Tests of the configuration, through public calls: its edits, and the text of edits.
+//! Tests of the text of edits, through public calls: random edits are written and read back, and a configuration is
+//! saved, whole and in pieces.
 #![tactic(auto)]
 
 #[cfg(test)]
-mod edits;
+mod drawn;
 #[cfg(test)]
-mod text;
+mod lines;
+#[cfg(test)]
+mod saved;

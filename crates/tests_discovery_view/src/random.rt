@@ -207,19 +207,11 @@ fn check_host(
 
 // The host's page has the records of the plain program.
 fn check_records(alloc: Global, followed: &Followed, host: &[u8], seen: &mut Seen) -> Outcome {
-    match plain::records(alloc, &followed.config, host) {
-        Ok(records) => {
-            seen.records = seen.records.wrapping_add(records.len() as u64 / 1024);
-            check_page(alloc, followed, host, &records)
-        }
-        Err(_) => check(false, "memory"),
-    }
-}
-
-fn check_page(alloc: Global, followed: &Followed, host: &[u8], records: &[u8]) -> Outcome {
+    let records = plain::records(alloc, &followed.config, host)?;
+    seen.records = seen.records.wrapping_add(records.len() as u64 / 1024);
     let page = page(alloc, &followed.view, host)?;
     match page.get(1024..) {
-        Some(shown) => check_bytes(shown, records),
+        Some(shown) => check_bytes(shown, &records),
         None => check(false, "a header"),
     }
 }

@@ -1,4 +1,5 @@
-//! The line of an edit, written and read back.
+//! The line of an edit, written and read back. No line is that of two edits, so an edit that is written as a line is the
+//! one that the line says.
 use super::drawn::drawn;
 use bytes::BytesMut;
 use config_text::{
@@ -8,7 +9,6 @@ use config_text::{
 use nvt_config::Edit;
 use rand_pcg::Pcg32;
 use std::alloc::{AllocError, Global};
-use testkit_edits::is_same_edit;
 use testkit_tables::{Outcome, Placed, check, check_bytes, pass};
 
 // Of each command.
@@ -21,13 +21,14 @@ const LINE_MAX: usize = 1_024;
 // What stands in a buffer before a line is written behind it.
 const BEFORE: &[u8] = b"before\n";
 
-/// A line says an edit that is this one, and is written the same.
-pub fn check_read_back(alloc: Global, edit: &Edit, line: &[u8]) -> Outcome {
+// What is read of the line is written as the line; where it is none, memory is not why.
+fn check_read_back(alloc: Global, line: &[u8], is_one: bool) -> Outcome {
     match read_edit(alloc, line) {
-        Ok(read) => check(is_same_edit(&read, edit), "the edit that is read back").and(
-            check_written(alloc, &read, line),
-        ),
-        Err(_) => check(false, "an edit that is read back"),
+        Ok(read) => check_written(alloc, &read, line),
+        Err(fault) => {
+            let is_refused = !is_one && fault.kind != LineFaultKind::Memory;
+            check(is_refused, "an edit that is read back")
+        }
     }
 }
 
@@ -38,15 +39,10 @@ fn buffer(alloc: Global, room: usize) -> Result<BytesMut, AllocError> {
     Ok(out)
 }
 
-/// The edit's line is this one, where there is room for it alone.
-pub fn check_written(alloc: Global, edit: &Edit, line: &[u8]) -> Outcome {
+// The edit's line is this one, where there is room for it alone.
+fn check_written(alloc: Global, edit: &Edit, line: &[u8]) -> Outcome {
     let mut out = buffer(alloc, line.len())?;
-    let written = write_edit(edit, &mut out);
-    check_line(&out, written, line)
-}
-
-fn check_line(out: &BytesMut, written: Result<(), Full>, line: &[u8]) -> Outcome {
-    pass!(check(written == Ok(()), "room for its line"));
+    pass!(check(write_edit(edit, &mut out) == Ok(()), "room for its line"));
     match out.as_slice().strip_prefix(BEFORE) {
         Some(behind) => check_bytes(behind, line)?,
         None => return check(false, "what stood before the line"),
@@ -63,31 +59,15 @@ fn check_refused(alloc: Global, edit: &Edit, len: usize) -> Outcome {
     check(is_refused, "no room for its line").and(check_bytes(out.as_slice(), BEFORE))
 }
 
-// Whether the line says another edit, or none, without its last byte.
-fn is_another_cut(alloc: Global, edit: &Edit, line: &[u8]) -> bool {
-    let front = line.get(..line.len().saturating_sub(1)).unwrap_or(&[]);
-    match read_edit(alloc, front) {
-        Ok(read) => !is_same_edit(&read, edit),
-        Err(fault) => fault.kind != LineFaultKind::Memory,
-    }
-}
-
 // A space behind the line is a fault.
 fn check_longer_refused(alloc: Global, line: &mut BytesMut) -> Outcome {
-    let len = line.len();
     line.extend_from_slice(b" ")?;
-    let fault = if len < LINE_MAX {
-        LineFault {
-            column: line.len(),
-            kind: LineFaultKind::Empty,
-        }
+    let (column, kind) = if line.len() <= LINE_MAX {
+        (line.len(), LineFaultKind::Empty)
     } else {
-        LineFault {
-            column: 0,
-            kind: LineFaultKind::TooLong,
-        }
+        (0, LineFaultKind::TooLong)
     };
-    let is_refused = read_edit(alloc, line.as_slice()).err() == Some(fault);
+    let is_refused = read_edit(alloc, line.as_slice()).err() == Some(LineFault { column, kind });
     check(is_refused, "the fault of a space behind its line")
 }
 
@@ -95,10 +75,13 @@ fn check_longer_refused(alloc: Global, line: &mut BytesMut) -> Outcome {
 fn check_sound(alloc: Global, edit: &Edit, line: &mut BytesMut) -> Outcome {
     pass!(check(write_edit(edit, line) == Ok(()), "room for its line"));
     pass!(check(line.len() <= LINE_MAX, "a line of at most 1,024 bytes"));
-    pass!(check_read_back(alloc, edit, line.as_slice()));
+    pass!(check_read_back(alloc, line.as_slice(), true));
     pass!(check_refused(alloc, edit, line.len()));
-    let is_another = is_another_cut(alloc, edit, line.as_slice());
-    pass!(check(is_another, "another edit, or none, without the last byte"));
+    let front = line
+        .as_slice()
+        .get(..line.len().saturating_sub(1))
+        .unwrap_or(&[]);
+    pass!(check_read_back(alloc, front, false));
     check_longer_refused(alloc, line)
 }
 

@@ -1,42 +1,12 @@
-//! Faults of `replay` that no file shows: disks past their limits, and a writer that fails.
+//! A replay whose output fails after some bytes.
 use nvt_replay::{ReplayFault, replay};
 use std::alloc::Global;
 use std::io::{self, Write};
-use testkit_tables::{Outcome, Placed, check, check_bytes, pass};
+use testkit_tables::{Outcome, Placed, check, pass};
 
 const PORT: &[u8] = b"port add 1 ipv4 127.0.0.1 4420\n";
 
 const UNITS: &[u64] = &[2048, 2048, 2048, 2048];
-
-const TOO_LARGE: &[u64] = &[(1 << 40) + 1];
-
-// What the replay of two faulty lines comes to, and whether nothing is written.
-fn judged(alloc: Global, units: &[u64]) -> (Result<(), ReplayFault>, bool) {
-    let mut out = Narrow {
-        left: 100,
-        has_failed: false,
-    };
-    let outcome = replay(alloc, b"port", b"x", units, &mut out);
-    (outcome, out.left == 100)
-}
-
-#[test]
-fn disks_are_judged_first(rt: HostRuntime) {
-    assert!(rt; judged(rt.alloc(), TOO_LARGE) == (Err(ReplayFault::Disks), true));
-    let of_edits = judged(rt.alloc(), UNITS);
-    assert!(rt;
-        matches!(
-            &of_edits,
-            (Err(ReplayFault::EditLine { line: 1, reply: _ }), true)
-        )
-    );
-}
-
-#[test]
-fn the_fault_of_disks_has_a_text(rt: HostRuntime) -> Outcome {
-    let text = ReplayFault::Disks.to_string(rt.alloc())?;
-    check_bytes(text.as_bytes(), b"disks")
-}
 
 // A writer that takes this many more bytes, and knows whether it was asked for one more.
 #[derive(Drop)]

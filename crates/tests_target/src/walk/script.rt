@@ -1,14 +1,11 @@
-use crate::target::driver::target_over;
 use block_store::MemoryDisk;
 use nvt_config::{Edit, NewFault};
 use std::alloc::{AllocError, Global};
 use target_core::{OpenFault, Stepped, Target};
-use testkit_edits::{Line, edit};
+use testkit_edits::{Line, edit, memory_disks};
 use testkit_tables::{Outcome, Placed, check};
 
 pub const CONNECTIONS: u32 = 4;
-
-const UNITS: &[u64] = &[64];
 
 // What a test knows of a connection by itself.
 #[derive(Clone, Copy)]
@@ -39,10 +36,10 @@ pub struct Script {
 }
 
 impl Script {
-    /// A target of one disk.
+    /// Two targets of one disk each.
     pub fn new(alloc: Global) -> Result<Script, NewFault> {
-        let target = target_over(alloc, UNITS)?;
-        let whole = target_over(alloc, UNITS)?;
+        let target = target_over_zeros(alloc)?;
+        let whole = target_over_zeros(alloc)?;
         Ok(Script {
             alloc,
             target,
@@ -83,10 +80,8 @@ impl Script {
 
     fn make(&mut self, edit: &Edit) {
         let verdict = self.target.config().check(edit);
-        let made = self.target.edit(edit);
-        self.expect(made == verdict, "the answer of an edit");
-        let made = self.whole.edit(edit);
-        self.expect(made == verdict, "the answer of the same edit");
+        let made = [self.target.edit(edit), self.whole.edit(edit)];
+        self.expect(made == [verdict; 2], "the answers of an edit");
     }
 
     /// Opens a connection: on a port that is there it gets the least free number.
@@ -131,17 +126,14 @@ impl Script {
 
     /// Brings one PDU, or what stands in its place: to the one target in two pieces, to the other whole.
     pub fn take(&mut self, number: usize, pdu: Result<Vec<u8>, AllocError>, cut: usize) {
-        match pdu {
-            Ok(bytes) => self.take_bytes(number, &bytes, cut),
-            Err(AllocError) => self.expect(false, "memory ran out for a PDU"),
-        }
-    }
-
-    fn take_bytes(&mut self, number: usize, bytes: &[u8], cut: usize) {
-        let is_taken = is_one_taken(&mut self.target, number, bytes, cut);
-        self.expect(is_taken, "what a step takes");
-        let is_taken = is_one_taken(&mut self.whole, number, bytes, bytes.len());
-        self.expect(is_taken, "what the same step takes");
+        let is_taken = match pdu {
+            Ok(bytes) => {
+                is_one_taken(&mut self.target, number, &bytes, cut)
+                    && is_one_taken(&mut self.whole, number, &bytes, bytes.len())
+            }
+            Err(AllocError) => false,
+        };
+        self.expect(is_taken, "what the steps take");
     }
 
     /// Takes so many bytes of the connection's output, or all where there are fewer.
@@ -154,13 +146,17 @@ impl Script {
 
     /// What the two send on this connection is the same.
     pub fn compare(&mut self, number: usize) {
-        let is_same = self.is_same(number);
+        let sent = self.whole.output(number);
+        let left = sent.get(self.known[number % 4].taken..);
+        let is_same = left == Some(self.target.output(number));
         self.expect(is_same, "what is sent");
     }
+}
 
-    fn is_same(&self, number: usize) -> bool {
-        let sent = self.whole.output(number);
-        sent.get(self.known[number % 4].taken..) == Some(self.target.output(number))
+fn target_over_zeros(alloc: Global) -> Result<Target<MemoryDisk>, NewFault> {
+    match memory_disks(alloc, &[64]) {
+        Ok(disks) => Target::new(alloc, disks),
+        Err(AllocError) => Err(NewFault::Memory),
     }
 }
 

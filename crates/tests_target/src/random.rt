@@ -1,13 +1,24 @@
 //! Random PDUs and edits.
-use super::pdus::{A, B, H1, H2, capsule, connect_data};
 use nvt_config::{Access, AnaState, Family};
 use rand_core::utils::NextWord;
 use rand_pcg::Pcg32;
 use std::alloc::{AllocError, Global};
-use testkit_edits::{Blocks, Line};
+use testkit_edits::{A, B, Blocks, H1, H2, Line, capsule};
+use testkit_targets::queues::put;
 
-/// One of these.
-pub fn pick<T: Copy>(random: &mut Pcg32, first: T, others: &[T]) -> T {
+const DISCOVERY: &[u8] = b"nqn.2014-08.org.nvmexpress.discovery";
+
+// The data of a Connect to the discovery subsystem.
+fn connect_data(host: &[u8]) -> [u8; 1024] {
+    let mut data = [0u8; 1024];
+    put(&mut data, 16, &[0xFF; 2]);
+    put(&mut data, 256, DISCOVERY);
+    put(&mut data, 512, host);
+    data
+}
+
+// One of these.
+fn pick<T: Copy>(random: &mut Pcg32, first: T, others: &[T]) -> T {
     let at = random.next_word() as usize % 9;
     match others.get(at) {
         Some(other) => *other,
@@ -37,11 +48,8 @@ fn ic_req(alloc: Global, random: &mut Pcg32) -> Result<Vec<u8>, AllocError> {
 fn entry_of(random: &mut Pcg32, opcode: u8, fctype: u8) -> [u8; 64] {
     let mut entry = [0u8; 64];
     let cid = random.next_word().to_le_bytes();
-    entry[0] = opcode;
-    entry[1] = if rarely(random, 20) { 0x41 } else { 0x40 };
-    entry[2] = cid[0];
-    entry[3] = cid[1];
-    entry[4] = fctype;
+    let flags = if rarely(random, 20) { 0x41 } else { 0x40 };
+    entry[..5].copy_from_slice(&[opcode, flags, cid[0], cid[1], fctype]);
     entry
 }
 
@@ -81,18 +89,12 @@ fn log_read(alloc: Global, random: &mut Pcg32) -> Result<Vec<u8>, AllocError> {
     let mut entry = entry_of(random, opcode, 0);
     let dwords = pick(random, 256u16, &[1, 2, 4, 257, 8192, 8193]);
     let wanted = u32::from(dwords) * 4;
-    let len = pick(random, wanted, &[4]).to_le_bytes();
-    entry[32] = len[0];
-    entry[33] = len[1];
-    entry[34] = len[2];
+    entry[32..36].copy_from_slice(&pick(random, wanted, &[4]).to_le_bytes());
     entry[39] = pick(random, 0x5Au8, &[1]);
     entry[40] = pick(random, 0x70u8, &[2]);
-    let numd = dwords.saturating_sub(1).to_le_bytes();
-    entry[42] = numd[0];
-    entry[43] = numd[1];
-    let offset = pick(random, 0u16, &[4, 8, 1020, 1024, 1028, 2048, 3072, 2]).to_le_bytes();
-    entry[48] = offset[0];
-    entry[49] = offset[1];
+    entry[42..44].copy_from_slice(&dwords.saturating_sub(1).to_le_bytes());
+    let offset = pick(random, 0u16, &[4, 8, 1020, 1024, 1028, 2048, 3072, 2]);
+    entry[48..50].copy_from_slice(&offset.to_le_bytes());
     capsule(alloc, &entry, &[])
 }
 
