@@ -7,10 +7,9 @@ import os
 import random
 import socket
 import struct
-import threading
 import time
 
-from .beside import SOON
+from .beside import SOON, Beside
 from .host import DISCOVERY, HOST, IC_REQ, Queue, capsule, command, connect_data, io_command, page_command, queues
 from .hosts import reset_when_closed
 from .owed import data_pdu
@@ -19,9 +18,10 @@ from .served import NQN, Served, check, check_equal, eventually, free_ports
 # What the hosts that send anything connect to, and as which host: no field of it makes another name of it.
 OTHER = b"nqn.2026-01.fuzz:elsewhere"
 NOBODY = b"nqn.2026-01.fuzz:nobody"
-# A part of what `.ci/fuzz` sends.
-SEEDS = (1, 2, 3)
-PDUS = 4000
+# The seeds, and how many PDUs are sent for each; `FUZZ_SEEDS=1,2 FUZZ_PDUS=10000 .ci/sockets
+# hosts_that_send_anything_harm_nobody` sends others. From one seed the same PDUs are sent again.
+SEEDS = [int(it) for it in os.environ.get("FUZZ_SEEDS", "1,2,3").split(",")]
+PDUS = int(os.environ.get("FUZZ_PDUS", "4000"))
 # Sessions that are open at once.
 AT_ONCE = 8
 # Blocks of 512 bytes that the host beside writes and reads.
@@ -181,70 +181,27 @@ def check_pdus(data, is_closed):
     check(not is_closed or at == len(data), "the last PDU that comes is cut")
 
 
-class Beside:
-    """Something that goes on in a thread of its own while the block runs, each act within a second."""
-
-    def __init__(self, name):
-        self.name = name
-        self.longest = 0
-        self.rounds = 0
-        self.fault = None
-        self.stops = threading.Event()
-        self.thread = threading.Thread(target=self.run, daemon=True)
-
-    def __enter__(self):
-        self.thread.start()
-        return self
-
-    def __exit__(self, kind, *_):
-        self.stops.set()
-        self.thread.join(10 * SOON)
-        if kind is None:
-            self.check()
-            self.check_end()
-            check(self.rounds > 0, f"{self.name} did nothing")
-
-    def run(self):
-        try:
-            while not self.stops.is_set():
-                self.act()
-                self.rounds += 1
-        except (AssertionError, OSError) as why:
-            self.fault = str(why)
-
-    def timed(self, call, *words):
-        began = time.monotonic()
-        answer = call(*words)
-        self.longest = max(self.longest, time.monotonic() - began)
-        return answer
-
-    def check(self):
-        """Fails where something was not right, or came too late."""
-        check(self.fault is None, f"{self.name}: {self.fault}")
-        check(self.longest <= SOON, f"{self.name} waits for {self.longest:.2f} s")
-
-    def check_end(self):
-        """Fails where what is left is not right."""
-
-
 class Blocks(Beside):
     """A host that writes blocks at random, and reads what was written last."""
 
     def __init__(self, target, port, draws):
-        super().__init__("the host that writes and reads")
+        super().__init__()
         self.draws = draws
         _, self.io = queues(target, port, seconds=3 * SOON)
         self.io.write(0, bytes(8192))
-        self.plain = bytearray(self.timed(self.io.read, 0, 256) + self.timed(self.io.read, 256, 256))
+        self.plain = bytearray(self.reads(0, 256) + self.reads(256, 256))
 
     def act(self):
         at, count = self.draws.randrange(BLOCKS - 16), self.draws.randrange(1, 17)
         data = self.draws.randbytes(count * 512)
-        self.timed(self.io.write, at, data)
+        self.timed("a Write", self.io.write, at, data)
         self.plain[at * 512 : (at + count) * 512] = data
         at, count = self.draws.randrange(BLOCKS - 64), self.draws.randrange(1, 65)
-        check(self.timed(self.io.read, at, count) == self.plain[at * 512 : (at + count) * 512], "it reads other bytes")
+        check(self.reads(at, count) == self.plain[at * 512 : (at + count) * 512], "it reads other bytes")
         time.sleep(0.01)
+
+    def reads(self, at, count):
+        return self.timed("a Read", self.io.read, at, count)
 
     def check_end(self):
         whole = self.io.read(0, 256) + self.io.read(256, 256)
@@ -255,7 +212,7 @@ class Pages(Beside):
     """A host that makes edits, and reads the log pages that they change."""
 
     def __init__(self, target, port, service):
-        super().__init__("the host that reads its log pages")
+        super().__init__()
         self.service = service
         self.editor = target.editor()
         self.admin = Queue(target, port, seconds=3 * SOON)
@@ -273,25 +230,25 @@ class Pages(Beside):
         self.reads_records([])
         self.makes(b"ns size %s 1 %d" % (NQN, 2048 - self.rounds % 2 - 1))
         listed = struct.pack("<I", 1).ljust(4096, b"\0")
-        check_equal("the list of changed namespaces", self.timed(self.admin.page, 0x04, 4096), listed)
-        check_equal("the list of changed namespaces", self.timed(self.admin.page, 0x04, 4096), bytes(4096))
+        for page in (listed, bytes(4096)):
+            check_equal("the list of changed namespaces", self.timed("its read", self.admin.page, 0x04, 4096), page)
         for word, state in ((b"non-optimized", 2), (b"optimized", 1)):
             self.makes(b"ana set 1 %s 1 %s" % (NQN, word))
             self.changes += 1
             page = struct.pack("<QHHI", self.changes, 1, 0, 0)
             page += struct.pack("<IIQB15xI", 1, 1, self.changes, state, 1)
-            check_equal("the groups", self.timed(self.admin.page, 0x0C, len(page)), page)
+            check_equal("the groups", self.timed("their read", self.admin.page, 0x0C, len(page)), page)
         time.sleep(0.02)
 
     def makes(self, line):
-        check_equal("a reply", self.timed(self.editor.edit, line), b"ok")
+        check_equal("a reply", self.timed("an edit", self.editor.edit, line), b"ok")
 
     def reads_records(self, more):
         """The page has one change more, the two subsystems, and these."""
         self.generation += 1
         records = [subsystem(self.service, name) for name in sorted((NQN, OTHER))] + more
         page = struct.pack("<QQH", self.generation, len(records), 0).ljust(1024, b"\0") + b"".join(records)
-        check_equal("the discovery log page", self.timed(self.discovery.page, 0x70, len(page)), page)
+        check_equal("the discovery log page", self.timed("its read", self.discovery.page, 0x70, len(page)), page)
 
 
 def record(subtype, port, service, name, address):

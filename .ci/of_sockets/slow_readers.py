@@ -6,7 +6,7 @@ import socket
 import struct
 import time
 
-from .beside import Beside
+from .beside import Others
 from .host import DISCOVERY, Queue, capsule, command, initialized, queues
 from .kernel import ends, far_place
 from .owed import OwedRefusals
@@ -63,7 +63,7 @@ def one_that_reads_the_discovery_page_slowly_stalls_nobody(target, port, _):
     host = slow_host(queue, STEADY)
     for _ in range(60):
         host.will_page(DISCOVERY_LOG, page)
-    with Beside(target, port, FILLED) as beside:
+    with Others(target, port, FILLED) as beside:
         run_all([host], STEADY_SECONDS, beside)
 
 
@@ -71,7 +71,7 @@ def one_that_reads_the_discovery_page_slowly_stalls_nobody(target, port, _):
 def one_that_is_not_connected_and_reads_slowly_stalls_nobody(target, port, _):
     peer = initialized(target, port, 16_384, ETHERNET)
     peer.setsockopt(socket.SOL_SOCKET, socket.SO_SNDBUF, 32_768)
-    with Beside(target, port, FILLED) as beside:
+    with Others(target, port, FILLED) as beside:
         owed, unsent = keep_alives_until_full(peer, beside)
         host = SlowHost(peer, owed, EvenPace(reads=8192, pause=0.03))
         host.unsent += unsent
@@ -114,7 +114,7 @@ def one_that_reads_large_blocks_slowly_stalls_nobody(target, port, data):
     host = slow_host(io, STEADY)
     for number in range(63):
         read_some(host, data, number * 37 % (FILLED - 256), 256)
-    with Beside(target, port, FILLED) as beside:
+    with Others(target, port, FILLED) as beside:
         run_all([host], STEADY_SECONDS, beside)
 
 
@@ -178,7 +178,7 @@ def kinds():
 
 @on_filled_disk(blocks=65_536)
 def one_slow_host_of_each_kind_gets_all_that_it_is_owed(target, port, data):
-    with Beside(target, port, FILLED) as beside:
+    with Others(target, port, FILLED) as beside:
         for place, kind in enumerate(kinds()):
             admin, io = queues(target, port, **kind.place)
             host = kind.host(io, 0.0005, place)
@@ -205,7 +205,7 @@ def check_written(target, port, written):
 @on_filled_disk(blocks=65_536)
 def sixty_two_slow_hosts_get_all_that_they_are_owed(target, port, data):
     page = learnt_page(target, port)
-    with Beside(target, port, FILLED, has_visits=False) as beside:
+    with Others(target, port, FILLED, has_visits=False) as beside:
         hosts = []
         written = []
         for place, (queue, kind) in enumerate(sixty_two(target, port)):
