@@ -89,12 +89,18 @@ fn log_read(alloc: Global, random: &mut Pcg32) -> Result<Vec<u8>, AllocError> {
     let mut entry = entry_of(random, opcode, 0);
     let dwords = pick(random, 256u16, &[1, 2, 4, 257, 8192, 8193]);
     let wanted = u32::from(dwords) * 4;
-    entry[32..36].copy_from_slice(&pick(random, wanted, &[4]).to_le_bytes());
+    let len = pick(random, wanted, &[4]).to_le_bytes();
+    entry[32] = len[0];
+    entry[33] = len[1];
+    entry[34] = len[2];
     entry[39] = pick(random, 0x5Au8, &[1]);
     entry[40] = pick(random, 0x70u8, &[2]);
-    entry[42..44].copy_from_slice(&dwords.saturating_sub(1).to_le_bytes());
-    let offset = pick(random, 0u16, &[4, 8, 1020, 1024, 1028, 2048, 3072, 2]);
-    entry[48..50].copy_from_slice(&offset.to_le_bytes());
+    let numd = dwords.saturating_sub(1).to_le_bytes();
+    entry[42] = numd[0];
+    entry[43] = numd[1];
+    let offset = pick(random, 0u16, &[4, 8, 1020, 1024, 1028, 2048, 3072, 2]).to_le_bytes();
+    entry[48] = offset[0];
+    entry[49] = offset[1];
     capsule(alloc, &entry, &[])
 }
 
