@@ -1,5 +1,7 @@
 //! Each call of a disk failing in turn, under each command.
-use crate::commands::{BLOCKS, LEN, ROWS, Row, after, before, begins, fails, is_done, written};
+use crate::commands::{
+    BLOCKS, Calls, LEN, ROWS, Row, after, before, begins, fails, is_done, written,
+};
 use block_store::{FailingDisk, MemoryDisk};
 use std::alloc::{AllocError, Global};
 use testkit_tables::{Outcome, Placed, check, pass};
@@ -43,8 +45,13 @@ fn fails_once(driver: &mut FailingDriver, row: &Row) -> bool {
 
 // How many calls of the disk the command of a row makes.
 fn calls_of(row: &Row) -> u64 {
-    let calls = row.2;
-    u64::from(calls.reads) + u64::from(calls.writes) + u64::from(calls.syncs)
+    let Calls {
+        reads,
+        writes,
+        syncs,
+        ..
+    } = row.2;
+    u64::from(reads.saturating_add(writes).saturating_add(syncs))
 }
 
 // The command of a row, at whose call of this number the disk fails; the last number is past all.
@@ -74,7 +81,7 @@ fn failing_disk(alloc: Global, passes: u64) -> Result<Vec<FailingDisk<MemoryDisk
 
 // As many calls pass at first as there are blocks, which are written. The step is the number of the call that fails.
 fn check_row(alloc: Global, row: &Row) -> Outcome {
-    for number in 0..=calls_of(row) {
+    for number in 0..calls_of(row).saturating_add(1) {
         let disks = failing_disk(alloc, number.saturating_add(BLOCKS as u64))?;
         pass!(holds_over(alloc, disks, &Turn { row, number }).at_step(number as usize));
     }
