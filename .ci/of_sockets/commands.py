@@ -1,11 +1,14 @@
 """The commands of `nvt_host`, each asked of a target that is served: what they print, whole, and how they end."""
 
 import contextlib
+import socket
+import struct
 import subprocess
 import threading
 import time
 
-from .served import NQN, SECONDS, Served, check, check_equal, eventually, free_ports
+from .host import DISCOVERY
+from .served import NQN, SECONDS, Served, check, check_equal, connected, eventually, free_ports, piece_of, received
 
 HOST = b"nqn.2026-01.test:h1"
 OTHER = b"nqn.2026-01.test:h2"
@@ -147,6 +150,52 @@ def discover_prints_a_page_of_one_moment(target, commands):
         check(pages >= least, f"{pages} pages")
 
 
+def is_read_of_records(pdu):
+    """Whether it is a Get Log Page of the discovery log page, from behind its header on."""
+    return pdu[0] == 4 and pdu[8] == 2 and pdu[48] == 0x70 and struct.unpack_from("<Q", pdu, 56)[0] >= 1024
+
+
+def relay(peer, host):
+    with peer, host:
+        while piece := piece_of(peer, 65_536):
+            host.sendall(piece)
+
+
+@contextlib.contextmanager
+def edited_between(target, service, times):
+    """The number of a port whose connection goes on to this one; before each of so many reads of records there is an
+    edit, which adds a referral or removes it."""
+    editor, made = target.editor(), []
+
+    def pass_on(listener):
+        host, peer = listener.accept()[0], connected(service)
+        host.settimeout(SECONDS)
+        threading.Thread(target=relay, args=(peer, host), daemon=True).start()
+        while len(head := received(host, 8)) == 8:
+            pdu = head + received(host, struct.unpack("<I", head[4:])[0] - 8)
+            if is_read_of_records(pdu) and len(made) < times:
+                made.append(editor.edit((b"ref add 9 ipv4 127.0.0.9 8009", b"ref del 9")[len(made) % 2]))
+            peer.sendall(pdu)
+        peer.shutdown(socket.SHUT_RDWR)
+
+    with socket.create_server(("127.0.0.1", 0)) as listener:
+        threading.Thread(target=pass_on, args=(listener,), daemon=True).start()
+        yield listener.getsockname()[1]
+    check_equal("the edits", made, [b"ok"] * times)
+
+
+@on_base()
+def discover_tries_again_where_records_change_behind_their_header(target, commands):
+    record = b"record 3 1 2 1 127.0.0.1 %d nqn.2026-01.test:a\n" % commands.service
+    with edited_between(target, commands.service, 1) as port:
+        referral = b"record 3 1 1 9 127.0.0.9 8009 %s\n" % DISCOVERY
+        Commands(commands.host, port).prints(b"genctr 2 records 2\n" + record + referral, "discover")
+    check_equal("an edit", target.editor().edit(b"ref del 9"), b"ok")
+    with edited_between(target, commands.service, 8) as port:
+        Commands(commands.host, port).fails(b"unsettled", "discover")
+    commands.prints(b"genctr 11 records 1\n" + record, "discover")
+
+
 @on_base(LARGE)
 def list_prints_the_namespaces(target, commands):
     commands.prints(b"1\n7\n", "list")
@@ -209,6 +258,7 @@ TESTS = [
     discover_prints_its_records,
     discover_prints_referrals,
     discover_prints_a_page_of_one_moment,
+    discover_tries_again_where_records_change_behind_their_header,
     list_prints_the_namespaces,
     ana_prints_the_groups,
     changed_waits_for_an_edit,
