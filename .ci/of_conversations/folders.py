@@ -37,7 +37,9 @@ class Case:
         faults = {}
         for way, how in self.ways():
             for number in range(self.tries):
-                time.sleep(PAUSE_SECONDS if number else 0)
+                if number:
+                    print(f"{self.FOLDER}/{self.name}, {way}: tried again: {faults[way]}", flush=True)
+                    time.sleep(PAUSE_SECONDS)
                 faults[way] = self.caught_fault(program, how)
                 if not faults[way]:
                     break

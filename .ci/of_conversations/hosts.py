@@ -31,8 +31,8 @@ class HostCase(Case):
         super().__init__(name, files)
         self.words = lines_of(files["ARGS"])
         self.steps = steps_of(files.get("SCRIPT", b""), parts)
-        # Most of a case's time is that of its pauses.
-        self.has_turns = TURNS in self.words
+        # Most of a case's time is that of its pauses. One that plays no script waits for nothing.
+        self.has_turns = TURNS in self.words and bool(self.steps)
         self.stage, self.tries = ((2, 6), 8) if self.has_turns else ((1, 6), 1)
 
     def ways(self):

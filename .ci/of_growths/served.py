@@ -4,12 +4,14 @@ import contextlib
 import threading
 
 from of_sockets.host import DISCOVERY, Queue, queues
-from of_sockets.served import NQN, Served, check, check_equal, free_ports, one_disk
+from of_sockets.served import NQN, Served, check, check_equal, eventually, free_ports, one_disk
 
 from .replays import ends_by_memory
 from .runs import MEMORY, Case, counted
 
 HOST = b"nqn.2026-01.test:h1"
+# What the log says of a connection for which there is no memory.
+TOLD = b": ended by the target\n"
 COMMANDS = {
     "discover": [],
     "list": [NQN],
@@ -84,14 +86,18 @@ class ServedRun:
             self.growths, self.refused = counted(counts)
 
     def go_on(self, target, port):
-        """A session; where something of it is refused, another one, which is served whole."""
-        for _ in range(2):
-            try:
+        """A session; where a connection of it is refused, and the log says so, another one, which is served whole."""
+        try:
+            session(target, port)
+            return
+        except (AssertionError, OSError) as why:
+            self.why = str(why)
+        try:
+            if target.is_running():
+                eventually(lambda: check(TOLD in target.err(), "the log does not say why a connection ended"))
                 session(target, port)
-                self.fault = None
-                return
-            except (AssertionError, OSError) as why:
-                self.fault = self.why = str(why)
+        except (AssertionError, OSError) as why:
+            self.fault = str(why)
 
     def says(self):
         return f"status {self.status}, {self.err[-300:]!r}; the session: {self.why}"
@@ -132,7 +138,7 @@ class Serving(Case):
             is_told = run.refused and run.status == 1 and run.err == MEMORY
             return None if is_told else "the program ends otherwise than with status 1 and `error: memory`"
         if run.fault:
-            return "the session is not served when it is made again"
+            return f"the session is made again: {run.fault}"
         if not run.refused and (run.why or run.growths == 0):
             return "the session is not served with ample memory, or no growth is counted"
         return None
