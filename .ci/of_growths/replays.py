@@ -11,28 +11,34 @@ from .tests import answers
 
 REPLAYED = [ROOT / "examples/first", *sorted(ROOT.glob("tests/refused_growths/*/STREAM"))]
 FAILING_DISK = ROOT / "tests/refused_growths/a_disk_that_fails_once"
-# Of tests/conversations, in this order: an ICReq, whole, in part and none; properties and Connects; the discovery log
-# page; lists of namespaces, their changes and their groups; Writes by R2T, and Reads; event requests; the edits that end
-# controllers; faults of data; alignment, pieces, and the queue's places.
+# Of tests/conversations each case of these, in this order: an ICReq, whole, in part and none; properties and Connects;
+# the discovery log page; lists of namespaces, their changes and their groups; Writes by R2T, and Reads; event requests;
+# the edits that end controllers; faults of data; alignment, pieces, and the queue's places.
 MADE_AGAIN = [
+    "an_icreq_is_answered",
     "an_icreq_is_answered_byte_by_byte",
     "a_part_of_a_pdu_is_not_answered",
     "a_first_pdu_that_is_no_icreq_is_answered",
     "properties_are_read",
+    "a_connect_that_names_no_subsystem_of_its_host_is_refused",
     "the_first_reason_is_answered",
     "the_generation_counter_counts_changes_of_the_records",
     "the_log_page_is_read_in_parts",
     "a_host_lists_namespaces_as_edits_change_them",
+    "namespaces_behind_another_are_listed",
     "a_namespace_that_changed_is_told_once_and_listed",
     "ana_groups_are_listed_with_their_states_and_counts",
     "a_write_is_done_once_its_data_have_come",
     "a_write_is_checked_again_with_its_last_data",
     "the_last_block_of_a_namespace_is_served",
     "four_event_requests_wait_and_a_fifth_is_refused",
+    "a_withdrawal_shows_to_the_discovery_controller_that_stays",
     "an_edit_that_withdraws_leave_ends_controllers",
     "each_fault_of_an_h2c_data_ends_its_connection",
+    "data_that_come_again_end_their_connection",
     "a_host_has_its_data_aligned",
     "a_longer_read_comes_in_pieces_of_32768_bytes",
+    "an_event_request_that_waits_has_its_identifier",
     "an_event_request_that_waits_has_its_place_in_the_queue",
     "the_queue_goes_round",
 ]
@@ -132,10 +138,10 @@ class MadeOnce(Again):
 
 
 def scripts(program, scratch):
-    """The scripts that replay_again plays, each the first case of its conversation."""
+    """The scripts that replay_again plays, each case of each conversation."""
     tests = ROOT / "tests"
     parts = {path.name.encode(): path.read_bytes() for path in (tests / "parts").glob("*")}
-    found = [chosen_cases(tests, [TargetCase], [name])[0] for name in MADE_AGAIN]
+    found = [case for name in MADE_AGAIN for case in chosen_cases(tests, [TargetCase], [name])]
     made, not_made = chosen_cases(tests, [TargetCase], [MADE_OR_NOT])
     [failing] = read_conversation(FAILING_DISK, TargetCase, parts)
     cases = [Again(program, scratch, case) for case in [*found, made]]
