@@ -6,7 +6,6 @@ import re
 import shutil
 import subprocess
 import tempfile
-import threading
 from dataclasses import dataclass
 
 PARTS = ("src", "specs", "proofs")
@@ -77,11 +76,10 @@ def crates_of(root):
 
 class Checker:
     """Checks crates whose libraries were proved and built, by their names in `crates`. What a check proves of a crate it
-    keeps, in the folder `scratch`, for the next one of that crate."""
+    keeps, in the folder `scratch`, for the next one of that crate, which begins once it has ended."""
 
     def __init__(self, crates, scratch):
         self.crates, self.scratch, self.kit = crates, scratch, kit()
-        self.kept = {name: threading.Lock() for name in crates}
 
     def words(self, crate):
         words = [f"{self.kit}/bin/rattle", "check", "--crate-name", crate.name, crate.root_file()]
@@ -97,8 +95,7 @@ class Checker:
     def check(self, crate, sources, only, proofs={}):
         """Checks a copy of the crate with these sources and files of proofs; of it only the named functions and what
         they call, where there are any. Returns the exit status and the lines that were printed."""
-        # Of a crate there is one check at a time: each begins with what those before it proved.
-        with self.kept[crate.name], tempfile.TemporaryDirectory(prefix=f"{crate.name}-", dir=self.scratch) as room:
+        with tempfile.TemporaryDirectory(prefix=f"{crate.name}-", dir=self.scratch) as room:
             for part in PARTS:
                 if os.path.isdir(f"{crate.folder}/{part}"):
                     shutil.copytree(f"{crate.folder}/{part}", f"{room}/{part}")
