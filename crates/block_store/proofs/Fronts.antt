@@ -1,12 +1,8 @@
 -- A range of units is read and written a unit at a time.
-use Rattle.std.proofs.Common.{◌≡◌, ◌⊎◌, inl, inr, ℕ, ◌+◌, ◌-◌, replicate, subst, ◌*◌, ◌<◌, ◌≤◌, List, [], ◌∷◌, ◌++◌, refl, sym, ◌∙◌, ap, arith, length, take, drop, set, get_or, append_assoc, append-nil, Bool, true, false, true≢false, ◌&&◌, ◌↔◌, IsTrue, OnErr, Result, Ok, Err}
-use Rattle.std.proofs.lemmas.List.{length-replicate, get_or-replicate, length-take-le, take_more, take-take, get_or-take, get_or-drop, length-drop}
-use Rattle.std.specs.Cmp.Lexicographic.{bytes_decides, pointwise}
-use lib.Dec.{eqb}
+use Rattle.std.proofs.Common.{◌≡◌, ◌⊎◌, inl, inr, ℕ, ◌+◌, ◌-◌, replicate, subst, ◌<◌, ◌≤◌, List, [], ◌∷◌, ◌++◌, sym, ◌∙◌, ap, arith, length, take, drop, set, get_or, append_assoc, append-nil, OnErr, Result, Ok, Err}
+use Rattle.std.proofs.lemmas.List.{length-replicate, get_or-replicate, length-take-le, take_more, get_or-drop, length-drop}
 use Rattle.std.proofs.lemmas.List.Edits.{paste_more}
-use Rattle.std.proofs.lemmas.Slice.{take-put_mid}
 use lib.Seq.{paste}
-use borrow.Rule.Slice.PartMut.{put_mid}
 use Rattle.block_store.specs.Range.{bytes_of, units_at, overwritten, FrontWritten}
 
 -- a range with one more unit
@@ -22,17 +18,6 @@ pub bytes_of_more : (units : List (List ℕ)) (unit : List ℕ) → bytes_of (un
 bytes_of_more [] unit = append-nil unit
 bytes_of_more (bytes ∷ units) unit =
     ap (λ rest. bytes ++ rest) (bytes_of_more units unit) ∙ sym (append_assoc bytes (bytes_of units) unit)
-
-pub next_read : (contents : List (List ℕ)) (out unit : List ℕ) (first i k : ℕ)
-    → first + i < length contents → i * 512 ≤ length out → length unit ≡ 512 → unit ≡ get_or contents (first + i) []
-    → take (i * 512) out ≡ bytes_of (units_at contents first i)
-    → take ((i + 1) * 512) (put_mid (i * 512) k out unit) ≡ bytes_of (units_at contents first (i + 1))
-next_read contents out unit first i k within room long is_unit front =
-    take-put_mid (i * 512) k out unit ((i + 1) * 512) (omega (arith, long)) room
-    ∙ ap (λ bytes. bytes ++ unit) front
-    ∙ sym (bytes_of_more (units_at contents first i) unit)
-    ∙ ap (λ u. bytes_of (units_at contents first i ++ u ∷ [])) is_unit
-    ∙ ap bytes_of (sym (units_at_more contents first i within))
 
 -- a front of the units, written
 pub front_is : (contents units : List (List ℕ)) (first i : ℕ) → i ≤ length units
@@ -68,38 +53,6 @@ next_torn contents units unit first i old new within more is_unit front (inr wri
 pub told_of_err : {T E P : Type 0} (result : Result T E) → P → OnErr result P
 told_of_err (Ok x) p = tt
 told_of_err (Err e) p = p
-
--- two ranges with one more unit are the same where the ranges and the units are
-module _ (units contents : List (List ℕ)) (first i : ℕ) (more : i < length units) (within : first + i < length contents) where
-  same_front : take i units ≡ units_at contents first i → get_or contents (first + i) [] ≡ get_or units i []
-      → take (i + 1) units ≡ units_at contents first (i + 1)
-  same_front front unit =
-      take_more units i [] more
-      ∙ ap (λ us. us ++ get_or units i [] ∷ []) front
-      ∙ ap (λ u. units_at contents first i ++ u ∷ []) (sym unit)
-      ∙ sym (units_at_more contents first i within)
-
-  front_of : take (i + 1) units ≡ units_at contents first (i + 1) → take i units ≡ units_at contents first i
-  front_of same =
-      sym (take-take i (i + 1) units (omega arith)) ∙ ap (λ us. take i us) same
-      ∙ take-take i (i + 1) (drop first contents) (omega arith)
-
-  last_of : take (i + 1) units ≡ units_at contents first (i + 1) → get_or contents (first + i) [] ≡ get_or units i []
-  last_of same =
-      sym (get_or-drop first contents i []) ∙ sym (get_or-take (i + 1) (drop first contents) i [] (omega arith))
-      ∙ sym (ap (λ us. get_or us i []) same) ∙ get_or-take (i + 1) units i [] (omega arith)
-
-  pub next_compared : (held : List ℕ) (same equal : Bool)
-      → held ≡ get_or contents (first + i) [] → equal ≡ pointwise eqb held (get_or units i [])
-      → IsTrue same ↔ (take i units ≡ units_at contents first i)
-      → IsTrue (same && equal) ↔ (take (i + 1) units ≡ units_at contents first (i + 1))
-  next_compared held true equal is_held is_equal (to, from) =
-      let decides = bytes_decides held (get_or units i []) in (
-        λ e. same_front (to refl) (sym is_held ∙ decides.0 (sym is_equal ∙ e)),
-        λ same. is_equal ∙ decides.1 (is_held ∙ last_of same),
-      )
-  next_compared held false equal is_held is_equal (to, from) =
-      (λ e. absurd (true≢false (sym e)), λ same. from (front_of same))
 
 -- the same of one unit written again and again, at the number of the unit
 module _ (contents : List (List ℕ)) (unit : List ℕ) (first count at : ℕ) (from : first ≤ at) (below : at < first + count) (within : first + count ≤ length contents) (old : List (List ℕ)) (front : old ≡ overwritten contents first (take (at - first) (replicate count unit))) where

@@ -6,6 +6,8 @@ use Rattle.std.proofs.lemmas.List.Edits.{paste-paste}
 use Rattle.std.proofs.lemmas.Bool.{cases_lt}
 use Rattle.std.proofs.lemmas.Bool.Decides.{nat_tests}
 use Rattle.std.specs.List.{AllByRecursion}
+use Rattle.std.proofs.lemmas.Slice.{put_mid-paste}
+use borrow.Rule.Slice.PartMut.{put_mid}
 use lib.Seq.{paste}
 use Rattle.block_store.specs.Range.{units_at, overwritten, FrontWritten, IsWritten}
 use Rattle.block_store.specs.Write.{Write, IsWithin, contents_after, writes, latest}
@@ -54,9 +56,16 @@ module _ (contents units : List (List ℕ)) (first : ℕ) (within : first + leng
       ∙ sym (get_or-take count (drop other contents) k d short ∙ get_or-drop other contents k d))
 
 -- all of the units, written one after another
-whole_is : (contents units : List (List ℕ)) (first : ℕ) → overwritten contents first units ≡ paste contents first units (length units)
+pub whole_is : (contents units : List (List ℕ)) (first : ℕ) → overwritten contents first units ≡ paste contents first units (length units)
 whole_is contents units first =
     ap (λ us. take first contents ++ us ++ drop (first + length units) contents) (sym (take_all (length units) units (omega arith)))
+
+-- what stands after a write to a part of a list
+pub put_is : (held new units : List (List ℕ)) (at count : ℕ) → new ≡ units → length units ≡ count
+    → put_mid at count held new ≡ overwritten held at units
+put_is held new units at count same long =
+    put_mid-paste at count held new units count same refl (sym long)
+    ∙ ap (λ n. paste held at units n) (sym long) ∙ sym (whole_is held units at)
 
 pub two_in_a_row : (contents units more : List (List ℕ)) (first : ℕ) → first + length units + length more ≤ length contents
     → overwritten (overwritten contents first units) (first + length units) more ≡ overwritten contents first (units ++ more)

@@ -1,24 +1,24 @@
--- Which call of a disk fails, where one is to fail.
+-- Which call of a disk fails or strays, where one is to do so.
 use Rattle.std.specs.Prelude.{◌≡◌, ℕ, zero, suc, Bool, true, false, Option, Some, None, Result}
 use Rattle.std.specs.Result.{is_err}
 use Rattle.block_store.specs.Faults.{Counts}
 
--- how many calls pass before the one that fails, after one more call; none once it has failed
+-- how many calls pass before that one, after one more call; none once it has come
 abbrev pub passes_after : Option ℕ → Option ℕ
 passes_after None = None
 passes_after (Some zero) = None
 passes_after (Some (suc n)) = Some n
 
--- whether the next call is to fail
+-- whether the next call is that one
 abbrev pub is_due : Option ℕ → Bool
 is_due None = false
 is_due (Some zero) = true
 is_due (Some (suc n)) = false
 
--- the faults that are its own: the one call, once it has failed
-abbrev pub own_faults : Option ℕ → ℕ
-own_faults None = 1
-own_faults (Some n) = 0
+-- what such a disk counts of its own: that one call, once it has come
+abbrev pub own_count : Option ℕ → ℕ
+own_count None = 1
+own_count (Some n) = 0
 
 -- The call that is due fails, and does not reach the disk below; any other fails exactly where that
 -- disk counts a fault.

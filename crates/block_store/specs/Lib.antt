@@ -1,6 +1,8 @@
+pub mod Compare
 pub mod Failing
 pub mod Faults
 pub mod Memory
+pub mod Pieces
 pub mod Range
 pub mod Stored
 pub mod Unit

@@ -1,9 +1,10 @@
 //! A disk that fails once, for tests.
 ghost use Rattle.std.specs.Prelude.{◌≡◌, ◌+◌, Some};
 ghost use Rattle.std.specs.Result.{is_err};
-ghost use Rattle.block_store.specs.Failing.{own_faults, is_due, passes_after, FailsInTurn};
+ghost use Rattle.block_store.specs.Failing.{own_count, is_due, passes_after, FailsInTurn};
 
-use crate::disk::{Disk, DiskFault};
+use crate::disk::{Disk, DiskFault, Faithful};
+use std::alloc::AllocError;
 
 /// A disk of which one call of `read`, `write` or `sync` fails. That call does not reach the disk
 /// below, so a write that fails leaves its unit as it was.
@@ -47,14 +48,16 @@ impl<D: Disk> FailingDisk<D> {
 }
 
 impl<D: Disk> Disk for FailingDisk<D> {
-    ghost use Rattle.std.specs.Prelude.{◌≡◌, ◌<◌, ◌⊎◌, length, slice_index_or, slice_set, [], OnOk, OnErr};
-    ghost use Rattle.block_store.specs.Faults.{Counts};
+    ghost use Rattle.std.specs.Prelude.{◌≡◌, ◌+◌, ◌<◌, ◌≤◌, ◌⊎◌, length, slice_index_or, slice_set, [], OnOk, OnErr};
+    ghost use Rattle.block_store.specs.Faults.{Counts, Strays};
 
     ghost contents = { λ failing. D.contents failing.disk };
 
     ghost synced = { λ failing. D.synced failing.disk };
 
-    ghost faults = { λ failing. own_faults failing.passes + D.faults failing.disk };
+    ghost faults = { λ failing. own_count failing.passes + D.faults failing.disk };
+
+    ghost strays = { λ failing. D.strays failing.disk };
 
     ghost whole = { λ failing. D.whole failing.disk };
 
@@ -64,7 +67,8 @@ impl<D: Disk> Disk for FailingDisk<D> {
 
     fn read(&mut self, unit: u64, out: &mut [u8; 512]) -> Result<(), DiskFault>
         requires { unit < length (D.contents self.old.disk) }
-        ensures bytes { OnOk result (out.new ≡ slice_index_or (D.contents self.old.disk) unit []) }
+        ensures found { OnOk result (Strays out.new (slice_index_or (D.contents self.old.disk) unit []) (D.strays self.old.disk) (D.strays self.new.disk)) }
+        ensures rises { D.strays self.old.disk ≤ D.strays self.new.disk }
         ensures synced { D.synced self.new.disk ≡ D.synced self.old.disk }
         ensures contents { D.contents self.new.disk ≡ D.contents self.old.disk }
         ensures passes { self.new.passes ≡ passes_after self.old.passes }
@@ -77,6 +81,7 @@ impl<D: Disk> Disk for FailingDisk<D> {
     fn write(&mut self, unit: u64, bytes: &[u8; 512]) -> Result<(), DiskFault>
         requires { unit < length (D.contents self.old.disk) }
         ensures written { OnOk result (D.contents self.new.disk ≡ slice_set (D.contents self.old.disk) unit bytes.now) }
+        ensures strays { D.strays self.new.disk ≡ D.strays self.old.disk }
         ensures torn { OnErr result ((D.contents self.new.disk ≡ D.contents self.old.disk) ⊎ (D.contents self.new.disk ≡ slice_set (D.contents self.old.disk) unit bytes.now)) }
         ensures passes { self.new.passes ≡ passes_after self.old.passes }
         ensures turn { FailsInTurn D.faults self.old.passes result self.old.disk self.new.disk }
@@ -87,6 +92,7 @@ impl<D: Disk> Disk for FailingDisk<D> {
 
     fn sync(&mut self) -> Result<(), DiskFault>
         ensures synced { OnOk result (D.synced self.new.disk ≡ D.contents self.old.disk) }
+        ensures strays { D.strays self.new.disk ≡ D.strays self.old.disk }
         ensures contents { D.contents self.new.disk ≡ D.contents self.old.disk }
         ensures passes { self.new.passes ≡ passes_after self.old.passes }
         ensures turn { FailsInTurn D.faults self.old.passes result self.old.disk self.new.disk }
@@ -94,4 +100,19 @@ impl<D: Disk> Disk for FailingDisk<D> {
         self.pass()?;
         self.disk.sync()
     }
+
+    fn make_room(&mut self, first: u64, count: u64) -> Result<(), AllocError>
+        requires { first + count ≤ length (D.contents self.old.disk) }
+        ensures contents { D.contents self.new.disk ≡ D.contents self.old.disk }
+        ensures synced { D.synced self.new.disk ≡ D.synced self.old.disk }
+        ensures strays { D.strays self.new.disk ≡ D.strays self.old.disk }
+        ensures faults { D.faults self.new.disk ≡ D.faults self.old.disk }
+        ensures passes { self.new.passes ≡ self.old.passes }
+    {
+        self.disk.make_room(first, count)
+    }
+}
+
+impl<D: Faithful> Faithful for FailingDisk<D> {
+    ghost faithful = { λ failing. D.faithful failing.disk };
 }

@@ -1,3 +1,4 @@
+pub mod Edit
 pub mod Fault
 pub mod GroupState
 pub mod Lists

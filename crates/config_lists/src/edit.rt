@@ -1,4 +1,5 @@
 //! The edits of a configuration.
+ghost use Rattle.config_lists.specs.Edit.{IsNamed};
 
 use crate::group_state::AnaState;
 use crate::namespace::Visibility;
@@ -148,6 +149,17 @@ pub enum Edit {
     ReferralDel {
         id: u64,
     },
+}
+
+impl Edit {
+    /// What each edit promises. It does nothing: its contract is for who calls it.
+    pub fn promise(&self)
+        ensures { IsNamed self.now }
+    {
+        if let Edit::SubsystemAdd { nqn, .. } = self {
+            nqn.promise();
+        }
+    }
 }
 
 // Written out, and not derived, so that whoever lets an edit fall proves one call.

@@ -1,5 +1,5 @@
 //! Why an edit is refused.
-ghost use Rattle.std.specs.Prelude.{Some};
+ghost use Rattle.std.specs.Prelude.{◌≡◌, ◌+◌, ◌≤◌, ◌++◌, Some, length};
 ghost use Rattle.config_lists.specs.Fault.{reply_of, word_of_item, word_of_value};
 
 use std::alloc::AllocError;
@@ -27,19 +27,31 @@ pub enum EditFault {
 
 impl Error for EditFault {}
 
+impl EditFault {
+    /// Its text, in two parts: what is wrong, and the value or the item that it is wrong of, where there is one.
+    pub fn parts(&self) -> (&'static str, &'static str)
+        ensures text { result.0.now ++ result.1.now ≡ reply_of self.now }
+        ensures len { length result.0.now + length result.1.now ≤ 32 }
+    {
+        match self {
+            EditFault::BadValue(value) => ("refused BadValue ", value.word()),
+            EditFault::NoSuch(item) => ("refused NoSuch ", item.word()),
+            EditFault::Exists(item) => ("refused Exists ", item.word()),
+            EditFault::DiskInUse => ("refused DiskInUse", ""),
+            EditFault::InUse(item) => ("refused InUse ", item.word()),
+            EditFault::Full(item) => ("refused Full ", item.word()),
+            EditFault::Memory => ("refused Memory", ""),
+        }
+    }
+}
+
 impl fmt::Display for EditFault {
     ghost output = { λ fault. Some (reply_of fault) };
 
     fn fmt<W: fmt::Write>(&self, f: &mut fmt::Formatter<W>) -> fmt::Result {
-        match self {
-            EditFault::BadValue(value) => write!(f, "refused BadValue {value}"),
-            EditFault::NoSuch(item) => write!(f, "refused NoSuch {item}"),
-            EditFault::Exists(item) => write!(f, "refused Exists {item}"),
-            EditFault::DiskInUse => f.write_str("refused DiskInUse"),
-            EditFault::InUse(item) => write!(f, "refused InUse {item}"),
-            EditFault::Full(item) => write!(f, "refused Full {item}"),
-            EditFault::Memory => f.write_str("refused Memory"),
-        }
+        let (wrong, of) = self.parts();
+        f.write_str(wrong)?;
+        f.write_str(of)
     }
 }
 
@@ -84,11 +96,13 @@ pub enum Item {
     Show,
 }
 
-impl fmt::Display for Value {
-    ghost output = { λ value. Some (word_of_value value) };
-
-    fn fmt<W: fmt::Write>(&self, f: &mut fmt::Formatter<W>) -> fmt::Result {
-        f.write_str(match self {
+impl Value {
+    /// Its name.
+    pub fn word(&self) -> &'static str
+        ensures word { result.now ≡ word_of_value self.now }
+        ensures len { length result.now ≤ 9 }
+    {
+        match self {
             Value::Nqn => "Nqn",
             Value::Serial => "Serial",
             Value::Nsid => "Nsid",
@@ -99,15 +113,17 @@ impl fmt::Display for Value {
             Value::Port => "Port",
             Value::Address => "Address",
             Value::Service => "Service",
-        })
+        }
     }
 }
 
-impl fmt::Display for Item {
-    ghost output = { λ item. Some (word_of_item item) };
-
-    fn fmt<W: fmt::Write>(&self, f: &mut fmt::Formatter<W>) -> fmt::Result {
-        f.write_str(match self {
+impl Item {
+    /// Its name.
+    pub fn word(&self) -> &'static str
+        ensures word { result.now ≡ word_of_item self.now }
+        ensures len { length result.now ≤ 9 }
+    {
+        match self {
             Item::Subsystem => "Subsystem",
             Item::Disk => "Disk",
             Item::Namespace => "Namespace",
@@ -118,6 +134,6 @@ impl fmt::Display for Item {
             Item::Allow => "Allow",
             Item::Referral => "Referral",
             Item::Show => "Show",
-        })
+        }
     }
 }

@@ -1,9 +1,14 @@
 //! What is wrong with a line.
-ghost use Rattle.std.specs.Prelude.{Some};
+ghost use Rattle.std.specs.Prelude.{◌≡◌, ◌≤◌, Some, length};
 ghost use Rattle.config_text.specs.Fault.{reply_of_line_fault, word_of_kind};
 
+use arrayvec::ArrayString;
+use itoa::Buffer;
 use std::error::Error;
 use std::fmt;
+
+// Room for the longest text, with a column of 40 digits.
+const TEXT_MAX: usize = 64;
 
 /// What is wrong with a line, at the first faulty word from the left; or that there was no memory for
 /// what it says. Its text is the reply to the line.
@@ -42,21 +47,36 @@ pub enum LineFaultKind {
 
 impl Error for LineFault {}
 
+impl LineFault {
+    /// Its text.
+    pub fn text(&self) -> ArrayString<TEXT_MAX>
+        ensures { result.bytes ≡ reply_of_line_fault self.now }
+    {
+        let mut column = Buffer::new();
+        let mut text = ArrayString::new();
+        text.push_str("line ");
+        text.push_str(column.format(self.column));
+        text.push_str(" ");
+        text.push_str(self.kind.word());
+        text
+    }
+}
+
 impl fmt::Display for LineFault {
     ghost output = { λ fault. Some (reply_of_line_fault fault) };
 
     fn fmt<W: fmt::Write>(&self, f: &mut fmt::Formatter<W>) -> fmt::Result {
-        let column = self.column;
-        let kind = self.kind;
-        write!(f, "line {column} {kind}")
+        f.write_str(self.text().as_str())
     }
 }
 
-impl fmt::Display for LineFaultKind {
-    ghost output = { λ kind. Some (word_of_kind kind) };
-
-    fn fmt<W: fmt::Write>(&self, f: &mut fmt::Formatter<W>) -> fmt::Result {
-        f.write_str(match self {
+impl LineFaultKind {
+    /// Its name.
+    pub fn word(&self) -> &'static str
+        ensures word { result.now ≡ word_of_kind self.now }
+        ensures len { length result.now ≤ 11 }
+    {
+        match self {
             LineFaultKind::TooLong => "TooLong",
             LineFaultKind::Empty => "Empty",
             LineFaultKind::UnknownWord => "UnknownWord",
@@ -67,6 +87,6 @@ impl fmt::Display for LineFaultKind {
             LineFaultKind::BadWord => "BadWord",
             LineFaultKind::Extra => "Extra",
             LineFaultKind::Memory => "Memory",
-        })
+        }
     }
 }

@@ -103,4 +103,7 @@ are_moments disks events host sound = record {
 }
 
 pub discovery_pages_are_moments : DiscoveryPagesAreMoments
-discovery_pages_are_moments = record { moments = λ disks events host of. are_moments disks events host (are_sound disks events of); bytes = bytes_are }
+discovery_pages_are_moments = record {
+  moments = λ t disks events received taken agrees host. are_moments disks events host (are_sound t disks events received taken agrees);
+  bytes = bytes_are;
+}

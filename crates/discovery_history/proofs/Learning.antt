@@ -7,7 +7,7 @@ use Rattle.discovery_history.proofs.Growing.{bytes_are, discovery_pages_are_mome
 
 pub hosts_learn_one_moment : HostsLearnOneMoment
 hosts_learn_one_moment = record {
-  owed = λ disks events host ours moment given shown a page had few n of.
-      pages_are_of_one_moment.stood (page_at disks events host) (changes_at disks events host) moment (discovery_pages_are_moments.moments disks events host ours) given shown a page had few n of
+  owed = λ t disks events received taken agrees host moment given shown a page had few n of.
+      pages_are_of_one_moment.stood (page_at disks events host) (changes_at disks events host) moment (discovery_pages_are_moments.moments t disks events received taken agrees host) given shown a page had few n of
       ∙ bytes_are disks events host (moment n);
 }

@@ -2,9 +2,10 @@
 -- accepted edit keeps it so.
 use Rattle.std.proofs.Common.{◌-◌, ◌<◌, ℕ, not, List, [], ◌∷◌, Result, Ok, Err, All, IfOk, IsTrue, length, map, drop, subst, sym, arith}
 use Rattle.std.specs.Str.{bytes_eq}
-use Rattle.std.proofs.lemmas.List.Elements.{All-drop, All-filter, All-nil, All-push, All-tail}
+use Rattle.std.proofs.lemmas.List.Elements.{All-cons, All-drop, All-filter, All-head, All-nil, All-push, All-tail}
 use Rattle.nvt_fields.specs.Name.{IsName}
 use Rattle.config_lists.proofs.Lists.{All-changed_where}
+use Rattle.config_lists.specs.Edit.{IsNamed}
 use Rattle.config_lists.specs.declared.edit.Edit.{Edit}
 use Rattle.config_lists.specs.declared.edit.Edit.TheVariants.{SubsystemAdd, SubsystemSet, SubsystemDel, HostAdd, AnaSet}
 use Rattle.config_lists.specs.declared.fault.EditFault.{EditFault}
@@ -17,9 +18,11 @@ use Rattle.nvt_config.proofs.States.{states_alone}
 use Rattle.nvt_config.proofs.Valid.{IsValid-accept}
 use Rattle.discovery_view.specs.Told.{IsSound}
 use Rattle.target_history.specs.Event.{Event, edited, given_up, opened, stepped, ticked}
-use Rattle.target_history.specs.History.{Opening, config_of, happened}
+use Rattle.target_history.specs.History.{Opening, config_of, happened, meets_after}
 use Rattle.target_history.specs.Occurrence.{accepted_or, config_after}
-use Rattle.discovery_history.specs.Growing.{AddsNamed, AreOfATarget, IsNamed, happened_by}
+use Rattle.target_core.specs.Agreement.{AddsNamed, AddsNamedBy, Agrees}
+use Rattle.target_core.specs.Target.{TargetState}
+use Rattle.discovery_history.specs.Growing.{happened_by}
 
 abbrev AreNamed : Configuration → Type 0
 AreNamed c = All (λ s. IsName s.nqn) c.subsystems
@@ -46,7 +49,7 @@ sound_or : (r : Result Configuration EditFault) (c : Configuration) → IsSound 
 sound_or (Ok d) c is valid named = record { valid = valid; names = named }
 sound_or (Err fault) c is valid named = is
 
-sound_after : (event : Event) (c : Configuration) → AddsNamed event → IsSound c → IsSound (config_after event c)
+sound_after : (event : Event) (c : Configuration) → AddsNamedBy event → IsSound c → IsSound (config_after event c)
 sound_after (edited edit) c named is = sound_or (accept c edit) c is (IsValid-accept c edit is.valid) (IfOk-effect c edit AreNamed (named_after c edit named is.names))
 sound_after (opened port k) c named is = is
 sound_after (stepped k front m) c named is = is
@@ -70,11 +73,21 @@ alone_is_valid units are = record {
   shows = record { count = omega arith; sound = All-nil _; distinct = λ _ j _ _ below. none_below j below };
 }
 
-sound_at : (disks : Opening) (events : List Event) → IsTrue (are_disks (map length disks)) → All AddsNamed events → IsSound (config_of disks (happened disks events))
+sound_at : (disks : Opening) (events : List Event) → IsTrue (are_disks (map length disks)) → All AddsNamedBy events → IsSound (config_of disks (happened disks events))
 sound_at disks [] are named = record { valid = alone_is_valid (map length disks) are; names = All-nil (λ s. IsName s.nqn) }
 sound_at disks (event ∷ before) are named =
-    sound_after event (config_of disks (happened disks before)) (named 0 event (omega arith)) (sound_at disks before are (All-tail AddsNamed event before named))
+    sound_after event (config_of disks (happened disks before)) (named 0 event (omega arith)) (sound_at disks before are (All-tail AddsNamedBy event before named))
 
-pub are_sound : (disks : Opening) (events : List Event) → AreOfATarget disks events → AreSound disks events
-are_sound disks events of n =
-    sound_at disks (drop (length events - n) events) of.sizes (All-drop AddsNamed (length events - n) events of.edits)
+-- the events of what happened are those of the history
+named_events : (disks : Opening) (events : List Event) → All AddsNamed (happened disks events) → All AddsNamedBy events
+named_events disks [] named = All-nil AddsNamedBy
+named_events disks (event ∷ before) named =
+    let first = meets_after disks (happened disks before) event in
+    All-cons AddsNamedBy event before (All-head AddsNamed first (happened disks before) named)
+    (named_events disks before (All-tail AddsNamed first (happened disks before) named))
+
+pub are_sound : (t : TargetState) (disks : Opening) (events : List Event) (received taken : ℕ → List ℕ) → Agrees t disks events received taken
+    → AreSound disks events
+are_sound t disks events received taken agrees n =
+    sound_at disks (drop (length events - n) events) agrees.sizes
+    (All-drop AddsNamedBy (length events - n) events (named_events disks events agrees.named))

@@ -1,13 +1,9 @@
 -- The discovery log page of a host, after each event of a target's history.
-use Rattle.std.specs.Prelude.{ℕ, ◌-◌, ◌%◌, ◌^◌, List, All, IsTrue, length, drop, map}
-use Rattle.nvt_fields.specs.Name.{IsName}
-use Rattle.config_lists.specs.declared.edit.Edit.{Edit}
-use Rattle.config_lists.specs.declared.edit.Edit.TheVariants.{SubsystemAdd}
-use Rattle.nvt_config.specs.Configuration.{are_disks}
+use Rattle.std.specs.Prelude.{ℕ, ◌-◌, ◌%◌, ◌^◌, List, length, drop, map}
 use Rattle.discovery_view.specs.Record.{record_of}
 use Rattle.discovery_view.specs.Records.{records_of}
 use Rattle.host_pages.specs.Moments.{Page}
-use Rattle.target_history.specs.Event.{Event, edited}
+use Rattle.target_history.specs.Event.{Event}
 use Rattle.target_history.specs.History.{Opening, config_of, generation_of, happened}
 use Rattle.target_history.specs.Occurrence.{Occurrence}
 
@@ -24,17 +20,3 @@ page_at disks events host n = record {
 
 abbrev pub changes_at : Opening → List Event → List ℕ → ℕ → ℕ
 changes_at disks events host n = generation_of disks (happened_by disks events n) host
-
--- a subsystem is added under a name
-abbrev pub IsNamed : Edit → Type 0
-IsNamed (SubsystemAdd nqn serial access) = IsName nqn
-IsNamed _ = Unit {0}
-
-abbrev pub AddsNamed : Event → Type 0
-AddsNamed (edited edit) = IsNamed edit
-AddsNamed _ = Unit {0}
-
--- as each target has them, since it is made of no other disks, and an edit's type has no other names
-pub record AreOfATarget (disks : Opening) (events : List Event) : Type 0 where
-  pub sizes : IsTrue (are_disks (map length disks))
-  pub edits : All AddsNamed events

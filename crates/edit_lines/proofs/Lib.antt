@@ -1,4 +1,5 @@
 pub mod Fronts
+pub mod MemoryLast
 pub mod PduLemmas
 pub mod Refused
 pub mod Splits

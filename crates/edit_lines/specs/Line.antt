@@ -1,5 +1,5 @@
 -- Lines of edits that are made on a target, and those that are refused.
-use Rattle.std.specs.Prelude.{◌≡◌, ℕ, List, Some, Ok, Err}
+use Rattle.std.specs.Prelude.{◌≡◌, ℕ, List, Some, None, IsOk, Ok, Err}
 use Rattle.config_lists.specs.declared.edit.Edit.{Edit}
 use Rattle.config_lists.specs.declared.fault.EditFault.{EditFault}
 use Rattle.config_lists.specs.declared.fault.EditFault.TheVariants as why
@@ -14,7 +14,7 @@ use Rattle.target_core.specs.Transition.{Transition}
 use Rattle.target_core.specs.Target.{TargetState}
 use Rattle.target_history.specs.Event.{edited}
 use Rattle.edit_lines.specs.declared.line.NotMade.{NotMade}
-use Rattle.edit_lines.specs.declared.line.NotMade.TheVariants.{Refused, Memory}
+use Rattle.edit_lines.specs.declared.line.NotMade.TheVariants.{Refused, Unread, Memory}
 use Rattle.edit_lines.specs.declared.reply.Reply.{Reply}
 use Rattle.edit_lines.specs.declared.reply.Reply.TheVariants as reply
 
@@ -25,7 +25,7 @@ Refuses c line (reply.Edit fault) = (edit : Edit) × IsLineOf line edit × (acce
 
 -- that memory ran out is no reply
 abbrev pub not_read_by : LineFault → LineFaultKind → NotMade
-not_read_by fault kind.Memory = Memory
+not_read_by fault kind.Memory = Unread
 not_read_by fault _ = Refused (reply.Line fault)
 
 -- a fault is the line's own, whenever it comes; a lack of memory is the moment's, and the line can be read again
@@ -37,16 +37,19 @@ abbrev pub not_made : EditFault → NotMade
 not_made why.Memory = Memory
 not_made fault = Refused (reply.Edit fault)
 
--- why the edit of a line is not made
+-- Why the edit of a line is not made. Memory comes last: a line that has a fault is refused for that, and an edit that was
+-- read and that the configuration refuses is refused so.
 abbrev pub IsRefused : Configuration → List ℕ → NotMade → Type 0
 IsRefused c line (Refused reply) = Refuses c line reply
-IsRefused c line Memory = Unit {0}
+IsRefused c line Unread = line_fault line ≡ None
+IsRefused c line Memory = (edit : Edit) × IsLineOf line edit × IsOk (accept c edit)
 
 -- why an edit is not made
 abbrev pub IsEditRefused : Configuration → Edit → NotMade → Type 0
 IsEditRefused c edit (Refused (reply.Line fault)) = ⊥
 IsEditRefused c edit (Refused (reply.Edit fault)) = accept c edit ≡ Err fault
-IsEditRefused c edit Memory = Unit {0}
+IsEditRefused c edit Unread = ⊥
+IsEditRefused c edit Memory = IsOk (accept c edit)
 
 -- the line is that of an edit, which is accepted and made
 pub record MakesLine (line : List ℕ) (old new : TargetState) : Type 0 where

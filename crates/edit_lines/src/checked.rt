@@ -66,7 +66,7 @@ fn take_line(
 {
     match apply_line(alloc, config, line) {
         Ok(()) => Ok(()),
-        Err(NotMade::Memory) => Err(ReplayFault::Memory),
+        Err(NotMade::Unread | NotMade::Memory) => Err(ReplayFault::Memory),
         Err(NotMade::Refused(reply)) => Err(ReplayFault::EditLine {
             line: number,
             reply,

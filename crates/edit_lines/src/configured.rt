@@ -86,7 +86,7 @@ fn take_edit(
 {
     match make_line(alloc, target, line) {
         Ok(()) => Ok(()),
-        Err(NotMade::Memory) => Err(ReplayFault::Memory),
+        Err(NotMade::Unread | NotMade::Memory) => Err(ReplayFault::Memory),
         Err(NotMade::Refused(reply)) => Err(ReplayFault::EditLine {
             line: number,
             reply,

@@ -18,5 +18,5 @@ pub use configured::configure;
 pub use fault::ReplayFault;
 pub use line::{NotMade, make_line};
 pub use print::{Printer, written};
-pub use reply::Reply;
+pub use reply::{Reply, text_of_refusal};
 pub use stream_line::{StreamLine, read_stream_line};

@@ -16,12 +16,16 @@ use target_core::Target;
 /// Why the edit of a line is not made.
 #[derive(Clone, Copy)]
 pub enum NotMade {
+    /// The line is no edit's, or the configuration refuses its edit.
     Refused(Reply),
-    /// An allocation was refused.
+    /// The line is an edit's, and an allocation was refused before that was read.
+    Unread,
+    /// The configuration accepts its edit, and an allocation was refused before that was made.
     Memory,
 }
 
-/// Makes the edit that a line says. After a refusal, `Memory` included, the target is as it was.
+/// Makes the edit that a line says. Want of memory is told last: only where nothing else is against the line, or, once
+/// its edit is read, against that. After a refusal the target is as it was.
 pub fn make_line<D: Disk + Drop>(
     alloc: Global,
     target: &mut Target<D>,
@@ -64,7 +68,7 @@ pub(crate) fn not_read(fault: LineFault) -> NotMade
     ensures { result ≡ not_read fault }
 {
     match fault.kind {
-        LineFaultKind::Memory => NotMade::Memory,
+        LineFaultKind::Memory => NotMade::Unread,
         _ => NotMade::Refused(Reply::Line(fault)),
     }
 }

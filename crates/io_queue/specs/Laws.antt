@@ -35,7 +35,7 @@ pub record DecidedByOwnAlone : Type 0 where
 
 -- ---- what is read
 
--- what a Read of an extent returns, where these are the units of its disk, which does not fail
+-- what a Read of an extent returns, where these are the units of its disk, which does not fail and has no others found
 abbrev pub read_from : Extent → List (List ℕ) → Option (List ℕ)
 read_from e contents = returned (operation_on e action.Read) contents good
 

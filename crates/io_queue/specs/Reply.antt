@@ -1,6 +1,7 @@
 -- A reply's data, in the pieces in which they go to the host (TCP Transport 1.0, section 3.3).
 use Rattle.std.specs.Prelude.{◌≡◌, ℕ, ◌+◌, ◌*◌, ◌/◌, List, [], ◌++◌, length, slice_range, Option, Some, None, if◌then◌else◌}
 use Rattle.std.specs.List.{flat_map}
+use Rattle.block_store.specs.Faults.{Strays}
 use Rattle.block_store.specs.Stored.{Stored}
 use Rattle.data_transfer.specs.declared.piece.Piece.{Piece}
 use Rattle.data_transfer.specs.Pieces.{piece_count, pieces}
@@ -8,7 +9,7 @@ use Rattle.nvt_fields.specs.declared.status.Status.{Status}
 use Rattle.pdu_codec.specs.C2hData.{c2h_data}
 use Rattle.io_queue.specs.declared.operation.Extent.{Extent}
 use Rattle.io_queue.specs.declared.reply.DataFormat.{DataFormat}
-use Rattle.io_queue.specs.Act.{CountsBy, IsOfRead, DiskOutcome, extent_bytes, is_good, read_status}
+use Rattle.io_queue.specs.Act.{CountsBy, IsOfRead, IsOther, DiskOutcome, extent_bytes, is_fault, read_in, read_status}
 
 -- a C2HData in the place of a piece, with this payload
 abbrev pub pdu_with : DataFormat → Piece → List ℕ → List ℕ
@@ -32,18 +33,27 @@ returned_pdus format (Some bytes) = data_pdus format bytes
 abbrev pub data_room : ℕ → ℕ
 data_room len = 128 * piece_count len + len
 
--- the data that a Read returns: none where the disk failed
+-- the data that a Read returns, by the bytes that were read: none where the disk failed
 abbrev pub read_by : DiskOutcome → List ℕ → Option (List ℕ)
-read_by m bytes = if is_good m then Some bytes else None
+read_by m bytes = if is_fault m then None else Some bytes
 
--- the bytes of an extent stand behind the output, or, where the disk failed to read them, none
+-- the bytes that were read of an extent stand behind the output, or, where the disk failed to read them, none
 pub record AppendsRead (format : DataFormat) (e : Extent) (old new : Stored) (output appended : List ℕ) (status : Status) : Type 0 where
   pub disk_outcome : DiskOutcome
-  pub of_read : IsOfRead disk_outcome
+  pub of_read : IsOfRead e.units disk_outcome
+  pub finds : IsOther disk_outcome (extent_bytes e old)
   pub answer : status ≡ read_status disk_outcome
-  pub sends : appended ≡ output ++ returned_pdus format (read_by disk_outcome (extent_bytes e old))
+  pub sends : appended ≡ output ++ returned_pdus format (read_by disk_outcome (read_in disk_outcome e old.contents))
   pub contents : new.contents ≡ old.contents
-  pub faults : CountsBy disk_outcome old.faults new.faults
+  pub counts : CountsBy disk_outcome old new
+
+-- What was read of an extent stands behind the output, as data of this form. It is the extent's bytes, or others, which
+-- the count of strays tells.
+pub record AppendsFound (form : List ℕ → List ℕ) (e : Extent) (old new : Stored) (output appended : List ℕ) : Type 0 where
+  pub bytes : List ℕ
+  pub long : length bytes ≡ 512 * e.units
+  pub sends : appended ≡ output ++ form bytes
+  pub strays : Strays bytes (extent_bytes e old) old.strays new.strays
 
 -- ---- one piece
 

@@ -40,7 +40,8 @@ pub fn write_zeroes<D: Disk>(store: &mut Store<D>, extent: &Extent, fua: bool) -
     }
 }
 
-/// Whether the extent has these bytes.
+/// Whether the extent is found to have these bytes.
+#[tactic(auto, using(crate::proofs::Acts::found_same, crate::proofs::Acts::found_different))]
 pub fn compare<D: Disk>(store: &mut Store<D>, extent: &Extent, bytes: &[u8]) -> Status
     requires within { extent.now.first + extent.now.units ≤ length store.old.contents }
     requires len { length bytes.now ≡ 512 * extent.now.units }

@@ -1,6 +1,6 @@
 //! An operation, performed on its disk and answered.
 ghost use Rattle.std.specs.Prelude.{◌≡◌, ◌+◌, ◌*◌, ◌≤◌, length};
-ghost use Rattle.io_queue.specs.Operation.{IsOnDisk, IsWithin, brought, room_by, room_for};
+ghost use Rattle.io_queue.specs.Operation.{HasExtent, IsOnDisk, IsWithin, brought, room_by, room_for};
 ghost use Rattle.io_queue.specs.Execution.{Performs, PerformsOn, Syncs, SyncsIn, sizes};
 
 use crate::act::{compare, flush, write, write_zeroes};
@@ -9,6 +9,26 @@ use crate::reply::{DataFormat, append_read};
 use block_store::{Disk, Store, UNIT_LEN};
 use bytes::BytesMut;
 use nvt_fields::Status;
+use std::alloc::AllocError;
+
+/// Makes the room on its disk, one of these by its number, that an operation writes to. Nothing of any
+/// disk is changed by it, whatever it answers.
+#[tactic(auto, using(crate::proofs::Executions::extent_there, crate::proofs::Executions::extent_on, crate::proofs::Executions::put_back))]
+pub fn make_room<D: Disk>(stores: &mut [Store<D>], operation: &Operation) -> Result<(), AllocError>
+    requires { HasExtent (sizes stores.old) operation.now.extent }
+    ensures { stores.new ≡ stores.old }
+{
+    match operation.action {
+        Action::Write { .. } => {
+            let extent = &operation.extent;
+            stores[usize::from(extent.disk)].make_room(extent.first, extent.units)
+        }
+        // These write nothing.
+        Action::Flush | Action::Read | Action::Compare { .. } => Ok(()),
+        // Zeros take no room.
+        Action::WriteZeroes { .. } => Ok(()),
+    }
+}
 
 /// Performs an operation on its disk, one of these by its number, and answers its status. Of `bytes`,
 /// which came for the command, it takes what it writes or compares; what it reads it appends to

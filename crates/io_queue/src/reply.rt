@@ -1,8 +1,7 @@
 //! A Read's data, straight from the disk into the output, in the pieces in which they go to the host.
-ghost use Rattle.std.specs.Prelude.{◌≡◌, ◌+◌, ◌*◌, ◌/◌, ◌^◌, ◌<◌, ◌≤◌, ◌++◌, OnOk, length, take};
+ghost use Rattle.std.specs.Prelude.{◌≡◌, ◌+◌, ◌*◌, ◌/◌, ◌^◌, ◌<◌, ◌≤◌, OnOk, length, take};
 ghost use Rattle.block_store.specs.Faults.{Counts};
-ghost use Rattle.io_queue.specs.Act.{extent_bytes};
-ghost use Rattle.io_queue.specs.Reply.{AppendsRead, data_pdus, part_of, pdu_with};
+ghost use Rattle.io_queue.specs.Reply.{AppendsFound, AppendsRead, data_pdus, part_of, pdu_with};
 
 use crate::operation::Extent;
 use block_store::{Disk, DiskFault, Store, UNIT_LEN};
@@ -20,8 +19,9 @@ pub struct DataFormat {
     pub hpda: u8,
 }
 
-/// Appends the data of a Read, read from the disk into their place; where the disk fails to read them,
-/// nothing. Answers the command's status.
+/// Appends the data of a Read, as they are found on the disk, read into their place; where the disk fails
+/// to read them, nothing. Answers the command's status.
+#[tactic(auto, using(crate::proofs::Readings::read_appended))]
 pub(crate) fn append_read<D: Disk>(
     output: &mut BytesMut,
     format: DataFormat,
@@ -47,6 +47,7 @@ pub(crate) fn append_read<D: Disk>(
 }
 
 // Appends the pieces, up to the first that the disk fails to read.
+#[tactic(auto, using(crate::proofs::Readings::begins_reading))]
 fn read_pieces<D: Disk>(
     output: &mut BytesMut,
     format: DataFormat,
@@ -57,8 +58,8 @@ fn read_pieces<D: Disk>(
     requires bound { extent.now.units ≤ 256 }
     requires alignment { format.hpda ≤ 31 }
     requires room { 512 + 512 * extent.now.units ≤ output.old.spare }
-    ensures placed { let bytes = extent_bytes extent.now store.old in
-        OnOk result (output.new.items ≡ output.old.items ++ data_pdus format bytes) }
+    ensures placed { let form = data_pdus format in
+        OnOk result (AppendsFound form extent.now store.old store.new output.old.items output.new.items) }
     ensures front { take (length output.old.items) output.new.items ≡ output.old.items }
     ensures spare { output.old.spare ≤ output.new.spare + 512 + 512 * extent.now.units }
     ensures contents { store.new.contents ≡ store.old.contents }
@@ -85,7 +86,7 @@ fn part_of(extent: &Extent, piece: &Piece) -> Extent
     }
 }
 
-// Appends a piece, with the bytes of its units unless the disk fails to read them.
+// Appends a piece, with the bytes that are found in its units unless the disk fails to read them.
 fn read_piece<D: Disk>(
     output: &mut BytesMut,
     format: DataFormat,
@@ -97,8 +98,8 @@ fn read_piece<D: Disk>(
     requires bound { part.now.units ≤ 256 }
     requires alignment { format.hpda ≤ 31 }
     requires room { 128 + 512 * part.now.units ≤ output.old.spare }
-    ensures placed { let bytes = extent_bytes part.now store.old in
-        OnOk result (output.new.items ≡ output.old.items ++ pdu_with format piece.now bytes) }
+    ensures placed { let form = pdu_with format piece.now in
+        OnOk result (AppendsFound form part.now store.old store.new output.old.items output.new.items) }
     ensures front { take (length output.old.items) output.new.items ≡ output.old.items }
     ensures spare { output.old.spare ≤ output.new.spare + 128 + 512 * part.now.units }
     ensures contents { store.new.contents ≡ store.old.contents }

@@ -7,7 +7,7 @@ ghost use Rattle.std.specs.Str.{bytes_eq};
 ghost use Rattle.std.specs.Cmp.{partial_equiv_from_equiv};
 ghost use Rattle.std.specs.Cmp.Lexicographic.{nat_list_eq_equiv};
 ghost use Rattle.nvt_fields.specs.Field.{padded};
-ghost use Rattle.nvt_fields.specs.Name.{fault_of, is_name, up_to_zero};
+ghost use Rattle.nvt_fields.specs.Name.{IsName, fault_of, is_name, up_to_zero};
 
 use crate::field::write_zeroed;
 use std::alloc::{AllocError, Global};
@@ -72,6 +72,13 @@ impl Nqn {
         ensures { result.now ≡ self.now }
     {
         &self.bytes
+    }
+
+    /// What each name promises. It does nothing: its contract is for who calls it.
+    pub fn promise(&self)
+        ensures { IsName self.now }
+    {
+        let _ = &self.bytes;
     }
 
     /// Whether it is this name. Names are most often told apart by their lengths or last bytes, so these are

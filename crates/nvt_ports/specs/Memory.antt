@@ -1,5 +1,5 @@
 -- What ports in memory tell.
-use Rattle.std.specs.Prelude.{◌≡◌, ℕ, List, Option, Some, Result, Ok, Err, false, [], length, map, replicate}
+use Rattle.std.specs.Prelude.{◌≡◌, ℕ, List, Option, Some, None, Result, Ok, Err, false, [], length, map, replicate, if◌then◌else◌}
 use Rattle.std.specs.declared.alloc.AllocError.{AllocError}
 use Rattle.nvt_ports.specs.declared.event.PortEvent.{PortEvent}
 use Rattle.nvt_ports.specs.Event.{Fits, in_use_after}
@@ -21,21 +21,33 @@ handed_out_in ports = map handed_out_of ports.handed_out.items
 abbrev pub took_in : MemoryPorts → List (List ℕ)
 took_in ports = map (λ v. v.items) ports.took.items
 
--- they tell what they keep
+abbrev pub replies_in : MemoryPorts → List (List ℕ)
+replies_in ports = map (λ v. v.items) ports.replies.items
+
+-- they tell what they keep, unless there was no memory for some of it
 abbrev pub told_of : MemoryPorts → Option Told
-told_of ports = Some (record {
+told_of ports = if ports.lost then None else Some (record {
   asked = ports.asked;
   handed_out = handed_out_in ports;
   took = took_in ports;
+  replies = replies_in ports;
+  refreshed = ports.refreshed;
 })
 
 -- nothing was asked, handed out or taken yet, and no slot is in use
 pub record IsAtFirst (ports : MemoryPorts) : Type 0 where
-  pub told : told_of ports ≡ Some (record { asked = 0; handed_out = []; took = replicate 64 [] })
+  pub told : told_of ports ≡ Some (record { asked = 0; handed_out = []; took = replicate 64 []; replies = []; refreshed = None })
   pub in_use : ports.in_use ≡ replicate 64 false
 
--- what they took, and what they count, stays
+-- what they were told stays
+pub record Remembers (old new : MemoryPorts) : Type 0 where
+  pub replies : new.replies ≡ old.replies
+  pub refreshed : new.refreshed ≡ old.refreshed
+  pub lost : new.lost ≡ old.lost
+
+-- .. and what they took, and what they count
 pub record Stays (old new : MemoryPorts) : Type 0 where
+  pub remembers : Remembers old new
   pub took : new.took ≡ old.took
   pub asked : new.asked ≡ old.asked
   pub faults : new.faults ≡ old.faults

@@ -1,5 +1,5 @@
 //! Ports in memory, for tests.
-ghost use Rattle.std.specs.Prelude.{◌≡◌, ◌<◌, ◌≤◌, ◌++◌, ◌∷◌, ℕ, List, IfOk, OnErr, OnOk, length, slice_index_or, false, []};
+ghost use Rattle.std.specs.Prelude.{◌≡◌, ◌<◌, ◌≤◌, ◌++◌, ◌∷◌, ℕ, List, IfOk, OnErr, OnOk, length, map, is_some, slice_index_or, false, []};
 
 use crate::event::{PortEvent, PortFault};
 use crate::ports::{Ports, SLOTS};
@@ -21,8 +21,11 @@ pub struct MemoryPorts {
     asked: u64,
     handed_out: Vec<PortStep>,
     took: Vec<Vec<u8>>,
-    // Each with a line's end.
-    replies: Vec<u8>,
+    replies: Vec<Vec<u8>>,
+    // The configuration that an edit made last.
+    refreshed: Option<Config>,
+    // Whether there was no memory for a reply or a configuration: they tell nothing from then on.
+    lost: bool,
     // How many calls of `give` pass before the one that is to fail.
     passes: Option<u64>,
     faults: u64,
@@ -30,7 +33,7 @@ pub struct MemoryPorts {
 }
 
 impl MemoryPorts {
-    ghost use Rattle.nvt_ports.specs.Memory.{IsAtFirst, told_of, took_in};
+    ghost use Rattle.nvt_ports.specs.Memory.{IsAtFirst, replies_in, told_of, took_in};
 
     /// Ports that go through these steps.
     pub fn new(alloc: Global, steps: Vec<PortStep>) -> Result<MemoryPorts, AllocError>
@@ -50,6 +53,8 @@ impl MemoryPorts {
             handed_out: Vec::new(alloc),
             took,
             replies: Vec::new(alloc),
+            refreshed: None,
+            lost: false,
             passes: None,
             faults: 0,
         })
@@ -65,11 +70,18 @@ impl MemoryPorts {
         }
     }
 
-    /// All replies to lines, each with a line's end; those for which there was no memory are lost.
-    pub fn replies(&self) -> &[u8]
-        ensures { result.now ≡ self.now.replies.items }
+    /// The replies to lines, in their order; those for which there was no memory are lost.
+    pub fn replies(&self) -> &[Vec<u8>]
+        ensures { map (λ v. v.items) result.now ≡ replies_in self.now }
     {
         &self.replies
+    }
+
+    /// Whether there was memory for each reply and configuration, so that they tell what passed.
+    pub fn tells(&self) -> bool
+        ensures { result ≡ is_some (told_of self.now) }
+    {
+        !self.lost
     }
 
     /// Makes the `n`th call of `give` from here on fail; none for 0.
@@ -87,7 +99,7 @@ impl Ports for MemoryPorts {
     ghost use Rattle.block_store.specs.Faults.{Counts};
     ghost use Rattle.nvt_ports.specs.Event.{Fits, in_use_after};
     ghost use Rattle.nvt_ports.specs.Memory.{told_of};
-    ghost use Rattle.nvt_ports.specs.Told.{TellsGiven, handed_out_by, heard};
+    ghost use Rattle.nvt_ports.specs.Told.{TellsGiven, TellsMore, handed_out_by, heard, refreshed_to, replied};
 
     ghost state = { λ ports. record {
       told = told_of ports;
@@ -116,14 +128,21 @@ impl Ports for MemoryPorts {
     }
 
     fn reply(&mut self, text: &[u8]) {
-        let _ = self.keep_reply(text);
+        if self.keep_reply(text).is_err() {
+            self.lost = true;
+        }
     }
 
-    fn refresh(&mut self, _config: &Config) {}
+    fn refresh(&mut self, config: &Config) {
+        match config.try_clone() {
+            Ok(copy) => self.refreshed = Some(copy),
+            Err(AllocError) => self.lost = true,
+        }
+    }
 }
 
 impl MemoryPorts {
-    ghost use Rattle.nvt_ports.specs.Memory.{HandsOutBy, Stays, handed_out_in, handed_out_of, took_in};
+    ghost use Rattle.nvt_ports.specs.Memory.{HandsOutBy, Remembers, Stays, handed_out_in, handed_out_of, replies_in, took_in};
     ghost use Rattle.nvt_ports.specs.Told.{with_taken};
 
     // Whether this call of `give` is not the one that is to fail.
@@ -150,6 +169,7 @@ impl MemoryPorts {
         requires { slot < 64 }
         ensures in_use { self.new.in_use ≡ self.old.in_use }
         ensures handed_out { self.new.handed_out ≡ self.old.handed_out }
+        ensures remembers { Remembers self.old self.new }
         ensures took { OnOk result (took_in self.new ≡ with_taken slot bytes.now (took_in self.old)) }
         ensures err { OnErr result (took_in self.new ≡ took_in self.old) }
         ensures asked { self.new.asked ≡ self.old.asked }
@@ -161,10 +181,14 @@ impl MemoryPorts {
     fn keep_reply(&mut self, text: &[u8]) -> Result<(), AllocError>
         ensures in_use { self.new.in_use ≡ self.old.in_use }
         ensures handed_out { self.new.handed_out ≡ self.old.handed_out }
-        ensures stays { Stays self.old self.new }
+        ensures replies { OnOk result (replies_in self.new ≡ replies_in self.old ++ text.now ∷ []) }
+        ensures refreshed { self.new.refreshed ≡ self.old.refreshed }
+        ensures lost { self.new.lost ≡ self.old.lost }
+        ensures took { self.new.took ≡ self.old.took }
+        ensures asked { self.new.asked ≡ self.old.asked }
+        ensures faults { self.new.faults ≡ self.old.faults }
     {
-        self.replies.extend_from_slice(text)?;
-        self.replies.push(b'\n')?;
+        self.replies.push(Vec::from_slice(self.alloc, text)?)?;
         Ok(())
     }
 

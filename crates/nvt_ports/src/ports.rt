@@ -8,13 +8,13 @@ pub const SLOTS: usize = 64;
 /// The most bytes that are handed out at a time, and the length of the buffer.
 pub const PIECE_MAX: usize = 32_768;
 
-/// The ports of a target. Ports may tell what they handed out and took: then each call says what it added.
+/// The ports of a target. Ports may tell what they handed out, took and were told: then each call says what it added.
 pub trait Ports {
     ghost use Rattle.std.specs.Prelude.{◌≡◌, ◌<◌, ◌≤◌, IfOk, length, slice_set, false};
     ghost use Rattle.std.specs.Option.{option_map};
     ghost use Rattle.block_store.specs.Faults.{Counts};
     ghost use Rattle.nvt_ports.specs.Event.{Fits, in_use_after};
-    ghost use Rattle.nvt_ports.specs.Told.{PortsState, TellsGiven, handed_out_by, heard};
+    ghost use Rattle.nvt_ports.specs.Told.{PortsState, TellsGiven, TellsMore, handed_out_by, heard, refreshed_to, replied};
 
     /// What they tell, if they do; the slots that are in use: open, and not closed; and a count that each call of
     /// `give` that fails changes, and no other call does.
@@ -47,9 +47,13 @@ pub trait Ports {
 
     /// Answers the line that was handed out last.
     fn reply(&mut self, text: &[u8])
-        ensures { state self.new ≡ state self.old };
+        ensures told { TellsMore (replied text.now) (state self.old).told (state self.new).told }
+        ensures in_use { (state self.new).in_use ≡ (state self.old).in_use }
+        ensures faults { (state self.new).faults ≡ (state self.old).faults };
 
     /// Follows an edit: from here on hosts can connect to the ports of this configuration.
     fn refresh(&mut self, config: &Config)
-        ensures { state self.new ≡ state self.old };
+        ensures told { TellsMore (refreshed_to config.now) (state self.old).told (state self.new).told }
+        ensures in_use { (state self.new).in_use ≡ (state self.old).in_use }
+        ensures faults { (state self.new).faults ≡ (state self.old).faults };
 }

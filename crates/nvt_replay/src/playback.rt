@@ -170,7 +170,7 @@ impl Playback {
                 self.printer.edit_made(out)?;
                 drain(&mut self.connections, &mut self.printer, out)
             }
-            Err(NotMade::Memory) => Err(ReplayFault::Memory),
+            Err(NotMade::Unread | NotMade::Memory) => Err(ReplayFault::Memory),
             Err(NotMade::Refused(reply)) => self.printer.refused_edit(out, reply),
         }
     }

@@ -7,13 +7,13 @@ use Rattle.tables.proofs.NumberTables.{least_free-Some}
 use Rattle.nvt_ports.specs.declared.event.PortEvent.{PortEvent}
 use Rattle.nvt_ports.specs.declared.event.PortEvent.TheVariants as next
 use Rattle.nvt_ports.specs.Event.{in_use_after}
-use Rattle.nvt_ports.specs.Told.{PortsState, handed_out_by, heard}
+use Rattle.nvt_ports.specs.Told.{PortsState, TellsMore, Told, handed_out_by, heard}
 use Rattle.nvt_serve.specs.declared.asking.Counted.{Counted}
 use Rattle.nvt_serve.specs.declared.asking.Counted.TheVariants as counted
 use Rattle.nvt_serve.specs.declared.ties.Ties.{Ties}
-use Rattle.nvt_serve.specs.Asking.{EditsBy, EndsBy, EndsSlot, HasRooms, OpensBy, ReceivesIn, numbers_by, room_of_slot}
+use Rattle.nvt_serve.specs.Asking.{Answers, EditsBy, EndsBy, EndsSlot, HasRooms, OpensBy, ReceivesIn, numbers_by, room_of_slot}
 use Rattle.nvt_serve.specs.Deed as deed
-use Rattle.nvt_serve.specs.Deed.{AreReceived, Asked, Deed, Does, IsUnused, Serving}
+use Rattle.nvt_serve.specs.Deed.{Answered, AreReceived, Asked, Deed, Does, IsUnused, Serving, made_to, refused_by}
 use Rattle.nvt_serve.specs.Looks.{AreLooks, Edits, Ticks}
 use Rattle.nvt_serve.specs.Served.{AreTied, AreTies, Goes, serving}
 use Rattle.nvt_serve.proofs.Looking.{looks_as, looks_edited, looks_opened, looks_received, looks_refused, looks_same, looks_ticked, looks_untied}
@@ -69,29 +69,37 @@ tick_comes p q buffer ms old new before after asked transition ticks are =
     })
     (looks_ticked old new ms before after transition ticks are.looks) are
 
+answered : (p q r : PortsState) (buffer : List ℕ) (n : ℕ) (answer : Told → Told) → AskedBy (next.Line n) buffer p q → Answers answer q r
+    → Answered (take n buffer) answer p r
+answered p q r buffer n answer asked answers = record {
+  told = subst (λ (o : Option Told). TellsMore answer o r.told) asked.told answers.told;
+  in_use = answers.in_use ∙ asked.in_use;
+  faults = answers.faults ∙ asked.faults;
+}
+
 pub line_comes : (p q r : PortsState) (buffer : List ℕ) (n : ℕ) (result : Counted) (old new : TargetState) (before after : Ties)
-    → AskedBy (next.Line n) buffer p q → r ≡ q → EditsBy (take n buffer) result old new → Edits before after → AreTies p old before
+    → AskedBy (next.Line n) buffer p q → EditsBy (take n buffer) result q r old new → Edits before after → AreTies p old before
     → Comes result p r old new before after
-line_comes p q r buffer n counted.Edited old new before after asked same makes edits are = rw same
-    (comes (deed.edit_made (take n buffer) makes.edit) counted.Edited p q old new before after refl
+line_comes p q r buffer n counted.Edited old new before after asked h edits are =
+    comes (deed.edit_made (take n buffer) h.makes.edit) counted.Edited p r old new before after refl
     (record {
-      ports = record { told = asked.told; in_use = asked.in_use; faults = asked.faults };
+      ports = answered p q r buffer n (made_to new.config) asked h.answers;
       target = record {
-        is_line = makes.is_line;
-        accepted = makes.accepted;
-        happens = record { transition = makes.transition; connections = edits.connections };
+        is_line = h.makes.is_line;
+        accepted = h.makes.accepted;
+        happens = record { transition = h.makes.transition; connections = edits.connections };
       };
     })
-    (looks_edited old new makes.edit before after makes.transition edits are.looks) are)
-line_comes p q r buffer n counted.Refused old new before after asked same refuses edits are = rw same
-    (comes (deed.edit_refused (take n buffer) refuses.0) counted.Refused p q old new before after refl
+    (looks_edited old new h.makes.edit before after h.makes.transition edits are.looks) are
+line_comes p q r buffer n counted.Refused old new before after asked h edits are =
+    comes (deed.edit_refused (take n buffer) h.why) counted.Refused p r old new before after refl
     (record {
-      ports = record { told = asked.told; in_use = asked.in_use; faults = asked.faults };
-      target = (refuses.1, record { target = refuses.2; connections = edits.connections });
+      ports = answered p q r buffer n (refused_by h.why) asked h.answers;
+      target = (h.refuses, record { target = h.stays; connections = edits.connections });
     })
-    (looks_same old new after refuses.2 (looks_refused old before after edits are.looks)) are)
-line_comes p q r buffer n counted.Opened old new before after asked same none edits are = absurd none
-line_comes p q r buffer n counted.Nothing old new before after asked same none edits are = absurd none
+    (looks_same old new after h.stays (looks_refused old before after edits are.looks)) are
+line_comes p q r buffer n counted.Opened old new before after asked none edits are = absurd none
+line_comes p q r buffer n counted.Nothing old new before after asked none edits are = absurd none
 
 -- ---- bytes
 

@@ -6,7 +6,8 @@ use Rattle.tables.specs.NumberTable.{place}
 use Rattle.nvt_serve.specs.declared.asking.Counted.{Counted}
 use Rattle.nvt_serve.specs.declared.asking.Counted.TheVariants as counted
 use Rattle.nvt_serve.specs.declared.ties.Ties.{Ties}
-use Rattle.nvt_serve.specs.Deed.{ClosedSlot, IsRefusedBy, Serving, Stays}
+use Rattle.nvt_ports.specs.Told.{PortsState, TellsMore, Told}
+use Rattle.nvt_serve.specs.Deed.{ClosedSlot, IsRefusedBy, Serving, Stays, made_to, refused_by}
 use Rattle.nvt_serve.specs.Looks.{Opens, Receives, Unties}
 use Rattle.nvt_serve.specs.Served.{Numbers}
 use Rattle.target_core.specs.declared.fault.NoConn.{NoConn}
@@ -88,9 +89,25 @@ EndsSlot slot o old new before after = EndsBy slot o old new before after × Clo
 
 -- ---- lines
 
--- the edit of a line is made, or refused
-abbrev pub EditsBy : List ℕ → Counted → TargetState → TargetState → Type 0
-EditsBy line counted.Edited old new = MakesLine line old new
-EditsBy line counted.Refused old new = (why : NotMade) × IsRefused old.config line why × (new ≡ old)
-EditsBy line counted.Opened old new = ⊥
-EditsBy line counted.Nothing old new = ⊥
+-- ports are told what became of a line
+pub record Answers (answer : Told → Told) (old new : PortsState) : Type 0 where
+  pub told : TellsMore answer old.told new.told
+  pub in_use : new.in_use ≡ old.in_use
+  pub faults : new.faults ≡ old.faults
+
+-- the edit of a line is made, and these ports told, or it is refused
+pub record MakesEdit (line : List ℕ) (p q : PortsState) (old new : TargetState) : Type 0 where
+  pub makes : MakesLine line old new
+  pub answers : Answers (made_to new.config) p q
+
+pub record RefusesEdit (line : List ℕ) (p q : PortsState) (old new : TargetState) : Type 0 where
+  pub why : NotMade
+  pub refuses : IsRefused old.config line why
+  pub stays : new ≡ old
+  pub answers : Answers (refused_by why) p q
+
+abbrev pub EditsBy : List ℕ → Counted → PortsState → PortsState → TargetState → TargetState → Type 0
+EditsBy line counted.Edited p q old new = MakesEdit line p q old new
+EditsBy line counted.Refused p q old new = RefusesEdit line p q old new
+EditsBy line counted.Opened p q old new = ⊥
+EditsBy line counted.Nothing p q old new = ⊥

@@ -3,13 +3,15 @@ use Rattle.std.specs.Prelude.{◌≡◌, ◌≢◌, ◌<◌, ℕ, Bool, true, fa
 use Rattle.std.specs.Option.{option_map}
 use Rattle.config_lists.specs.declared.edit.Edit.{Edit}
 use Rattle.nvt_config.specs.Accept.{accept}
+use Rattle.nvt_config.specs.Configuration.{Configuration}
 use Rattle.config_text.specs.EditLine.{IsLineOf}
 use Rattle.edit_lines.specs.declared.line.NotMade.{NotMade}
 use Rattle.edit_lines.specs.Line.{IsRefused}
 use Rattle.io_queue.specs.Act.{DiskOutcome}
 use Rattle.tables.specs.NumberTable.{place, with_value, without}
-use Rattle.nvt_ports.specs.Told.{HandedOut, PortsState, given_once, heard}
+use Rattle.nvt_ports.specs.Told.{HandedOut, PortsState, Told, TellsMore, given_once, heard, refreshed_to, replied}
 use Rattle.nvt_ports.specs.Told as told
+use Rattle.nvt_serve.specs.Reply.{ok_text, refusal_text}
 use Rattle.pdu_cut.specs.Front.{Front}
 use Rattle.target_core.specs.Agreement.{front_of}
 use Rattle.target_core.specs.declared.fault.NoConn.{NoConn}
@@ -24,7 +26,7 @@ use Rattle.target_core.specs.Steps.{is_idle_at}
 -- Ports that are asked what is next hand one of these out: a tick, which sets the clock; a host that connects, in a slot, to
 -- a port, whose connection is opened, or refused and the slot closed; bytes, which the slot's connection receives; bytes, or
 -- the end of a host, in a slot that has no connection; the end of a host, whose connection is given up; a line, whose edit is
--- made or refused; or nothing.
+-- made or refused, and which is answered; or nothing.
 -- Beside that, a connection steps; bytes of a connection's output are taken in its slot; a slot fails, and its connection is
 -- given up; a connection that has ended is given up once nothing of its output is left, and its slot closed, where it has one.
 pub data Deed : Type 0 where
@@ -69,7 +71,20 @@ pub record ClosedSlot (slot : ℕ) (old new : PortsState) : Type 0 where
   pub in_use : new.in_use ≡ slice_set old.in_use slot false
   pub faults : new.faults ≡ old.faults
 
--- .. since it failed, which they counted
+-- they were asked what is next, handed this line out, and were told what became of it
+pub record Answered (line : List ℕ) (answer : Told → Told) (old new : PortsState) : Type 0 where
+  pub told : TellsMore answer (option_map (heard (Some (told.line line))) old.told) new.told
+  pub in_use : new.in_use ≡ old.in_use
+  pub faults : new.faults ≡ old.faults
+
+-- by a reply, and by the configuration that stands where its edit was made
+abbrev pub refused_by : NotMade → Told → Told
+refused_by why t = replied (refusal_text why) t
+
+abbrev pub made_to : Configuration → Told → Told
+made_to config t = refreshed_to config (replied ok_text t)
+
+-- a slot failed and was closed, which they counted
 pub record FailedSlot (slot : ℕ) (old new : PortsState) : Type 0 where
   pub told : new.told ≡ old.told
   pub in_use : new.in_use ≡ slice_set old.in_use slot false
@@ -173,23 +188,23 @@ pub record Closes (slot : Option ℕ) (k : ℕ) (old new : Serving) : Type 0 whe
 
 -- ---- deeds
 
--- what a deed makes of the ports
-abbrev pub DoesToPorts : Deed → PortsState → PortsState → Type 0
-DoesToPorts (clock_set ms) old new = Asked (Some (told.ticked ms)) old.in_use old new
-DoesToPorts (connected slot port k) old new = Asked (Some (told.opened slot port)) (slice_set old.in_use slot true) old new
-DoesToPorts (refused slot port fault) old new =
+-- what a deed makes of the ports, where this configuration stands after it
+abbrev pub DoesToPorts : Deed → Configuration → PortsState → PortsState → Type 0
+DoesToPorts (clock_set ms) config old new = Asked (Some (told.ticked ms)) old.in_use old new
+DoesToPorts (connected slot port k) config old new = Asked (Some (told.opened slot port)) (slice_set old.in_use slot true) old new
+DoesToPorts (refused slot port fault) config old new =
     Asked (Some (told.opened slot port)) (slice_set (slice_set old.in_use slot true) slot false) old new
-DoesToPorts (received slot k bytes) old new = Asked (Some (told.bytes slot bytes)) old.in_use old new
-DoesToPorts (received_by_none slot bytes) old new = Asked (Some (told.bytes slot bytes)) old.in_use old new
-DoesToPorts (gone slot k) old new = Asked (Some (told.ended slot)) (slice_set old.in_use slot false) old new
-DoesToPorts (gone_from_none slot) old new = Asked (Some (told.ended slot)) (slice_set old.in_use slot false) old new
-DoesToPorts (edit_made line edit) old new = Asked (Some (told.line line)) old.in_use old new
-DoesToPorts (edit_refused line why) old new = Asked (Some (told.line line)) old.in_use old new
-DoesToPorts nothing_came old new = Asked None old.in_use old new
-DoesToPorts (stepped_on k found m) old new = new ≡ old
-DoesToPorts (sent slot k bytes) old new = Took slot bytes old new
-DoesToPorts (failed slot k) old new = FailedSlot slot old new
-DoesToPorts (closed slot k) old new = ClosesSlot slot old new
+DoesToPorts (received slot k bytes) config old new = Asked (Some (told.bytes slot bytes)) old.in_use old new
+DoesToPorts (received_by_none slot bytes) config old new = Asked (Some (told.bytes slot bytes)) old.in_use old new
+DoesToPorts (gone slot k) config old new = Asked (Some (told.ended slot)) (slice_set old.in_use slot false) old new
+DoesToPorts (gone_from_none slot) config old new = Asked (Some (told.ended slot)) (slice_set old.in_use slot false) old new
+DoesToPorts (edit_made line edit) config old new = Answered line (made_to config) old new
+DoesToPorts (edit_refused line why) config old new = Answered line (refused_by why) old new
+DoesToPorts nothing_came config old new = Asked None old.in_use old new
+DoesToPorts (stepped_on k found m) config old new = new ≡ old
+DoesToPorts (sent slot k bytes) config old new = Took slot bytes old new
+DoesToPorts (failed slot k) config old new = FailedSlot slot old new
+DoesToPorts (closed slot k) config old new = ClosesSlot slot old new
 
 -- .. and of the target and the slots
 abbrev pub DoesToTarget : Deed → Serving → Serving → Type 0
@@ -209,7 +224,7 @@ DoesToTarget (failed slot k) old new = Leaves slot k old new
 DoesToTarget (closed slot k) old new = Closes slot k old new
 
 pub record Does (deed : Deed) (old new : Serving) : Type 0 where
-  pub ports : DoesToPorts deed old.ports new.ports
+  pub ports : DoesToPorts deed new.target.config old.ports new.ports
   pub target : DoesToTarget deed old new
 
 -- deeds, one after the other

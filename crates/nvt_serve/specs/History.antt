@@ -1,10 +1,18 @@
 -- What deeds add to the history of a target, to what each connection received, and to what was taken from it.
-use Rattle.std.specs.Prelude.{◌≡◌, ℕ, ◌==◌, List, [], ◌∷◌, ◌++◌, Option, Some, None, if◌then◌else◌}
+use Rattle.std.specs.Prelude.{◌≡◌, ◌⊎◌, ℕ, ◌==◌, List, [], ◌∷◌, ◌++◌, IsOk, Option, Some, None, if◌then◌else◌}
+use Rattle.std.specs.List.{AllZip, list_any}
+use Rattle.config_lists.specs.declared.edit.Edit.{Edit}
+use Rattle.nvt_config.specs.Accept.{accept}
+use Rattle.nvt_config.specs.Configuration.{Configuration}
+use Rattle.config_text.specs.EditLine.{IsLineOf}
+use Rattle.edit_lines.specs.declared.line.NotMade.{NotMade}
+use Rattle.edit_lines.specs.Line.{IsRefused}
 use Rattle.tables.specs.NumberTable.{place}
 use Rattle.nvt_ports.specs.Told as told
 use Rattle.nvt_ports.specs.Told.{HandedOut, Told, more, with_taken}
 use Rattle.nvt_serve.specs.Deed as deed
-use Rattle.nvt_serve.specs.Deed.{Deed, Runs, Serving, is_asking}
+use Rattle.nvt_serve.specs.Deed.{Deed, Runs, Serving, is_asking, is_edit}
+use Rattle.nvt_serve.specs.Reply.{ok_text, refusal_text}
 use Rattle.nvt_serve.specs.Served.{AreTied, count_of}
 use Rattle.target_core.specs.Agreement.{Agrees, extended, left}
 use Rattle.target_history.specs.Event as event
@@ -98,15 +106,47 @@ abbrev pub took_after : List Deed → List (List ℕ) → List (List ℕ)
 took_after [] took = took
 took_after (d ∷ deeds) took = took_after deeds (took_with d took)
 
--- Ports that tell say of deeds what was handed out for them, in their order, and what was taken; and each deed that is an
--- answer to a call is one call of `next`, of which they count 2^64 - 1.
+-- what a line was replied
+abbrev pub replies_for : Deed → List (List ℕ)
+replies_for (deed.edit_made text edit) = ok_text ∷ []
+replies_for (deed.edit_refused text why) = refusal_text why ∷ []
+replies_for _ = []
+
+abbrev pub replies_in : List Deed → List (List ℕ)
+replies_in [] = []
+replies_in (d ∷ deeds) = replies_for d ++ replies_in deeds
+
+-- What deeds add to what is told, where this configuration stands after them: what was handed out for them, in their order,
+-- and what was taken; each deed that is an answer to a call is one call of `next`, of which 2^64 - 1 are counted; what was
+-- replied to each line, in the order of the lines; and, where an edit was made, the configuration that stands.
+pub record TellDeeds (deeds : List Deed) (config : Configuration) (old new : Told) : Type 0 where
+  pub asked : new.asked ≡ more old.asked (count_of is_asking deeds)
+  pub handed_out : new.handed_out ≡ old.handed_out ++ handed_out_in deeds
+  pub took : new.took ≡ took_after deeds old.took
+  pub replies : new.replies ≡ old.replies ++ replies_in deeds
+  pub refreshed : new.refreshed ≡ (if list_any is_edit deeds then Some config else old.refreshed)
+
+-- Ports that tell, and still do after deeds, say so.
 pub record PortsTellDeeds : Type 0 where
-  pub tells : (deeds : List Deed) (old new : Serving) (t : Told) → Runs deeds old new → old.ports.told ≡ Some t
-      → new.ports.told ≡ Some (record {
-        asked = more t.asked (count_of is_asking deeds);
-        handed_out = t.handed_out ++ handed_out_in deeds;
-        took = took_after deeds t.took;
-      })
+  pub tells : (deeds : List Deed) (old new : Serving) (t u : Told) → Runs deeds old new → old.ports.told ≡ Some t → new.ports.told ≡ Some u
+      → TellDeeds deeds new.target.config t u
+
+-- ---- lines and replies
+
+abbrev pub lines_in : List HandedOut → List (List ℕ)
+lines_in [] = []
+lines_in (told.line text ∷ rest) = text ∷ lines_in rest
+lines_in (h ∷ rest) = lines_in rest
+
+-- by some configuration the line is that of an edit, which is accepted, and the reply is `ok`; or it says why it is not made
+abbrev pub IsReplyTo : List ℕ → List ℕ → Type 0
+IsReplyTo line reply = (c : Configuration)
+    × (((edit : Edit) × IsLineOf line edit × IsOk (accept c edit) × (reply ≡ ok_text))
+    ⊎ ((why : NotMade) × IsRefused c line why × (reply ≡ refusal_text why)))
+
+-- Each line that was handed out is answered once, in the order of the lines.
+pub record LinesAreAnswered : Type 0 where
+  pub answered : (deeds : List Deed) (old new : Serving) → Runs deeds old new → AllZip IsReplyTo (lines_in (handed_out_in deeds)) (replies_in deeds)
 
 -- ---- the stream of a slot
 

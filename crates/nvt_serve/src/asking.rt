@@ -114,16 +114,17 @@ fn end<P: Ports, D: Disk + Drop>(
     ports.close(slot);
 }
 
-// Makes the edit of a line, or not, and answers it.
+// Makes the edit of a line, or not, and answers it; the ports learn the configuration that it made.
 fn edit<P: Ports, D: Disk + Drop>(ports: &mut P, target: &mut Target<D>, line: &[u8]) -> Counted
-    ensures ports { P.state ports.new ≡ P.state ports.old }
-    ensures edits { EditsBy line.now result target.old target.new }
+    ensures { EditsBy line.now result (P.state ports.old) (P.state ports.new) target.old target.new }
 {
     let made = make_line(target.allocator(), target, line);
     ports.reply(reply_to(made).as_bytes());
-    if made.is_err() {
-        return Counted::Refused;
+    match made {
+        Ok(()) => {
+            ports.refresh(target.config());
+            Counted::Edited
+        }
+        Err(_) => Counted::Refused,
     }
-    ports.refresh(target.config());
-    Counted::Edited
 }

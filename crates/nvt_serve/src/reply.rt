@@ -1,20 +1,29 @@
 //! Replies to lines of edits.
-use arrayvec::ArrayString;
-use edit_lines::NotMade;
-use nvt_config::EditFault;
-use std::fmt::Write;
+ghost use Rattle.std.specs.Prelude.{◌≡◌};
+ghost use Rattle.nvt_serve.specs.Reply.{ok_text, reply_to};
 
-// Room for the longest reply, which has 32 bytes.
+use arrayvec::ArrayString;
+use edit_lines::{NotMade, text_of_refusal};
+use nvt_config::EditFault;
+
+// Room for the longest reply.
 const REPLY_MAX: usize = 64;
 
 /// `ok`, or why the edit of a line was not made; without a line's end.
-pub fn reply_to(made: Result<(), NotMade>) -> ArrayString<REPLY_MAX> {
+pub fn reply_to(made: Result<(), NotMade>) -> ArrayString<REPLY_MAX>
+    ensures { result.bytes ≡ reply_to made }
+{
+    match made {
+        Ok(()) => ok(),
+        Err(NotMade::Refused(reply)) => reply.text(),
+        Err(NotMade::Unread | NotMade::Memory) => text_of_refusal(&EditFault::Memory),
+    }
+}
+
+fn ok() -> ArrayString<REPLY_MAX>
+    ensures { result.bytes ≡ ok_text }
+{
     let mut text = ArrayString::new();
-    // What has no room is left out.
-    let _ = match made {
-        Ok(()) => text.write_str("ok"),
-        Err(NotMade::Refused(reply)) => write!(text, "{reply}"),
-        Err(NotMade::Memory) => write!(text, "{}", EditFault::Memory),
-    };
+    text.push_str("ok");
     text
 }

@@ -5,14 +5,20 @@ use clap::{Arg, ArgAction, Command, value_parser};
 use program_words::{port_option, turns, with, with_command};
 use std::alloc::{AllocError, Global};
 
-const DISKS_MAX: i64 = 256;
+/// The most disks of a target.
+pub const DISKS_MAX: i64 = 256;
 
 const UNITS_MAX: i64 = 1_048_576;
+
+const MEMORY_UNITS_MAX: i64 = 2_147_483_648;
 
 const CONTROL_HELP: &str = "The TCP port for lines of edits, at 127.0.0.1";
 
 const EXPLAIN_HELP: &str =
     "Prints behind each PDU what it is, in words, after ` # `, and in words what hosts send";
+
+const MEMORY_HELP: &str =
+    "The size of one disk in units, 1 to 2147483648; once for each, in place of --disks and --units";
 
 const QUIET_HELP: &str = "Tells nothing on standard error of who connects and what is edited";
 
@@ -36,8 +42,7 @@ fn replay<'a>(alloc: Global) -> Result<Command<'a>, AllocError> {
         .arg(file(alloc, "EDITS", "A file of one edit a line"));
     let stream = file(alloc, "STREAM", "A script of connections, one line each");
     let command = with(command, stream);
-    let command = with(command, disks(alloc));
-    let command = with(command, units(alloc));
+    let command = with_disks(alloc, command);
     with(command, flag(alloc, "explain", EXPLAIN_HELP))
 }
 
@@ -49,8 +54,7 @@ fn run<'a>(alloc: Global) -> Result<Command<'a>, AllocError> {
     let control = port_option(alloc, "control", CONTROL_HELP);
     let command = with(command, control);
     let command = with(command, turns(alloc, TURNS_HELP));
-    let command = with(command, disks(alloc));
-    let command = with(command, units(alloc));
+    let command = with_disks(alloc, command);
     with(command, flag(alloc, "quiet", QUIET_HELP))
 }
 
@@ -59,8 +63,17 @@ fn check<'a>(alloc: Global) -> Result<Command<'a>, AllocError> {
         .about("Applies the lines of EDITS to disks alone, and serves nothing")
         .after_help(CHECK_HELP)
         .arg(file(alloc, "EDITS", "A file of one edit a line"));
+    with_disks(alloc, command)
+}
+
+// The options that say which disks there are.
+fn with_disks<'a>(
+    alloc: Global,
+    command: Result<Command<'a>, AllocError>,
+) -> Result<Command<'a>, AllocError> {
     let command = with(command, disks(alloc));
-    with(command, units(alloc))
+    let command = with(command, units(alloc));
+    with(command, memory(alloc)?)
 }
 
 fn file<'a>(alloc: Global, name: &'a str, help: &'a str) -> Arg<'a> {
@@ -82,6 +95,18 @@ fn disks<'a>(alloc: Global) -> Arg<'a> {
 fn units<'a>(alloc: Global) -> Arg<'a> {
     let help = "The size of each disk in units of 512 bytes, 1 to 1048576";
     option(alloc, "units", "2048", help).value_parser(value_parser!(u64).range(1..=UNITS_MAX))
+}
+
+// A disk of its own size, each time that it is given.
+fn memory<'a>(alloc: Global) -> Result<Arg<'a>, AllocError> {
+    Arg::new(alloc, "memory")
+        .long("memory")
+        .value_name("units")
+        .action(ArgAction::Append)
+        .value_parser(value_parser!(u64).range(1..=MEMORY_UNITS_MAX))
+        .help(MEMORY_HELP)
+        .conflicts_with("disks")?
+        .conflicts_with("units")
 }
 
 fn flag<'a>(alloc: Global, name: &'a str, help: &'a str) -> Arg<'a> {

@@ -7,7 +7,7 @@ pub const HELP: &str = "EDITS has one edit a line, words with one space between:
   subsys del NQN
   ns add NQN NSID DISK BLOCKS BLOCKSIZE UUID GROUP
                                    a namespace on a disk of its own; NSID: 1 to 4096;
-                                   BLOCKSIZE: 512 or 4096
+                                   DISK: its number, from 0 on; BLOCKSIZE: 512 or 4096
   ns size NQN NSID BLOCKS
   ns group NQN NSID GROUP          GROUP: its ANA group, 1 to 32
   ns del NQN NSID
@@ -47,6 +47,9 @@ A line that is no edit has its first faulty word named, by the number of bytes b
   line COLUMN BadWord      none of the words that may stand here
   line COLUMN Extra        the line goes on after the edit's end
 
+Disks are in memory, of zeros at first. They are of one size, as many as --disks says; or --memory
+is given once for each, up to 256 times, and the first of them is disk 0.
+
 STREAM has these lines:
   open PORT   a host connects to the port; prints `K open`, with the connection's number,
               or `open refused KIND`: NoSuchPort (no port has the number) or Full (64
@@ -71,6 +74,9 @@ prints `0 open`.";
 pub const RUN_HELP: &str =
     "EDITS has one edit a line; `nvt_target help replay` lists them, and the replies to them. A line that
 is refused ends the program before it listens to anything.
+
+Disks are in memory, of zeros at first. They are of one size, as many as --disks says; or --memory
+is given once for each, up to 256 times, and the first of them is disk 0.
 
 Hosts connect to the address of each port of the edits. At 127.0.0.1, on the control port, any
 local user can send further edits, one a line; each is answered by a line, `ok` or why it is
@@ -112,12 +118,13 @@ which is answered `ok`: the host has a disk of 128 MiB.";
 /// What a file of edits is checked against.
 pub const CHECK_HELP: &str =
     "EDITS has one edit a line; `nvt_target help replay` lists them, and the replies to them. They are
-applied, in their order, to the configuration of that many disks and nothing else, as `run` and
+applied, in their order, to the configuration of these disks and nothing else, as `run` and
 `replay` apply them. Where each is accepted, `ok` is printed, and the exit status is 0. Else it is
 1, and on standard error the first line that is refused is named with its reply, as these do it:
   error: line 17: refused Exists Port
 
-No disk is made, no port is opened, and no host is served.
+Disks are of one size, as many as --disks says; or --memory is given once for each, up to 256 times,
+and the first of them is disk 0. No disk is made, no port is opened, and no host is served.
 
 Example:
   printf 'port add 1 ipv4 127.0.0.1 4420\\n' > EDITS

@@ -8,4 +8,4 @@ mod numbers;
 
 pub use declared::{port_option, turns, with, with_command};
 pub use given::{ArgumentsRefusal, parsed, refusal_of, take_words};
-pub use numbers::number;
+pub use numbers::{number, numbers_of};

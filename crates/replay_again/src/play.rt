@@ -94,9 +94,13 @@ fn take_edits(
     let mut number = 0usize;
     for line in Lines::of(edits) {
         number = number.saturating_add(1);
-        match again!(*refused, NotMade::Memory, make_line(alloc, target, line)) {
+        match again!(
+            *refused,
+            NotMade::Unread | NotMade::Memory,
+            make_line(alloc, target, line)
+        ) {
             Ok(()) => {}
-            Err(NotMade::Memory) => return Err(ReplayFault::Memory),
+            Err(NotMade::Unread | NotMade::Memory) => return Err(ReplayFault::Memory),
             Err(NotMade::Refused(reply)) => {
                 return Err(ReplayFault::EditLine {
                     line: number,

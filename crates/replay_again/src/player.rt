@@ -107,7 +107,7 @@ impl Player {
     fn edit<W: Write>(&mut self, line: &[u8], out: &mut W) -> Result<(), PlayFault> {
         let before = seen(&self.target);
         let mut made = make_line(self.alloc, &mut self.target, line);
-        if matches!(made, Err(NotMade::Memory)) {
+        if matches!(made, Err(NotMade::Unread | NotMade::Memory)) {
             self.is_as_it_was(&before)?;
             if self.once {
                 return self.print_refused_memory(out);
@@ -123,7 +123,7 @@ impl Player {
                 )?;
                 self.drain(out)
             }
-            Err(NotMade::Memory) => Err(PlayFault::Replay(ReplayFault::Memory)),
+            Err(NotMade::Unread | NotMade::Memory) => Err(PlayFault::Replay(ReplayFault::Memory)),
             Err(NotMade::Refused(reply)) => {
                 again!(
                     self.refused,

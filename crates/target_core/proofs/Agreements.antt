@@ -1,10 +1,11 @@
 -- A target that moves by an event agrees with the history that is longer by it.
-use Rattle.std.proofs.Common.{◌≡◌, ℕ, Bool, true, false, ◌||◌, List, [], ◌∷◌, ◌++◌, drop, Option, Some, None, refl, sym, ap, ◌∙◌, append_assoc}
+use Rattle.std.proofs.Common.{◌≡◌, ℕ, Bool, true, false, ◌||◌, IsTrue, List, [], ◌∷◌, ◌++◌, drop, length, map, Option, Some, None, refl, sym, ap, ◌∙◌, append_assoc}
 use Rattle.std.proofs.Math.Path.{fun_ext}
 use Rattle.std.proofs.lemmas.Bool.{eqb-true}
+use Rattle.std.proofs.lemmas.List.Elements.{All-cons, All-nil}
 use Rattle.std.specs.Prelude.{if◌then◌else◌, ◌==◌}
 use Rattle.std.specs.Option.{option_map}
-use Rattle.nvt_config.specs.Configuration.{Configuration}
+use Rattle.nvt_config.specs.Configuration.{Configuration, are_disks}
 use Rattle.fabrics_connect.specs.declared.row.Row.{Row}
 use Rattle.tables.specs.NumberTable.{place}
 use Rattle.tables.proofs.NumberTables.{place-replicate}
@@ -17,7 +18,7 @@ use Rattle.pdu_cut.specs.declared.side.Side.TheVariants.{Target}
 use Rattle.pdu_cut.specs.Front.{Front, incomplete, whole, faulty}
 use Rattle.pdu_cut.specs.Pdu.{Pdu}
 use Rattle.pdu_cut.proofs.Streams.{begins_with_none, begins_with_taken}
-use Rattle.target_core.specs.Agreement.{Agrees, AgreesAfter, AgreesStill, AgreesWith, OutputAgrees, StreamAgrees, nothing}
+use Rattle.target_core.specs.Agreement.{AddsNamed, AddsNamedBy, Agrees, AgreesAfter, AgreesStill, AgreesWith, OutputAgrees, StreamAgrees, nothing}
 use Rattle.target_core.specs.Connection.{KnownConnection, fresh_on}
 use Rattle.target_decision.specs.Session.{opened_on}
 use Rattle.target_core.specs.Transition.{Transition, Stands, StandsIn, known_after, known_moved}
@@ -136,6 +137,13 @@ stands_here (stepped n found m) t k stands = by (k == n) refl where
 
 -- ---- one more event
 
+named_here : (event : Event) (t : TargetState) → Stands event t → AddsNamedBy event
+named_here (edited edit) t stands = stands
+named_here (opened port n) t stands = tt
+named_here (given_up n) t stands = tt
+named_here (ticked now) t stands = tt
+named_here (stepped n found m) t stands = tt
+
 pub transition_agrees : (event : Event) (old new : TargetState) → Transition event old new → AgreesAfter event old new
 transition_agrees event old new transition = record {
   keeps = λ disks events received taken agrees.
@@ -163,6 +171,8 @@ transition_agrees event old new transition = record {
         output = λ k. rw (transition.connection k, met) (output_step x before k (place old.connections k) (taken k) (sym (agrees.connection k)) (agrees.output k));
         blocks = λ d. transition.blocks d ∙ ap (λ (y : Occurrence). written (write_on d (acts y)) (contents_at old.disks d)) met
             ∙ ap (written (write_on d (acts x))) (agrees.blocks d) ∙ sym (blocks_step disks x before d);
+        sizes = agrees.sizes;
+        named = All-cons AddsNamed x before (named_here event old transition.stands) agrees.named;
       };
 }
 
@@ -171,8 +181,8 @@ transition_agrees event old new transition = record {
 pub same_agrees : (old new : TargetState) → new ≡ old → AgreesStill old new
 same_agrees old new same = record { keeps = λ disks events received taken agrees. rw same agrees }
 
-pub new_agrees : (target : TargetState) (disks : Opening) → IsNewTarget disks target → Agrees target disks [] nothing nothing
-new_agrees target disks fresh = record {
+pub new_agrees : (target : TargetState) (disks : Opening) → IsTrue (are_disks (map length disks)) → IsNewTarget disks target → Agrees target disks [] nothing nothing
+new_agrees target disks sizes fresh = record {
   config = fresh.over.config;
   clock = fresh.over.clock;
   shown = new_show target.shown disks fresh.over.shown;
@@ -183,4 +193,6 @@ new_agrees target disks fresh = record {
   stream = λ k. rw (fresh.over.streams, place-replicate connections_max k) refl;
   output = λ k. rw (fresh.over.connections, place-replicate connections_max k) (refl, refl);
   blocks = λ d. rw (← fresh.units) (sym (get_or-map (λ (s : Stored). s.contents) target.disks d no_disk));
+  sizes = sizes;
+  named = All-nil AddsNamed;
 }

@@ -1,5 +1,5 @@
 -- Each call keeps the agreement: from the exact clauses of a call to what its answer says.
-use Rattle.std.proofs.Common.{◌≡◌, ℕ, ◌+◌, Bool, true, false, ◌&&◌, List, ◌++◌, take, drop, Option, Some, None, MatchOption, refl, sym, ap, subst, ◌∙◌, append_assoc, take-append-drop}
+use Rattle.std.proofs.Common.{◌≡◌, ℕ, Bool, true, false, ◌&&◌, List, ◌++◌, take, drop, Option, Some, None, MatchOption, refl, sym, ap, subst, ◌∙◌, append_assoc, take-append-drop}
 use Rattle.std.specs.Prelude.{if◌then◌else◌, ◌==◌}
 use Rattle.std.specs.Option.{option_map}
 use Rattle.std.proofs.lemmas.Bool.{eqb-true}
@@ -78,6 +78,8 @@ receive_agrees old new k held bytes known receives =
             (λ is. ap (place old.streams) (eqb-true j k is) ∙ known) (agrees.stream j));
         output = agrees.output;
         blocks = agrees.blocks;
+        sizes = agrees.sizes;
+        named = agrees.named;
       });
     }
 
@@ -124,6 +126,8 @@ taken_agrees old new k c n known takes =
             (taken_at (j == k) c n (place old.connections j) (sent (happened disks events) j) (taken j)
             (λ is. ap (place old.connections) (eqb-true j k is) ∙ known) (agrees.output j));
         blocks = agrees.blocks;
+        sizes = agrees.sizes;
+        named = agrees.named;
       });
     }
 

@@ -1,5 +1,6 @@
 pub mod Agreements
 pub mod Calls
+pub mod Faithfulness
 pub mod Fronts
 pub mod Knowing
 pub mod Moving

@@ -5,6 +5,7 @@ use Rattle.std.specs.Option.{option_map}
 use Rattle.tables.specs.NumberTable.{place, with_value, without}
 use Rattle.tables.proofs.NumberTables.{least_free-Some, place-map, place-with_value, place-without}
 use Rattle.config_lists.specs.declared.edit.Edit.{Edit}
+use Rattle.config_lists.specs.Edit.{IsNamed}
 use Rattle.nvt_config.specs.Accept.{accept}
 use Rattle.nvt_config.specs.Configuration.{Configuration}
 use Rattle.target_state.specs.Controllers.{TablesState, gone_by}
@@ -206,7 +207,7 @@ module _ (old : TargetState) (edit : Edit) (new : Configuration) (rows : ℕ →
   edit_at None known = refl
   edit_at (Some c) known = ap Some (told_settled c known)
 
-pub edit_moves : (old new : TargetState) (edit : Edit) → accept old.config edit ≡ Ok new.config → new.clock ≡ old.clock
+pub edit_moves : (old new : TargetState) (edit : Edit) → IsNamed edit → accept old.config edit ≡ Ok new.config → new.clock ≡ old.clock
     → ShowNext new.config old.shown new.shown → new.formed ≤ old.formed + reach old.config edit → new.streams ≡ old.streams
     → (ended : List (Option KnownConnection))
     → ended ≡ map (option_map (settled (cause_edited edit) (gone_by (cause_edited edit) new.config (tables_of old)))) old.connections
@@ -216,7 +217,7 @@ pub edit_moves : (old new : TargetState) (edit : Edit) → accept old.config edi
     → ((c : ℕ) → place new.controllers c ≡ (if gone_by (cause_edited edit) new.config (tables_of old) c then None else place old.controllers c))
     → ((k t : ℕ) → part_at new.transfers k t ≡ (if ends_known (cause_edited edit) (gone_by (cause_edited edit) new.config (tables_of old)) (place old.connections k) then None else part_at old.transfers k t))
     → new.disks ≡ old.disks → Transition (edited edit) old new
-edit_moves old new edit accepted clock shown formed streams ended settles tells rows controllers parts disks =
+edit_moves old new edit named accepted clock shown formed streams ended settles tells rows controllers parts disks =
     let x = meets old (edited edit) in
     let after : config_after (edited edit) old.config ≡ new.config = rw accepted refl in
     let gone = gone_after old (edited edit) new.config after in
@@ -224,7 +225,7 @@ edit_moves old new edit accepted clock shown formed streams ended settles tells 
     (λ c. rows c ∙ ap (λ (g : ℕ → Bool). if g c then None else option_map (row_kept (cause_edited edit) c) (place old.rows c)) gone) in
     let told = told_known old.config new.config (λ (c : ℕ). place new.rows c) in
     record {
-      stands = tt;
+      stands = named;
       config = sym after;
       clock = clock;
       shown = shown;

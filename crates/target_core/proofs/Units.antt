@@ -10,12 +10,12 @@ pub map_twice : {A B C : Type 0} (f : B → C) (g : A → B) (xs : List A) → m
 map_twice f g [] = refl
 map_twice f g (x ∷ xs) = ap (λ ys. f (g x) ∷ ys) (map_twice f g xs)
 
-pub stores_hold : {D : Type 0} (contents synced : D → List (List ℕ)) (faults : D → ℕ) (disks : List D) (stores : List Stored)
-    → stores ≡ map (λ d. record { contents = contents d; synced = synced d; faults = faults d }) disks
+pub stores_hold : {D : Type 0} (contents synced : D → List (List ℕ)) (faults strays : D → ℕ) (disks : List D) (stores : List Stored)
+    → stores ≡ map (λ d. record { contents = contents d; synced = synced d; faults = faults d; strays = strays d }) disks
     → map (λ (s : Stored). s.contents) stores ≡ map contents disks
-stores_hold contents synced faults disks stores is =
+stores_hold contents synced faults strays disks stores is =
     ap (map (λ (s : Stored). s.contents)) is
-    ∙ map_twice (λ (s : Stored). s.contents) (λ d. let s : Stored = record { contents = contents d; synced = synced d; faults = faults d } in s) disks
+    ∙ map_twice (λ (s : Stored). s.contents) (λ d. let s : Stored = record { contents = contents d; synced = synced d; faults = faults d; strays = strays d } in s) disks
 
 pub sizes_are : (disks : List Stored) (opening : Opening) → map (λ (s : Stored). s.contents) disks ≡ opening → map length opening ≡ sizes disks
 sizes_are disks opening is = rw (← is) (map_twice length (λ (s : Stored). s.contents) disks)

@@ -1,10 +1,12 @@
 -- What it means that a target agrees with a history, and with the bytes that each connection received
 -- and that were taken from it.
-use Rattle.std.specs.Prelude.{◌≡◌, ℕ, Bool, ◌==◌, ◌||◌, ◌&&◌, List, [], ◌∷◌, ◌++◌, Option, Some, None, Result, MatchOption, MatchResult, if◌then◌else◌, take}
+use Rattle.std.specs.Prelude.{◌≡◌, ℕ, Bool, ◌==◌, ◌||◌, ◌&&◌, List, [], ◌∷◌, ◌++◌, All, IsTrue, Option, Some, None, Result, MatchOption, MatchResult, if◌then◌else◌, length, map, take}
 use Rattle.tables.specs.NumberTable.{place}
 use Rattle.data_transfer.specs.Parts.{part_at}
 use Rattle.config_lists.specs.declared.edit.Edit.{Edit}
 use Rattle.config_lists.specs.declared.fault.EditFault.{EditFault}
+use Rattle.config_lists.specs.Edit.{IsNamed}
+use Rattle.nvt_config.specs.Configuration.{are_disks}
 use Rattle.io_queue.specs.Act.{DiskOutcome}
 use Rattle.io_queue.specs.Execution.{Tells, contents_at}
 use Rattle.pdu_cut.specs.declared.side.Side.TheVariants.{Target}
@@ -40,11 +42,20 @@ abbrev pub OutputAgrees : Option KnownConnection → List ℕ → List ℕ → T
 OutputAgrees None was_sent taken = (was_sent ≡ []) × (taken ≡ [])
 OutputAgrees (Some c) was_sent taken = was_sent ≡ taken ++ c.output
 
+-- a subsystem that an event adds has a name
+abbrev pub AddsNamedBy : Event → Type 0
+AddsNamedBy (edited edit) = IsNamed edit
+AddsNamedBy _ = Unit {0}
+
+abbrev pub AddsNamed : Occurrence → Type 0
+AddsNamed x = AddsNamedBy x.event
+
 -- A target agrees with what happened to it, with what each connection received since it was opened, and
 -- with what was taken from it since. Its discovery view shows each host the records of the configuration,
 -- and counts the edits that changed them; each connection is known where the history says so, and has come
 -- as far as it says, and has the transfers that it says; each controller lives where the history says so, and is as it says; each disk holds the units
--- that it opened with, written over in the order of the events.
+-- that it opened with, written over in the order of the events. There may be disks of these sizes, and each subsystem was
+-- added under a name.
 pub record AgreesWith (t : TargetState) (disks : Opening) (happened : List Occurrence) (received taken : ℕ → List ℕ) : Type 0 where
   pub config : t.config ≡ config_of disks happened
   pub clock : t.clock ≡ clock_of happened
@@ -56,6 +67,8 @@ pub record AgreesWith (t : TargetState) (disks : Opening) (happened : List Occur
   pub stream : (k : ℕ) → StreamAgrees (place t.streams k) (pdus_of happened k) (last_front happened k) (received k)
   pub output : (k : ℕ) → OutputAgrees (place t.connections k) (sent happened k) (taken k)
   pub blocks : (d : ℕ) → contents_at t.disks d ≡ blocks_of disks happened d
+  pub sizes : IsTrue (are_disks (map length disks))
+  pub named : All AddsNamed happened
 
 abbrev pub Agrees : TargetState → Opening → List Event → (ℕ → List ℕ) → (ℕ → List ℕ) → Type 0
 Agrees t disks events received taken = AgreesWith t disks (happened disks events) received taken

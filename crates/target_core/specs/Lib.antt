@@ -1,6 +1,7 @@
 pub mod Agreement
 pub mod Connection
 pub mod Fault
+pub mod Faithful
 pub mod Marks
 pub mod Possible
 pub mod Steps

@@ -3,6 +3,7 @@ use Rattle.std.specs.Prelude.{◌≡◌, ◌≤◌, ℕ, Bool, length, true, fal
 use Rattle.std.specs.Option.{option_map}
 use Rattle.tables.specs.NumberTable.{place, with_value}
 use Rattle.block_store.specs.Stored.{Stored}
+use Rattle.config_lists.specs.Edit.{IsNamed}
 use Rattle.data_transfer.specs.Parts.{part_at}
 use Rattle.io_queue.specs.Act.{DiskOutcome}
 use Rattle.io_queue.specs.Execution.{contents_at, write_on, written}
@@ -37,14 +38,14 @@ stream_after event k o =
     if opens event k then Some [] else
     if gives_up event k then None else option_map (stream_moved event k) o
 
--- a step consumes what stands at the front of its stream
+-- A step consumes what stands at the front of its stream; an edit adds a subsystem under a name, as its type has no other.
 abbrev pub StandsIn : Front → Option (List ℕ) → Type 0
 StandsIn found None = ⊥
 StandsIn found (Some held) = (front Target held ≡ found) × (is_incomplete found ≡ false)
 
 abbrev pub Stands : Event → TargetState → Type 0
 Stands (stepped n found m) t = StandsIn found (place t.streams n)
-Stands (edited edit) t = Unit {0}
+Stands (edited edit) t = IsNamed edit
 Stands (opened port n) t = Unit {0}
 Stands (given_up n) t = Unit {0}
 Stands (ticked now) t = Unit {0}

@@ -24,7 +24,8 @@ use pdu_cut::Cut;
 use std::alloc::{AllocError, Global};
 use std::marker::Model;
 use target_decision::{
-    ConnectionState, Decision, Role, Session, WaitingCommand, World, fulfil, prepare,
+    ConnectionState, Decision, Role, Session, WaitingCommand, World, fulfil, make_disk_room,
+    prepare,
 };
 use target_history::EndCause;
 use target_state::ControllerTables;
@@ -114,6 +115,7 @@ impl Connection {
             OnOk result (Stand transfers.new (with_own (part_at transfers.old) number tags)) }
         ensures err { OnErr result ((self.new ≡ self.old) × (stores.new ≡ stores.old) × (transfers.new ≡ transfers.old)) }
     {
+        make_disk_room(stores, decision)?;
         let carried = prepare(
             world,
             transfers,

@@ -3,8 +3,9 @@ ghost use Rattle.std.specs.Prelude.{◌≡◌, ◌^◌, IfOk, length, map, nat_l
 ghost use Rattle.std.specs.List.{list_all};
 ghost use Rattle.block_store.specs.Stored.{Stored};
 ghost use Rattle.nvt_config.specs.Configuration.{are_disks};
+ghost use Rattle.target_core.specs.Faithful.{AreFaithful};
 
-use block_store::{Disk, Store};
+use block_store::{Disk, Faithful, Store};
 use nvt_config::{DISK_UNITS_MAX, DISKS_MAX};
 use std::alloc::{AllocError, Global};
 
@@ -22,6 +23,16 @@ fn are_disk_sizes<D: Disk>(disks: &[D]) -> bool
     match disks.split_first() {
         Some((disk, others)) => disk.blocks() <= DISK_UNITS_MAX && are_disk_sizes(others),
         None => true,
+    }
+}
+
+/// What the disks promise: no read of them found other bytes than were written. It does nothing beside asking each.
+pub(crate) fn promise_of<D: Faithful>(stores: &[Store<D>])
+    ensures { AreFaithful stores.now }
+{
+    if let Some((store, others)) = stores.split_first() {
+        store.promise();
+        promise_of(others);
     }
 }
 
@@ -53,6 +64,7 @@ fn stores_of<D: Disk + Drop>(alloc: Global, disks: Vec<D>) -> Result<Vec<Store<D
       contents = D.contents disk;
       synced = D.synced disk;
       faults = D.faults disk;
+      strays = D.strays disk;
     }) disks.items) }
 {
     let mut stores = Vec::with_capacity(alloc, disks.len())?;

@@ -10,6 +10,7 @@ ghost use Rattle.discovery_view.specs.Catalog.{catalog_of};
 ghost use Rattle.discovery_view.specs.Forming.{reach};
 ghost use Rattle.fabrics_connect.specs.Controllers.{no_controllers};
 ghost use Rattle.target_core.specs.Agreement.{Agrees, AgreesAfter, EditAgrees, EndAgrees, EndedAgrees, OpenAgrees, ReceiveAgrees, StepAgrees, TakenAgrees, nothing};
+ghost use Rattle.target_core.specs.Faithful.{AreFaithful, FaithfulStepAgrees};
 ghost use Rattle.data_transfer.specs.Parts.{Stand, no_parts, part_at};
 ghost use Rattle.io_queue.specs.Execution.{sizes};
 ghost use Rattle.pdu_cut.specs.Cut.{front_shown};
@@ -22,10 +23,10 @@ ghost use Rattle.target_history.specs.Event.{edited, given_up, opened, ticked};
 ghost use Rattle.target_state.specs.Views.{AreViewsOf, ShowFirst};
 
 use crate::connection::Connection;
-use crate::disks::{are_disks, stores_over, units_of};
+use crate::disks::{are_disks, promise_of, stores_over, units_of};
 use crate::fault::{NoConn, OpenFault, StepFault, Stepped};
 use crate::settle::{settle, tell};
-use block_store::{Disk, Store};
+use block_store::{Disk, Faithful, Store};
 use data_transfer::Transfers;
 use nvt_config::{Config, Edit, EditFault, NewFault};
 use pdu_cut::{Cut, OfTarget, Stream};
@@ -395,6 +396,7 @@ impl<D: Disk + Drop> Target<D> {
         ensures transition { OnOk result (Transition (edited edit.now) self.old self.new) }
         ensures err { OnErr result (self.new ≡ self.old) }
     {
+        edit.promise();
         let change = self.config.prepare(edit)?;
         let (change, plans) = both(change, self.views.prepare(&self.config, edit))?;
         self.config.commit(change);
@@ -409,6 +411,32 @@ impl<D: Disk + Drop> Target<D> {
         tell(&mut self.connections, &self.controllers, &planned);
         self.views.commit(plans);
         Ok(())
+    }
+}
+
+// Over disks whose reads find what was written. What is read is then what the history says that was written.
+impl<D: Faithful + Drop> Target<D> {
+    /// What such disks promise: no read of them found other bytes than were written. It asks each disk, and does nothing
+    /// else: its contract is for who proves what follows.
+    pub fn promise(&self)
+        ensures { AreFaithful self.now.disks }
+    {
+        promise_of(&self.stores);
+    }
+
+    /// `step`, over such disks: whatever history the target agrees with, it agrees with the longer one, at whose event the
+    /// disks found no other bytes. It costs a look at each disk more than `step`, which does the same.
+    #[tactic(auto, using(crate::proofs::Faithfulness::step_faithfully))]
+    pub fn step_faithfully(&mut self, k: usize) -> Result<Stepped, StepFault>
+        ensures err { OnErr result (self.new ≡ self.old) }
+        ensures steps { StepsAt k (place self.old.streams k) (place self.old.connections k)
+            self.old result self.new }
+        ensures agrees { FaithfulStepAgrees k self.old result self.new }
+    {
+        self.promise();
+        let result = self.step(k);
+        self.promise();
+        result
     }
 }
 

@@ -4,7 +4,7 @@ use Rattle.block_store.specs.Stored.{Stored}
 use Rattle.io_queue.specs.declared.operation.Operation.{Operation}
 use Rattle.io_queue.specs.Act.{DiskOutcome}
 use Rattle.io_queue.specs.Execution.{DisksDid, contents_at, sizes as sizes_of, write_on, written}
-use Rattle.io_queue.specs.Operation.{room_for as room_for_operation}
+use Rattle.io_queue.specs.Operation.{HasExtent, room_for as room_for_operation}
 use Rattle.io_queue.specs.Reply.{data_room}
 use Rattle.pdu_cut.specs.Front.{Front}
 use Rattle.target_decision.specs.declared.decision.Decision.{Decision}
@@ -22,6 +22,11 @@ pub record Does (alignment : ℕ) (d : Decision) (front : Front) (b : Brought) (
   pub sends : appended ≡ output ++ wire_of alignment d front b payload (contents_at old) disk_outcome
   pub contents : (disk : ℕ) → contents_at new disk ≡ written (write_on disk (act_by d b disk_outcome)) (contents_at old disk)
   pub sizes : sizes_of new ≡ sizes_of old
+
+-- the extent of an operation, where there is one, is on its disk, of those of these sizes
+abbrev pub HasExtentIn : List ℕ → Option Operation → Type 0
+HasExtentIn sizes None = Unit {0}
+HasExtentIn sizes (Some op) = HasExtent sizes op.extent
 
 -- how many bytes a decision may send of what it reads
 abbrev pub room_in : Option Operation → ℕ

@@ -8,9 +8,9 @@ ghost use Rattle.pdu_cut.specs.Front.{whole};
 ghost use Rattle.fabrics_connect.specs.Row.{row_begun};
 ghost use Rattle.pdu_cut.specs.Pdu.{data_part};
 ghost use Rattle.target_decision.specs.Begin.{NamesIn, NamesWell, row_decided};
-ghost use Rattle.target_decision.specs.Fulfilment.{Does, room_for, room_of};
+ghost use Rattle.target_decision.specs.Fulfilment.{Does, HasExtentIn, room_for, room_of};
 ghost use Rattle.target_decision.specs.Carry.{CanCarry, brought_by, brought_in, tags_after, with_own};
-ghost use Rattle.target_decision.specs.Decision.{CanPerform, consumed_of, data_of, entry_of, head_of};
+ghost use Rattle.target_decision.specs.Decision.{CanPerform, consumed_of, data_of, entry_of, head_of, operation_of};
 ghost use Rattle.target_decision.specs.Session.{turned};
 ghost use Rattle.target_decision.specs.World.{world_in};
 
@@ -27,6 +27,7 @@ use block_store::{Disk, Store};
 use bytes::BytesMut;
 use data_transfer::Transfers;
 use fabrics_connect::{Connect, NewController, Row};
+use io_queue::make_room;
 use pdu_codec::Sqe;
 use pdu_cut::{Cut, PduView};
 use std::alloc::{AllocError, Global};
@@ -61,6 +62,23 @@ pub fn prepare(
     let sent = WIRE_MAX + head_of(front).len() + returned + room_of(decision);
     output.reserve(sent + TOLD_ROOM)?;
     carry(transfers, connection, decision, front)
+}
+
+/// Makes the room that the operation of a decision wants on its disk. What the disks have stays, also where memory runs out.
+pub fn make_disk_room<D: Disk>(
+    stores: &mut [Store<D>],
+    decision: &Decision,
+) -> Result<(), AllocError>
+    requires { HasExtentIn (sizes stores.old) (operation_of decision.now) }
+    ensures { stores.new ≡ stores.old }
+{
+    let Decision::Reply(reply) = decision else {
+        return Ok(());
+    };
+    match &reply.answer {
+        ReplyAnswer::Given(_) => Ok(()),
+        ReplyAnswer::Performed(operation) => make_room(stores, operation),
+    }
 }
 
 /// Does what the decision on this front owes in the session: performs its operation, sends what it owes,

@@ -1,7 +1,7 @@
 //! What a target owes to a PDU. `decide` looks at what stands at the front of a connection's
 //! stream, and at what a decision may look at beside it, and answers a value: a reply with what
 //! follows from it, a wish for its data, or the connection's end. `new_row` makes what other connections will
-//! see of a controller that this begins. `prepare` makes room for all that it sends, and carries on the
+//! see of a controller that this begins. `make_disk_room` makes room for what it writes; `prepare` for all that it sends, and carries on the
 //! transfer that it is about; `fulfil` then does the operation, writes what is sent, and moves the session.
 //! Nothing here keeps anything.
 #![tactic(auto)]
@@ -32,7 +32,7 @@ pub use carry::Carried;
 pub use consequence::{Beginning, ConfigurationSet, Consequence, Joining, Update};
 pub use controller::Controller;
 pub use decision::{DataRequest, Decision, Given, Reply, ReplyAnswer, Termination, decide};
-pub use fulfilment::{consumed_of, fulfil, new_row, prepare};
+pub use fulfilment::{consumed_of, fulfil, make_disk_room, new_row, prepare};
 pub use queue::SubmissionQueue;
 pub use session::{ConnectionState, Role, Session};
 pub use tell::TOLD_ROOM;

@@ -3,6 +3,7 @@ pub mod Alike
 pub mod Asked
 pub mod Begun
 pub mod Blocks
+pub mod Completing
 pub mod Counting
 pub mod Endings
 pub mod Heads

@@ -1,3 +1,4 @@
+pub mod Completed
 pub mod EndCause
 pub mod Event
 pub mod History

@@ -8,6 +8,7 @@ ghost use Rattle.target_history.specs.Laws.{PermittedOutliveEdits, QueueIdsAreOf
 ghost use Rattle.target_history.specs.Laws.{QueuesAreOfOneConnection, QueuesAreOnTheirPort};
 ghost use Rattle.target_history.specs.Laws.{ResetsEndTheirQueuesAlone, ResponsesAnswerCapsules};
 ghost use Rattle.target_history.specs.Laws.{SentByOwnAlone, TransfersAreCarriedOn};
+ghost use Rattle.target_history.specs.Completed.{CompletedReadsFindWhatWasWritten};
 
 /// A connection that is ended is sent nothing more, until it is opened again.
 #[tactic(auto, using(crate::proofs::Histories::ended_are_sent_nothing))]
@@ -112,4 +113,12 @@ pub fn queues_are_on_their_port()
 #[tactic(auto, using(crate::proofs::Serving::queue_ids_are_of_connections))]
 pub fn queue_ids_are_of_connections()
     ensures { QueueIdsAreOfConnections }
+{}
+
+/// Where a disk finds what was written, a Read that is answered with success returns the units of its extent as the disk
+/// opened with them, overwritten by the completed writes in event order; and a Compare is answered with success only
+/// where these are its data.
+#[tactic(auto, using(crate::proofs::Completing::completed_reads_find_what_was_written))]
+pub fn completed_reads_find_what_was_written()
+    ensures { CompletedReadsFindWhatWasWritten }
 {}

@@ -7,6 +7,7 @@ use block_store::{Disk, DiskFault, Store, UNIT_LEN};
 #[derive(Clone, Copy, PartialEq, Eq)]
 pub enum Fault {
     Disk,
+    Memory,
     Outside,
 }
 
@@ -51,4 +52,12 @@ pub fn compare<D: Disk>(store: &mut Store<D>, first: u64, bytes: &[u8]) -> Resul
         return Err(Fault::Outside);
     }
     Ok(store.compare(first, bytes)?)
+}
+
+pub fn make_room<D: Disk>(store: &mut Store<D>, first: u64, count: u64) -> Result<(), Fault> {
+    let blocks = store.blocks();
+    if first > blocks || count > blocks - first {
+        return Err(Fault::Outside);
+    }
+    store.make_room(first, count).map_err(|_| Fault::Memory)
 }

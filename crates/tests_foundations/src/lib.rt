@@ -1,5 +1,5 @@
-//! Tests of the foundations, through their public calls: a table of numbers, and disks that fail. Memory that is refused
-//! is tested in `tests_growths`.
+//! Tests of the foundations, through their public calls: a table of numbers, and disks that fail, that
+//! stray and that take their memory in pieces. Memory that is refused is tested in `tests_growths`.
 #![tactic(auto)]
 
 #[cfg(test)]
@@ -9,6 +9,10 @@ mod counts;
 #[cfg(test)]
 mod faults;
 #[cfg(test)]
+mod pieces;
+#[cfg(test)]
 mod random;
+#[cfg(test)]
+mod strays;
 #[cfg(test)]
 mod table;

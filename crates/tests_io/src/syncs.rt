@@ -17,15 +17,17 @@ struct CountingDisk {
 impl Disk for CountingDisk {
     ghost use Rattle.std.specs.Prelude.{◌≡◌, ◌<◌, ◌⊎◌, length, slice_index_or, slice_set, [], OnOk, OnErr};
     ghost use Rattle.block_store.specs.Faults.{Counts};
-    ghost use Rattle.block_store.specs.Memory.{memory_contents};
+    ghost use Rattle.block_store.specs.Memory.{memory_contents, memory_whole};
 
     ghost contents = { λ counting. memory_contents counting.disk };
 
     ghost synced = { λ counting. memory_contents counting.disk };
 
-    ghost faults = { λ counting. 0 };
+    ghost faults = { λ counting. counting.disk.faults };
 
-    ghost whole = { λ counting. counting.disk.whole };
+    ghost strays = { λ counting. 0 };
+
+    ghost whole = { λ counting. memory_whole counting.disk };
 
     fn blocks(&self) -> u64 {
         self.disk.blocks()

@@ -41,9 +41,14 @@ impl Rig {
         self.ports.got(slot)
     }
 
-    /// All replies to lines, each with a line's end.
-    pub fn replies(&self) -> &[u8] {
+    /// The replies to lines, in their order.
+    pub fn replies(&self) -> &[Vec<u8>] {
         self.ports.replies()
+    }
+
+    /// Whether there was memory for all that the ports keep of lines.
+    pub fn tells(&self) -> bool {
+        self.ports.tells()
     }
 
     /// Makes the `n`th call of `give` from here on fail.

@@ -45,13 +45,13 @@ returns-in-End-clause-goes g c =
 pub returns-in-Line-clause-ties : goal.returns-in-Line-clause-ties
 returns-in-Line-clause-ties g c =
     (line_comes (g.P.Ports.state c.args.ports.now) (g.P.Ports.state c.next.new.self) (g.P.Ports.state c.edit.new.ports) c.next.new.buf c.in-Line.n c.edit.result c.args.target.now c.edit.new.target
-    c.args.ties.now c.edited.new.self (record { told = c.in-Line.ensures.told; in_use = c.in-Line.ensures.in_use; faults = c.in-Line.ensures.faults }) c.edit.ensures.ports c.edit.ensures.edits
+    c.args.ties.now c.edited.new.self (record { told = c.in-Line.ensures.told; in_use = c.in-Line.ensures.in_use; faults = c.in-Line.ensures.faults }) c.edit.ensures
     c.edited.ensures c.requires.ties).ties
 
 pub returns-in-Line-clause-goes : goal.returns-in-Line-clause-goes
 returns-in-Line-clause-goes g c =
     (line_comes (g.P.Ports.state c.args.ports.now) (g.P.Ports.state c.next.new.self) (g.P.Ports.state c.edit.new.ports) c.next.new.buf c.in-Line.n c.edit.result c.args.target.now c.edit.new.target
-    c.args.ties.now c.edited.new.self (record { told = c.in-Line.ensures.told; in_use = c.in-Line.ensures.in_use; faults = c.in-Line.ensures.faults }) c.edit.ensures.ports c.edit.ensures.edits
+    c.args.ties.now c.edited.new.self (record { told = c.in-Line.ensures.told; in_use = c.in-Line.ensures.in_use; faults = c.in-Line.ensures.faults }) c.edit.ensures
     c.edited.ensures c.requires.ties).goes
 
 pub returns-in-Tick-clause-ties : goal.returns-in-Tick-clause-ties

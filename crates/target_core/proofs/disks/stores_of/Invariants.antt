@@ -9,5 +9,6 @@ invariant-loop-disk g l =
       contents = g.D.Disk.contents disk;
       synced = g.D.Disk.synced disk;
       faults = g.D.Disk.faults disk;
+      strays = g.D.Disk.strays disk;
     })
     l.yielded

@@ -1,3 +1,5 @@
+use Rattle.std.proofs.Common.{[], inl, refl}
+use Rattle.std.proofs.KnownBytes.{Appends-nil}
 use Rattle.std.proofs.lemmas.Result.{err_from_is_err_and}
 use Rattle.nvt_replay.proofs.Cutting.{editing_cut, refusing_cut, replying_cut}
 use Rattle.nvt_replay.proofs.Replying.{made_and_drained, refused_and_told}
@@ -32,3 +34,10 @@ returns-in-Err-Refused-clause-begun g c =
     refusing_cut c.refused_edit.result c.args.line.now c.args.self.now.connections c.edit.new.self c.in-Err-Refused.reply
     (g.W.Write.contents c.args.out.now) (g.W.Write.contents c.refused_edit.new.out)
     (rw c.in-Err-Refused.field-0-is at c.in-Err-Refused.ensures.refused) c.in-Err-Refused.ensures.err c.refused_edit.ensures.begun
+
+pub returns-in-Err-Unread : goal.returns-in-Err-Unread
+returns-in-Err-Unread g c = record {
+  fault = tt;
+  played = tt;
+  begun = ([], Appends-nil (g.W.Write.contents c.args.out.now), inl (refl, c.in-Err-Unread.ensures.err));
+}

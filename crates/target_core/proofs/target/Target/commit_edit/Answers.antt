@@ -44,7 +44,7 @@ returns-clause-transition g c =
     let lead = rw (both.1, accepted) at c.prepare-2.ensures.leads in
     let plans : Plans old next c.planned-planned.result = rw c.planned-planned.ensures (plans_told old next _ _ (c.prepare-2.ensures.stays old c.self.invariant.shows) lead) in
     rw (← c.self.view_is)
-    (edit_moves _ _ c.args.edit.now accepted refl
+    (edit_moves _ _ c.args.edit.now c.promise.ensures accepted refl
     (rw c.prepare-2.ensures.kept at (c.commit-2.ensures.shown old next lead))
     (rw c.commit-2.ensures.formed c.prepare-2.ensures.reach) refl
     c.settle.new.connections (rw c.of_edit.ensures at c.settle.ensures.connections) (c.tell.ensures old next plans) (λ n. rw c.of_edit.ensures at (c.settle.ensures.rows n))

@@ -1,0 +1,16 @@
+use Rattle.std.proofs.Common.{◌≡◌, ◌+◌, ◌-◌, ◌≤◌, replicate}
+use Rattle.block_store.specs.Memory.{memory_contents}
+use Rattle.block_store.specs.Range.{overwritten}
+use Rattle.block_store.specs.Unit.{zero_unit}
+use Rattle.block_store.proofs.memory.MemoryDiskDisk.zero_range.Given as goal
+
+abbrev pub invariant-loop-done : goal.invariant-loop-done
+invariant-loop-done l = record {
+  within : l.done ≤ l.count;
+  fits : l.first + l.count ≤ l.self.units;
+  contents : memory_contents l.self ≡ overwritten (memory_contents l.fn.self) l.first (replicate l.done zero_unit);
+  faults : l.self.faults ≡ l.fn.self.faults;
+}
+
+abbrev pub decreases-loop-done : goal.decreases-loop-done
+decreases-loop-done l = l.count - l.done
