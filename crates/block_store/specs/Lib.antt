@@ -1,9 +1,9 @@
 pub mod Compare
-pub mod Failing
 pub mod Faults
 pub mod Memory
 pub mod Pieces
 pub mod Range
 pub mod Stored
+pub mod Turn
 pub mod Unit
 pub mod Write

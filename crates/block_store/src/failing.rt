@@ -1,9 +1,10 @@
 //! A disk that fails once, for tests.
 ghost use Rattle.std.specs.Prelude.{◌≡◌, ◌+◌, Some};
 ghost use Rattle.std.specs.Result.{is_err};
-ghost use Rattle.block_store.specs.Failing.{own_count, is_due, passes_after, FailsInTurn};
+ghost use Rattle.block_store.specs.Turn.{own_count, is_due, passes_after, FailsInTurn};
 
 use crate::disk::{Disk, DiskFault, Faithful};
+use crate::turn::Turn;
 use std::alloc::AllocError;
 
 /// A disk of which one call of `read`, `write` or `sync` fails. That call does not reach the disk
@@ -11,39 +12,32 @@ use std::alloc::AllocError;
 #[derive(Drop)]
 pub struct FailingDisk<D: Disk> {
     disk: D,
-    // How many calls pass before the one that fails; none once it has failed.
-    passes: Option<u64>,
+    // Of the call that fails.
+    turn: Turn,
 }
 
 impl<D: Disk> FailingDisk<D> {
     /// A disk over this one. So many calls pass to it, the next one fails, and all later ones pass.
     pub fn new(disk: D, passes: u64) -> FailingDisk<D>
         ensures disk { result.disk ≡ disk }
-        ensures passes { result.passes ≡ Some passes }
+        ensures passes { result.turn.passes ≡ Some passes }
     {
         FailingDisk {
             disk,
-            passes: Some(passes),
+            turn: Turn::after(passes),
         }
     }
 
     /// Fails where this is the call to fail.
     fn pass(&mut self) -> Result<(), DiskFault>
         ensures disk { self.new.disk ≡ self.old.disk }
-        ensures passes { self.new.passes ≡ passes_after self.old.passes }
-        ensures fails { is_err result ≡ is_due self.old.passes }
+        ensures passes { self.new.turn.passes ≡ passes_after self.old.turn.passes }
+        ensures fails { is_err result ≡ is_due self.old.turn.passes }
     {
-        match self.passes {
-            None => Ok(()),
-            Some(0) => {
-                self.passes = None;
-                Err(DiskFault)
-            }
-            Some(passes) => {
-                self.passes = Some(passes - 1);
-                Ok(())
-            }
+        if self.turn.comes() {
+            return Err(DiskFault);
         }
+        Ok(())
     }
 }
 
@@ -55,7 +49,7 @@ impl<D: Disk> Disk for FailingDisk<D> {
 
     ghost synced = { λ failing. D.synced failing.disk };
 
-    ghost faults = { λ failing. own_count failing.passes + D.faults failing.disk };
+    ghost faults = { λ failing. own_count failing.turn.passes + D.faults failing.disk };
 
     ghost strays = { λ failing. D.strays failing.disk };
 
@@ -71,8 +65,8 @@ impl<D: Disk> Disk for FailingDisk<D> {
         ensures rises { D.strays self.old.disk ≤ D.strays self.new.disk }
         ensures synced { D.synced self.new.disk ≡ D.synced self.old.disk }
         ensures contents { D.contents self.new.disk ≡ D.contents self.old.disk }
-        ensures passes { self.new.passes ≡ passes_after self.old.passes }
-        ensures turn { FailsInTurn D.faults self.old.passes result self.old.disk self.new.disk }
+        ensures passes { self.new.turn.passes ≡ passes_after self.old.turn.passes }
+        ensures turn { FailsInTurn D.faults self.old.turn.passes result self.old.disk self.new.disk }
     {
         self.pass()?;
         self.disk.read(unit, out)
@@ -83,8 +77,8 @@ impl<D: Disk> Disk for FailingDisk<D> {
         ensures written { OnOk result (D.contents self.new.disk ≡ slice_set (D.contents self.old.disk) unit bytes.now) }
         ensures strays { D.strays self.new.disk ≡ D.strays self.old.disk }
         ensures torn { OnErr result ((D.contents self.new.disk ≡ D.contents self.old.disk) ⊎ (D.contents self.new.disk ≡ slice_set (D.contents self.old.disk) unit bytes.now)) }
-        ensures passes { self.new.passes ≡ passes_after self.old.passes }
-        ensures turn { FailsInTurn D.faults self.old.passes result self.old.disk self.new.disk }
+        ensures passes { self.new.turn.passes ≡ passes_after self.old.turn.passes }
+        ensures turn { FailsInTurn D.faults self.old.turn.passes result self.old.disk self.new.disk }
     {
         self.pass()?;
         self.disk.write(unit, bytes)
@@ -94,8 +88,8 @@ impl<D: Disk> Disk for FailingDisk<D> {
         ensures synced { OnOk result (D.synced self.new.disk ≡ D.contents self.old.disk) }
         ensures strays { D.strays self.new.disk ≡ D.strays self.old.disk }
         ensures contents { D.contents self.new.disk ≡ D.contents self.old.disk }
-        ensures passes { self.new.passes ≡ passes_after self.old.passes }
-        ensures turn { FailsInTurn D.faults self.old.passes result self.old.disk self.new.disk }
+        ensures passes { self.new.turn.passes ≡ passes_after self.old.turn.passes }
+        ensures turn { FailsInTurn D.faults self.old.turn.passes result self.old.disk self.new.disk }
     {
         self.pass()?;
         self.disk.sync()
@@ -107,7 +101,7 @@ impl<D: Disk> Disk for FailingDisk<D> {
         ensures synced { D.synced self.new.disk ≡ D.synced self.old.disk }
         ensures strays { D.strays self.new.disk ≡ D.strays self.old.disk }
         ensures faults { D.faults self.new.disk ≡ D.faults self.old.disk }
-        ensures passes { self.new.passes ≡ self.old.passes }
+        ensures passes { self.new.turn.passes ≡ self.old.turn.passes }
     {
         self.disk.make_room(first, count)
     }

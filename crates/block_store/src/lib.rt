@@ -12,6 +12,7 @@ pub mod memory;
 mod pieces;
 pub mod store;
 pub mod straying;
+mod turn;
 
 pub use disk::{Disk, DiskFault, Faithful, UNIT_LEN};
 pub use failing::FailingDisk;

@@ -1,8 +1,8 @@
 //! A disk of which one read finds other bytes than were written, for tests.
-ghost use Rattle.std.specs.Prelude.{◌≡◌, Some, IsTrue, ◌↔◌};
-ghost use Rattle.block_store.specs.Failing.{is_due, passes_after};
+ghost use Rattle.std.specs.Prelude.{◌≡◌, Some};
 
 use crate::disk::{Disk, DiskFault, Faithful};
+use crate::turn::Turn;
 use std::alloc::AllocError;
 
 /// A disk of which one `read` that succeeds gives the unit's bytes with one bit of the first turned.
@@ -10,8 +10,8 @@ use std::alloc::AllocError;
 #[derive(Drop)]
 pub struct StrayingDisk<D: Faithful> {
     disk: D,
-    // How many reads pass before the one that strays; none once it has strayed.
-    passes: Option<u64>,
+    // Of the read that strays.
+    turn: Turn,
 }
 
 impl<D: Faithful> StrayingDisk<D> {
@@ -19,36 +19,17 @@ impl<D: Faithful> StrayingDisk<D> {
     /// ones do.
     pub fn new(disk: D, passes: u64) -> StrayingDisk<D>
         ensures disk { result.disk ≡ disk }
-        ensures passes { result.passes ≡ Some passes }
+        ensures passes { result.turn.passes ≡ Some passes }
     {
         StrayingDisk {
             disk,
-            passes: Some(passes),
-        }
-    }
-
-    // Whether this is the read to stray.
-    fn strays(&mut self) -> bool
-        ensures disk { self.new.disk ≡ self.old.disk }
-        ensures passes { self.new.passes ≡ passes_after self.old.passes }
-        ensures due { result ≡ is_due self.old.passes }
-    {
-        match self.passes {
-            None => false,
-            Some(0) => {
-                self.passes = None;
-                true
-            }
-            Some(passes) => {
-                self.passes = Some(passes - 1);
-                false
-            }
+            turn: Turn::after(passes),
         }
     }
 }
 
 impl<D: Faithful> Disk for StrayingDisk<D> {
-    ghost use Rattle.block_store.specs.Failing.{own_count};
+    ghost use Rattle.block_store.specs.Turn.{own_count};
 
     ghost contents = { λ straying. D.contents straying.disk };
 
@@ -56,7 +37,7 @@ impl<D: Faithful> Disk for StrayingDisk<D> {
 
     ghost faults = { λ straying. D.faults straying.disk };
 
-    ghost strays = { λ straying. own_count straying.passes };
+    ghost strays = { λ straying. own_count straying.turn.passes };
 
     ghost whole = { λ straying. D.whole straying.disk };
 
@@ -66,7 +47,7 @@ impl<D: Faithful> Disk for StrayingDisk<D> {
 
     fn read(&mut self, unit: u64, out: &mut [u8; 512]) -> Result<(), DiskFault> {
         self.disk.read(unit, out)?;
-        if self.strays() {
+        if self.turn.comes() {
             out[0] ^= 1;
         }
         Ok(())

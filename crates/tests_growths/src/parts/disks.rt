@@ -1,4 +1,4 @@
-//! Disks in memory: one that gets none is refused, and one that was made takes no more.
+//! Disks in memory: one that gets none is refused, one takes memory where room is made, and after that no more.
 use block_store::{MemoryDisk, Store, UNIT_LEN};
 use std::alloc::{AllocError, Global};
 use std::test::Fail;
@@ -17,6 +17,7 @@ fn works(store: &mut Store<MemoryDisk>) -> bool {
 
 fn use_new(alloc: Global) -> Result<Outcome, AllocError> {
     let mut store = Store::new(MemoryDisk::new(alloc, 8)?);
+    store.make_room(6, 1)?;
     Ok(check(works(&mut store), "what a disk reads and writes"))
 }
 
