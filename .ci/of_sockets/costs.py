@@ -8,11 +8,17 @@ import time
 from .host import Queue, capsule, queues
 from .hosts import on_one_port
 from .kernel import ends, far_place, is_held
-from .served import Served, check, free_ports, one_disk
+from .served import NQN, Served, check, free_ports, one_disk
 from .unread import SMALL, ask_for_much, queues_of_many, until_nothing_moves
 
 # Hosts that take nothing are given up later.
 GIVEN_UP_AFTER = 29
+# What a disk in memory takes where it is first written: a piece, and its place in a table of such.
+PIECE = 64 << 10
+TABLE = 32 << 10
+# The most disks that there may be, each as large as `--units` lets it be, in units of 512 bytes.
+DISKS = 256
+UNITS = 1 << 20
 
 
 def idle_share(target):
@@ -149,9 +155,39 @@ def serve_many(io, rounds):
             io.pdu()
 
 
+def memory_is_taken_as_it_is_written(program):
+    [port] = free_ports(1)
+    began = time.monotonic()
+    with Served(program, many_disks(port), options=("--disks", str(DISKS), "--units", str(UNITS))) as target:
+        target.connect(port).close()
+        waited = time.monotonic() - began
+        check(waited < 1, f"it listens after {waited:.1f} seconds")
+        check(target.memory() < 300 << 20, f"it begins with {target.memory()} bytes")
+        _, io = queues(target, port)
+        check_takes(target, io, 0, PIECE + TABLE)
+        check_takes(target, io, PIECE // 512, PIECE)
+        check_takes(target, io, 8, 0)
+
+
+def many_disks(port):
+    """The edits of a target with a namespace on each of its disks."""
+    namespace = b"ns add %s %d %d %d 512 11111111-1111-4111-8111-%012d 1"
+    return [*one_disk(port)[:-1], *(namespace % (NQN, disk + 1, disk, UNITS, disk) for disk in range(DISKS))]
+
+
+def check_takes(target, io, block, most):
+    """A Write of 4 KiB to this block of each disk takes at most so many bytes of memory for each, and 1 MiB beside."""
+    before = target.memory()
+    for disk in range(DISKS):
+        io.write(block, b"x" * 4096, disk + 1)
+    taken = target.memory() - before
+    check(taken <= DISKS * most + (1 << 20), f"a Write of 4 KiB to each disk takes {taken} bytes")
+
+
 TESTS = [
     idle_hosts_cost_little,
     a_first_command_after_silence_is_answered_soon,
     unread_output_costs_little,
     memory_stays_the_same,
+    memory_is_taken_as_it_is_written,
 ]

@@ -99,10 +99,10 @@ class Queue:
     def reading(self, block, blocks):
         return io_command(2, self.next(), block, blocks)
 
-    def write(self, block, data):
+    def write(self, block, data, nsid=1):
         """Writes blocks, whose data goes in the capsule."""
         words = struct.pack("<QH", block, len(data) // 512 - 1)
-        entry = command(1, self.next(), 1, len(data), 1, words)
+        entry = command(1, self.next(), nsid, len(data), 1, words)
         check_equal("the status of a Write", self.answer(entry, data)[0], 0)
 
     def page(self, log, length):
