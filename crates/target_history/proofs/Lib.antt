@@ -6,10 +6,12 @@ pub mod Blocks
 pub mod Completing
 pub mod Counting
 pub mod Endings
+pub mod Given
 pub mod Heads
 pub mod Histories
 pub mod Holding
 pub mod Identifiers
+pub mod Lasting
 pub mod Lives
 pub mod Noticing
 pub mod Outliving
@@ -17,7 +19,9 @@ pub mod Owning
 pub mod Permissions
 pub mod Roles
 pub mod Serving
+pub mod Sizes
 pub mod Steps
+pub mod Syncing
 pub mod Tags
 pub mod Telling
 pub mod Terminations

@@ -3,6 +3,7 @@ pub mod EndCause
 pub mod Event
 pub mod History
 pub mod Identifiers
+pub mod Lasting
 pub mod Laws
 pub mod Noticing
 pub mod Occurrence

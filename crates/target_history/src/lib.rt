@@ -4,6 +4,7 @@
 #![tactic(auto)]
 
 mod end_cause;
+pub mod lasting_laws;
 pub mod laws;
 pub mod own_laws;
 
