@@ -1,0 +1,5 @@
+pub mod AnyStart
+pub mod Bytes
+pub mod Found
+pub mod Fronts
+pub mod Kept

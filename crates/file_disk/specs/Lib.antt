@@ -1,0 +1,4 @@
+pub mod Call
+pub mod Held
+pub mod Note
+pub mod Replay
