@@ -15,7 +15,7 @@ const REFUSED_FOLDER: &str = "file_disk_test_refused";
 const REFUSED_PATH: &str = "file_disk_test_refused/disk";
 
 fn open_disk(rt: &HostRuntime, path: &str) -> Result<FileDisk<HostFile, Unknown>, OpenError> {
-    open::<Unknown>(rt, path, 0)
+    open::<_, Unknown>(rt, path, 0)
 }
 
 // The text of the refusal.
