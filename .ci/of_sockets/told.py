@@ -24,8 +24,9 @@ UNREAD = 500
 
 
 def told(target):
-    """The lines so far, but for those of the listeners."""
-    return [line for line in target.err().split(b"\n")[:-1] if not line.startswith(b"listening on ")]
+    """The lines so far, but for those of the start: of the listeners, and of disks in memory."""
+    of_start = b"listening on ", b"disks in memory: "
+    return [line for line in target.err().split(b"\n")[:-1] if not line.startswith(of_start)]
 
 
 def check_told(target, wanted):

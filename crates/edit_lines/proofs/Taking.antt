@@ -6,12 +6,13 @@ use Rattle.config_lists.specs.declared.edit.Edit.{Edit}
 use Rattle.nvt_config.specs.Accept.{accept}
 use Rattle.nvt_config.specs.Configuration.{Configuration, are_disks, disks_alone}
 use Rattle.config_text.specs.EditLine.{IsLineOf}
-use Rattle.edit_lines.specs.Configured.{Configures, RefusesDisks, RefusesEdits, RefusesLine, RefusesLines, TransitionByLine, TransitionsByLines, zeroed}
+use Rattle.edit_lines.specs.Configured.{Configures, RefusesDisks, RefusesEdits, RefusesLine, RefusesLines, TransitionByLine, TransitionsByLines, sizes_of, zeroed}
 use Rattle.edit_lines.specs.Line.{Refuses}
 use Rattle.config_text.specs.Lines.{lines_of}
 use Rattle.edit_lines.specs.declared.fault.ReplayFault.{ReplayFault}
 use Rattle.edit_lines.specs.declared.fault.ReplayFault.TheVariants as fault
-use Rattle.target_core.specs.Target.{IsNewTarget, TargetState}
+use Rattle.target_core.specs.Target.{TargetState}
+use Rattle.target_history.specs.History.{Opening}
 
 -- where a line is left, it is the next
 pub record IsNext (all : List (List ℕ)) (n : ℕ) (line : List ℕ) (rest : List (List ℕ)) : Type 0 where
@@ -88,13 +89,13 @@ lines_refused fault.Memory edits units c new disks h = tt
 lines_refused fault.Io edits units c new disks h = absurd h
 lines_refused fault.Disks edits units c new disks h = absurd h
 
-lengths : (units : List ℕ) → map length (zeroed units) ≡ units
+lengths : (units : List ℕ) → sizes_of (zeroed units) ≡ units
 lengths [] = refl
 lengths (n ∷ units) = rw (length-replicate n zero_unit) (ap (λ (ns : List ℕ). n ∷ ns) (lengths units))
 
--- the configuration of a target over disks of zeros
-pub new_config : (units : List ℕ) (t : TargetState) → IsNewTarget (zeroed units) t → t.config ≡ disks_alone units
-new_config units t new = new.over.config ∙ ap disks_alone (lengths units)
+-- the sizes of disks that open with zeros
+pub sizes_zeroed : (units : List ℕ) (disks : Opening) → disks ≡ zeroed units → sizes_of disks ≡ units
+sizes_zeroed units disks zeros = ap sizes_of zeros ∙ lengths units
 
 TransitionsByLines-push : (lines : List (List ℕ)) (old mid new : TargetState) (line : List ℕ) → TransitionsByLines lines old mid → TransitionByLine line mid new
     → TransitionsByLines (lines ++ line ∷ []) old new

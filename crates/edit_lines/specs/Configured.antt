@@ -49,11 +49,19 @@ TransitionsByLines (line ∷ lines) old new = (next : TargetState) × Transition
 abbrev pub zeroed : List ℕ → Opening
 zeroed units = map (λ n. replicate n zero_unit) units
 
--- a target of these disks after the edits
-pub record IsConfigured (edits units : List ℕ) (t : TargetState) : Type 0 where
+-- the sizes of disks of these units
+abbrev pub sizes_of : Opening → List ℕ
+sizes_of disks = map length disks
+
+-- a target of disks that open with these units after the edits
+pub record IsConfiguredOver (edits : List ℕ) (disks : Opening) (t : TargetState) : Type 0 where
   pub first : TargetState
-  pub is_new : IsNewTarget (zeroed units) first
+  pub is_new : IsNewTarget disks first
   pub transition : TransitionsByLines (lines_of edits) first t
+
+-- .. of disks of zeros of these sizes
+abbrev pub IsConfigured : List ℕ → List ℕ → TargetState → Type 0
+IsConfigured edits units t = IsConfiguredOver edits (zeroed units) t
 
 -- what a fault says of lines of edits, which start from this configuration
 abbrev pub RefusesLines : ReplayFault → List (List ℕ) → Configuration → Type 0

@@ -1,20 +1,21 @@
 //! A target that the lines of a file configure.
 
-ghost use Rattle.std.specs.Prelude.{◌≡◌, IfErr, IfOk, OnOk, true};
+ghost use Rattle.std.specs.Prelude.{◌≡◌, Err, IfErr, IfOk, OnOk, map, true};
 ghost use Rattle.std.specs.Bool.{OnFalse};
 ghost use Rattle.nvt_config.specs.Configuration.{are_disks, disks_alone};
-ghost use Rattle.edit_lines.specs.Configured.{Configures, IsConfigured, RefusesDisks, RefusesEdits};
+ghost use Rattle.edit_lines.specs.Configured.{Configures, IsConfigured, IsConfiguredOver};
+ghost use Rattle.edit_lines.specs.Configured.{RefusesDisks, RefusesEdits};
 ghost use Rattle.edit_lines.specs.Configured.{RefusesLines, TakesLine, TransitionByLine};
-ghost use Rattle.edit_lines.specs.Configured.{TransitionsByLines, zeroed};
+ghost use Rattle.edit_lines.specs.Configured.{TransitionsByLines, sizes_of, zeroed};
 ghost use Rattle.config_text.specs.Lines.{lines_of};
 ghost use Rattle.target_core.specs.Target.{IsNewTarget};
 
 use crate::ReplayFault;
 use crate::disks::memory_disks;
 use crate::line::{NotMade, make_line};
-use block_store::MemoryDisk;
+use block_store::{Disk, MemoryDisk};
 use config_text::Lines;
-use nvt_config::are_disks;
+use nvt_config::{NewFault, are_disks};
 use std::alloc::Global;
 use target_core::Target;
 
@@ -33,32 +34,54 @@ pub fn configure(
     ensures configured { IfOk result (IsConfigured edits.now units.now) }
     ensures fault { IfErr result (λ fault. RefusesEdits fault edits.now units.now) }
 {
-    let mut target = over_zeros(alloc, units)?;
-    take_edits(alloc, &mut target, edits)?;
-    Ok(target)
-}
-
-// A target with a disk of zeros in memory, of each of these sizes.
-fn over_zeros(alloc: Global, units: &[u64]) -> Result<Target<MemoryDisk>, ReplayFault>
-    ensures ok { IfOk result (IsNewTarget (zeroed units.now)) }
-    ensures disks { OnOk result (are_disks units.now ≡ true) }
-    ensures refused { OnFalse (are_disks units.now) (result ≡ Err ReplayFault.Disks) }
-    ensures fault { IfErr result (λ fault. RefusesDisks fault units.now) }
-{
     if !are_disks(units) {
         return Err(ReplayFault::Disks);
     }
     let disks = memory_disks(alloc, units)?;
+    configure_over(alloc, edits, disks)
+}
+
+/// A target over these disks that the lines of edits configured. It answers as `configure` does.
+#[tactic(auto, using(crate::proofs::Taking::refused_disks))]
+pub fn configure_over<D: Disk + Drop>(
+    alloc: Global,
+    edits: &[u8],
+    disks: Vec<D>,
+) -> Result<Target<D>, ReplayFault>
+    ensures disks { OnOk result (are_disks (sizes_of (map D.contents disks.items)) ≡ true) }
+    ensures refused { OnFalse (are_disks (sizes_of (map D.contents disks.items)))
+        (result ≡ Err ReplayFault.Disks) }
+    ensures ok { IfOk result (λ target. Configures (lines_of edits.now)
+        (disks_alone (sizes_of (map D.contents disks.items))) target.config) }
+    ensures configured { IfOk result (IsConfiguredOver edits.now (map D.contents disks.items)) }
+    ensures fault { IfErr result (λ fault.
+        RefusesEdits fault edits.now (sizes_of (map D.contents disks.items))) }
+{
+    let mut target = new_target(alloc, disks)?;
+    take_edits(alloc, &mut target, edits)?;
+    Ok(target)
+}
+
+// A target over these disks.
+fn new_target<D: Disk + Drop>(alloc: Global, disks: Vec<D>) -> Result<Target<D>, ReplayFault>
+    ensures ok { IfOk result (IsNewTarget (map D.contents disks.items)) }
+    ensures disks { OnOk result (are_disks (sizes_of (map D.contents disks.items)) ≡ true) }
+    ensures refused { OnFalse (are_disks (sizes_of (map D.contents disks.items)))
+        (result ≡ Err ReplayFault.Disks) }
+    ensures fault { IfErr result (λ fault.
+        RefusesDisks fault (sizes_of (map D.contents disks.items))) }
+{
     match Target::new(alloc, disks) {
         Ok(target) => Ok(target),
-        Err(_) => Err(ReplayFault::Memory),
+        Err(NewFault::Disks) => Err(ReplayFault::Disks),
+        Err(NewFault::Memory) => Err(ReplayFault::Memory),
     }
 }
 
 // Applies the edits, up to the first line that is refused.
-fn take_edits(
+fn take_edits<D: Disk + Drop>(
     alloc: Global,
-    target: &mut Target<MemoryDisk>,
+    target: &mut Target<D>,
     edits: &[u8],
 ) -> Result<(), ReplayFault>
     ensures ok { OnOk result (Configures (lines_of edits.now) target.old.config target.new.config) }
@@ -75,9 +98,9 @@ fn take_edits(
 }
 
 // Applies one line of edits.
-fn take_edit(
+fn take_edit<D: Disk + Drop>(
     alloc: Global,
-    target: &mut Target<MemoryDisk>,
+    target: &mut Target<D>,
     number: usize,
     line: &[u8],
 ) -> Result<(), ReplayFault>

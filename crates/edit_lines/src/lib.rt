@@ -14,7 +14,7 @@ pub mod stream_line;
 pub mod writes;
 
 pub use checked::configuration;
-pub use configured::configure;
+pub use configured::{configure, configure_over};
 pub use fault::ReplayFault;
 pub use line::{NotMade, make_line};
 pub use print::{Printer, written};

@@ -1,14 +1,12 @@
 //! The arguments of the program.
 
 use crate::command_line;
-use crate::command_line::DISKS_MAX;
+use crate::disks::{each_disk, memory_sizes};
 use clap::ArgMatches;
-use program_words::{ArgumentsRefusal, number, numbers_of, parsed, refusal_of, take_words};
+use program_words::{ArgumentsRefusal, number, parsed, refusal_of, take_words};
 use std::alloc::{AllocError, Global};
 use std::rt::Env;
-use target_programs::{
-    CheckArguments, DiskArguments, ReplayArguments, ReplayFault, ServeArguments,
-};
+use target_programs::{CheckArguments, ReplayArguments, ReplayFault, ServeArguments};
 
 /// What the arguments ask for.
 #[derive(Drop)]
@@ -64,7 +62,7 @@ fn replay_usage(alloc: Global, replay: &ArgMatches<'_>) -> Result<Usage, ReplayF
     match (
         replay.get_str("EDITS"),
         replay.get_str("STREAM"),
-        disk_arguments(alloc, replay)?,
+        memory_sizes(alloc, replay)?,
     ) {
         (Some(edits), Some(stream), Some(disks)) => Ok(Usage::Replay(ReplayArguments {
             edits: String::from_str(alloc, edits)?,
@@ -81,7 +79,7 @@ fn serve_usage(alloc: Global, run: &ArgMatches<'_>) -> Result<Usage, ReplayFault
         run.get_str("EDITS"),
         port(run, "control"),
         number(run, "turns"),
-        disk_arguments(alloc, run)?,
+        each_disk(alloc, run)?,
     ) {
         (Some(edits), Some(control), Some(turns), Some(disks)) => Ok(Usage::Serve(
             ServeArguments {
@@ -97,7 +95,7 @@ fn serve_usage(alloc: Global, run: &ArgMatches<'_>) -> Result<Usage, ReplayFault
 }
 
 fn check_usage(alloc: Global, check: &ArgMatches<'_>) -> Result<Usage, ReplayFault> {
-    match (check.get_str("EDITS"), disk_arguments(alloc, check)?) {
+    match (check.get_str("EDITS"), each_disk(alloc, check)?) {
         (Some(edits), Some(disks)) => Ok(Usage::Check(CheckArguments {
             edits: String::from_str(alloc, edits)?,
             disks,
@@ -108,32 +106,4 @@ fn check_usage(alloc: Global, check: &ArgMatches<'_>) -> Result<Usage, ReplayFau
 
 fn port(matches: &ArgMatches<'_>, name: &str) -> Option<u16> {
     u16::try_from(number(matches, name)?).ok()
-}
-
-// A disk of each size that `--memory` gives, else as many of one size as `--disks` and `--units` say.
-fn disk_arguments(
-    alloc: Global,
-    matches: &ArgMatches<'_>,
-) -> Result<Option<DiskArguments>, AllocError> {
-    match matches.get_strs("memory") {
-        Some(words) => of_sizes(alloc, words),
-        None => Ok(of_one_size(matches)),
-    }
-}
-
-fn of_sizes(alloc: Global, words: &[&str]) -> Result<Option<DiskArguments>, AllocError> {
-    if words.len() > DISKS_MAX as usize {
-        return Ok(None);
-    }
-    match numbers_of(alloc, words)? {
-        Some(sizes) => Ok(Some(DiskArguments::Sizes(sizes))),
-        None => Ok(None),
-    }
-}
-
-fn of_one_size(matches: &ArgMatches<'_>) -> Option<DiskArguments> {
-    Some(DiskArguments::OneSize {
-        disks: usize::try_from(number(matches, "disks")?).ok()?,
-        units: number(matches, "units")?,
-    })
 }

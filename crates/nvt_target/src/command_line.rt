@@ -17,6 +17,8 @@ const CONTROL_HELP: &str = "The TCP port for lines of edits, at 127.0.0.1";
 const EXPLAIN_HELP: &str =
     "Prints behind each PDU what it is, in words, after ` # `, and in words what hosts send";
 
+const FILE_HELP: &str = "A file or block device that is a disk; once for each, also among --memory";
+
 const MEMORY_HELP: &str =
     "The size of one disk in units, 1 to 2147483648; once for each, in place of --disks and --units";
 
@@ -54,7 +56,7 @@ fn run<'a>(alloc: Global) -> Result<Command<'a>, AllocError> {
     let control = port_option(alloc, "control", CONTROL_HELP);
     let command = with(command, control);
     let command = with(command, turns(alloc, TURNS_HELP));
-    let command = with_disks(alloc, command);
+    let command = with_files(alloc, with_disks(alloc, command));
     with(command, flag(alloc, "quiet", QUIET_HELP))
 }
 
@@ -63,10 +65,10 @@ fn check<'a>(alloc: Global) -> Result<Command<'a>, AllocError> {
         .about("Applies the lines of EDITS to disks alone, and serves nothing")
         .after_help(CHECK_HELP)
         .arg(file(alloc, "EDITS", "A file of one edit a line"));
-    with_disks(alloc, command)
+    with_files(alloc, with_disks(alloc, command))
 }
 
-// The options that say which disks there are.
+// The options that say which disks in memory there are.
 fn with_disks<'a>(
     alloc: Global,
     command: Result<Command<'a>, AllocError>,
@@ -74,6 +76,14 @@ fn with_disks<'a>(
     let command = with(command, disks(alloc));
     let command = with(command, units(alloc));
     with(command, memory(alloc)?)
+}
+
+// .. and which in files.
+fn with_files<'a>(
+    alloc: Global,
+    command: Result<Command<'a>, AllocError>,
+) -> Result<Command<'a>, AllocError> {
+    with(command, disk_file(alloc)?)
 }
 
 fn file<'a>(alloc: Global, name: &'a str, help: &'a str) -> Arg<'a> {
@@ -99,12 +109,27 @@ fn units<'a>(alloc: Global) -> Arg<'a> {
 
 // A disk of its own size, each time that it is given.
 fn memory<'a>(alloc: Global) -> Result<Arg<'a>, AllocError> {
-    Arg::new(alloc, "memory")
-        .long("memory")
-        .value_name("units")
+    let numbers = value_parser!(u64).range(1..=MEMORY_UNITS_MAX);
+    each(alloc, "memory", "units", MEMORY_HELP).map(|arg| arg.value_parser(numbers))
+}
+
+// A disk in a file, each time that it is given.
+fn disk_file<'a>(alloc: Global) -> Result<Arg<'a>, AllocError> {
+    each(alloc, "file", "path", FILE_HELP)
+}
+
+// One of the disks, in the place of those of one size.
+fn each<'a>(
+    alloc: Global,
+    name: &'a str,
+    value: &'a str,
+    help: &'a str,
+) -> Result<Arg<'a>, AllocError> {
+    Arg::new(alloc, name)
+        .long(name)
+        .value_name(value)
         .action(ArgAction::Append)
-        .value_parser(value_parser!(u64).range(1..=MEMORY_UNITS_MAX))
-        .help(MEMORY_HELP)
+        .help(help)
         .conflicts_with("disks")?
         .conflicts_with("units")
 }

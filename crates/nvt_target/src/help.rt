@@ -75,8 +75,10 @@ pub const RUN_HELP: &str =
     "EDITS has one edit a line; `nvt_target help replay` lists them, and the replies to them. A line that
 is refused ends the program before it listens to anything.
 
-Disks are in memory, of zeros at first. They are of one size, as many as --disks says; or --memory
-is given once for each, up to 256 times, and the first of them is disk 0.
+Disks are in memory, of zeros at first, and what is written to them is lost at the end. They are of
+one size, as many as --disks says; or there is one for each --memory and --file, up to 256, and the
+first of these is disk 0. A --file is a regular file or a block device that is there, of whole units
+of 512 bytes. What is written to it stays, and it is locked against a second target.
 
 Hosts connect to the address of each port of the edits. At 127.0.0.1, on the control port, any
 local user can send further edits, one a line; each is answered by a line, `ok` or why it is
@@ -123,8 +125,9 @@ applied, in their order, to the configuration of these disks and nothing else, a
 1, and on standard error the first line that is refused is named with its reply, as these do it:
   error: line 17: refused Exists Port
 
-Disks are of one size, as many as --disks says; or --memory is given once for each, up to 256 times,
-and the first of them is disk 0. No disk is made, no port is opened, and no host is served.
+Disks are of one size, as many as --disks says; or there is one for each --memory and --file, up to
+256, and the first of these is disk 0. Of a file only its size is asked, and it is not locked. No
+disk is made, no port is opened, and no host is served.
 
 Example:
   printf 'port add 1 ipv4 127.0.0.1 4420\\n' > EDITS

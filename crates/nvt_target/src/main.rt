@@ -6,11 +6,13 @@
 
 mod arguments;
 mod command_line;
+mod disks;
 mod help;
 
 use arguments::Usage;
+use std::fmt::Display;
 use std::process::ExitCode;
-use target_programs::{ReplayFault, check, exit_status, replaying, serving};
+use target_programs::{check, exit_status, replaying, serving};
 
 const BAD_ARGUMENTS: u8 = 2;
 
@@ -28,8 +30,8 @@ fn main(rt: HostRuntime) -> ExitCode {
     }
 }
 
-fn finish(rt: &impl Eprint, outcome: Result<(), ReplayFault>) -> ExitCode {
-    if let Err(fault) = outcome {
+fn finish<E: Display + Drop>(rt: &impl Eprint, outcome: Result<(), E>) -> ExitCode {
+    if let Err(fault) = &outcome {
         let _ = eprintln!(rt; "error: {fault}");
     }
     ExitCode::from(exit_status(outcome))

@@ -1,3 +1,4 @@
 pub mod Disks
 pub mod Explained
+pub mod ServedDisk
 pub mod Status

@@ -5,18 +5,21 @@
 
 mod check_arguments;
 mod checking;
+mod command_fault;
 mod disks;
 mod explained;
 mod files;
 mod replay_arguments;
 pub mod replaying;
 mod serve_arguments;
+mod served_disk;
 pub mod serving;
 mod status;
 
 pub use check_arguments::CheckArguments;
 pub use checking::check;
-pub use disks::{DiskArguments, disk_sizes};
+pub use command_fault::CommandFault;
+pub use disks::DiskArgument;
 pub use edit_lines::ReplayFault;
 pub use files::{read_file, read_file_into};
 pub use replay_arguments::ReplayArguments;

@@ -1,7 +1,5 @@
 //! What the arguments of `replay` ask for.
 
-use crate::disks::DiskArguments;
-
 /// What the arguments of `replay` ask for.
 #[derive(Drop)]
 pub struct ReplayArguments {
@@ -9,7 +7,8 @@ pub struct ReplayArguments {
     pub edits: String,
     /// The path of the script of connections.
     pub stream: String,
-    pub disks: DiskArguments,
+    /// The size of each disk in memory, in units of 512 bytes.
+    pub disks: Vec<u64>,
     /// Whether words are printed behind each PDU.
     pub explain: bool,
 }

@@ -1,6 +1,6 @@
 //! The command `replay`, from its files to the standard output.
 
-use crate::{ReplayArguments, disk_sizes, explained, read_file};
+use crate::{ReplayArguments, explained, read_file};
 use nvt_replay::{ReplayFault, replay, written};
 use std::alloc::Global;
 use std::io::{self, BufWriter, Write};
@@ -14,11 +14,10 @@ pub fn run<R: Files + Print + AllocGlobal>(
     arguments: &ReplayArguments,
 ) -> Result<(), ReplayFault> {
     let alloc = rt.alloc();
-    let units = disk_sizes(alloc, &arguments.disks)?;
     let edits = read_file(rt, alloc, arguments.edits.as_str())?;
     let stream = read_file(rt, alloc, arguments.stream.as_str());
     match BufWriter::with_capacity(alloc, OUTPUT_BUFFER, io::writer(rt)) {
-        Ok(mut out) => replay_flushed(alloc, arguments, &edits, stream, &units, &mut out),
+        Ok(mut out) => replay_flushed(alloc, arguments, &edits, stream, &mut out),
         Err(_) => Err(ReplayFault::Memory),
     }
 }
@@ -29,10 +28,9 @@ fn replay_flushed<W: Write>(
     arguments: &ReplayArguments,
     edits: &[u8],
     stream: Result<Vec<u8>, ReplayFault>,
-    units: &[u64],
     out: &mut W,
 ) -> Result<(), ReplayFault> {
-    let result = replay_script(alloc, arguments, edits, stream, units, out);
+    let result = replay_script(alloc, arguments, edits, stream, out);
     written(out.flush())?;
     result
 }
@@ -43,9 +41,9 @@ fn replay_script<W: Write>(
     arguments: &ReplayArguments,
     edits: &[u8],
     stream: Result<Vec<u8>, ReplayFault>,
-    units: &[u64],
     out: &mut W,
 ) -> Result<(), ReplayFault> {
+    let units = arguments.disks.as_slice();
     match stream {
         Ok(stream) if arguments.explain => explained::replay(alloc, edits, &stream, units, out),
         Ok(stream) => replay(alloc, edits, &stream, units, out),

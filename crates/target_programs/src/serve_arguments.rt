@@ -1,6 +1,6 @@
 //! What the arguments of `run` ask for.
 
-use crate::disks::DiskArguments;
+use crate::disks::DiskArgument;
 
 /// What the arguments of `run` ask for.
 #[derive(Drop)]
@@ -11,7 +11,7 @@ pub struct ServeArguments {
     pub control: u16,
     /// How many turns the target is served.
     pub turns: u64,
-    pub disks: DiskArguments,
+    pub disks: Vec<DiskArgument>,
     /// Whether nothing is told of who connects and what is edited.
     pub quiet: bool,
 }

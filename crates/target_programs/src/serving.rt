@@ -1,10 +1,12 @@
 //! The command `run`, from its file to the sockets.
 
-use crate::{ReplayFault, ServeArguments, disk_sizes, read_file_into};
-use block_store::MemoryDisk;
-use edit_lines::configure;
+use crate::disks::{DiskArgument, OpenedDisk, opened_disks};
+use crate::{CommandFault, ServeArguments, read_file_into};
+use edit_lines::{ReplayFault, configure_over};
+use file_disk::{Start, Unknown};
 use nvt_serve::serve;
 use nvt_sockets::{Log, SocketPorts, Tcp};
+use std::fs::File;
 use std::io::{Error, ErrorKind};
 use std::net::Net;
 use std::rt::{Clock, Files};
@@ -14,11 +16,21 @@ use target_core::Target;
 const ROOM: usize = 1 << 24;
 
 /// Serves a target over sockets, as the arguments ask for.
-pub fn run<R: Files + Net + Clock + Print + Eprint + AllocGlobal>(
+pub fn run<R: Files<File = File> + Net + Clock + Print + Eprint + AllocGlobal>(
     rt: &R,
     arguments: &ServeArguments,
-) -> Result<(), ReplayFault> {
-    let mut target = configured(rt, arguments)?;
+) -> Result<(), CommandFault> {
+    serve_over(rt, arguments, Unknown)
+}
+
+// What the files hold that disks are in is whatever `S` says.
+fn serve_over<R: Files<File = File> + Net + Clock + Print + Eprint + AllocGlobal, S: Start>(
+    rt: &R,
+    arguments: &ServeArguments,
+    _start: S,
+) -> Result<(), CommandFault> {
+    let mut target = configured::<R, S>(rt, arguments)?;
+    warn(rt, arguments);
     let ports = match Tcp::new(rt) {
         Ok(network) => SocketPorts::open(
             network,
@@ -38,6 +50,14 @@ pub fn run<R: Files + Net + Clock + Print + Eprint + AllocGlobal>(
     }
 }
 
+// Says once that what hosts write to disks in memory does not last.
+fn warn<R: Eprint>(rt: &R, arguments: &ServeArguments) {
+    let is_in_memory = |disk: &DiskArgument| matches!(disk, DiskArgument::Memory(_));
+    if !arguments.quiet && arguments.disks.iter().any(is_in_memory) {
+        let _ = eprintln!(rt; "disks in memory: what is written to them is lost at the end");
+    }
+}
+
 fn log_of(arguments: &ServeArguments) -> Log {
     if arguments.quiet {
         Log::Quiet
@@ -51,7 +71,7 @@ fn finish<R: Net + Clock + Eprint>(
     rt: &R,
     ports: &mut SocketPorts<Tcp<&R>>,
     arguments: &ServeArguments,
-) -> Result<(), ReplayFault> {
+) -> Result<(), CommandFault> {
     let given_up = match ports.finish() {
         Ok(given_up) => given_up,
         Err(error) => return Err(fault_of(&error)),
@@ -72,20 +92,20 @@ fn finish<R: Net + Clock + Eprint>(
 // The target that the file of edits configures. The room of the file is freed before hosts come: since it was that
 // large, the C library's allocator keeps what is freed from then on, and the data of each command that waits for them
 // cost no new pages of the system.
-fn configured<R: Files + AllocGlobal>(
+fn configured<R: Files<File = File> + AllocGlobal, S: Start>(
     rt: &R,
     arguments: &ServeArguments,
-) -> Result<Target<MemoryDisk>, ReplayFault> {
+) -> Result<Target<OpenedDisk<S>>, CommandFault> {
     let alloc = rt.alloc();
-    let sizes = disk_sizes(alloc, &arguments.disks)?;
     let room = Vec::with_capacity(alloc, ROOM)?;
     let edits = read_file_into(rt, room, arguments.edits.as_str())?;
-    configure(alloc, &edits, &sizes)
+    let disks = opened_disks(rt, &arguments.disks)?;
+    Ok(configure_over(alloc, &edits, disks)?)
 }
 
-fn fault_of(error: &Error) -> ReplayFault {
-    match error.kind() {
+fn fault_of(error: &Error) -> CommandFault {
+    CommandFault::Replay(match error.kind() {
         ErrorKind::OutOfMemory => ReplayFault::Memory,
         _ => ReplayFault::Io,
-    }
+    })
 }

@@ -3,14 +3,12 @@
 ghost use Rattle.std.specs.Prelude.{◌≡◌};
 ghost use Rattle.target_programs.specs.Status.{status_of};
 
-use edit_lines::ReplayFault;
-
 const DONE: u8 = 0;
 
 const FAULT: u8 = 1;
 
 /// The exit status of a command that ended so.
-pub fn exit_status(outcome: Result<(), ReplayFault>) -> u8
+pub fn exit_status<E: Drop>(outcome: Result<(), E>) -> u8
     ensures { result ≡ status_of outcome }
 {
     match outcome {

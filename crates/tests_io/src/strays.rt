@@ -74,10 +74,7 @@ impl Script<StrayingDisk<MemoryDisk>> for Stray {
 }
 
 // A disk of 32 units of which the read strays that comes when so many have passed.
-fn straying_disk(
-    alloc: Global,
-    passes: u64,
-) -> Result<Vec<StrayingDisk<MemoryDisk>>, AllocError> {
+fn straying_disk(alloc: Global, passes: u64) -> Result<Vec<StrayingDisk<MemoryDisk>>, AllocError> {
     let mut disks = Vec::new(alloc);
     disks.push(StrayingDisk::new(MemoryDisk::new(alloc, 32)?, passes))?;
     Ok(disks)

@@ -1,0 +1,8 @@
+use Rattle.target_programs.specs.Disks.{HasSize}
+use Rattle.target_programs.proofs.Each.{each_next}
+use Rattle.target_programs.proofs.disks.disk_sizes.Goals as goal
+
+pub loop-disk-preserved : goal.loop-disk-preserved
+loop-disk-preserved g c =
+    rw c.in-Ok.ensures.items (each_next HasSize c.args.disks.now c.loop-disk.disk-index c.disk-item.result c.loop-disk.sizes.items c.in_ok-size.size
+    c.loop-disk-test.true c.disk-item.is c.loop-disk.invariant c.in_ok-size.ensures)
