@@ -6,14 +6,13 @@
 pub mod calls;
 pub mod disk;
 pub mod host;
+pub mod laws;
 pub mod memory;
 pub mod opening;
 mod ranges;
 mod record;
 mod replayed;
 pub mod start;
-#[cfg(test)]
-mod tests;
 
 pub use calls::FileCalls;
 pub use disk::FileDisk;

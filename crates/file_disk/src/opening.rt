@@ -43,7 +43,7 @@ pub enum OpenError {
 }
 
 /// The units of so many bytes.
-pub(crate) fn units_in(bytes: u64) -> Result<u64, OpenError>
+fn units_in(bytes: u64) -> Result<u64, OpenError>
     ensures units { IfOk result (λ units. (units * 512 ≡ bytes) × (0 < units) × (units ≤ 2 ^ 40)) }
     ensures empty { IsErrOf result OpenError.Empty ↔ (bytes ≡ 0) }
     ensures part { IsErrOf result (OpenError.PartOfUnit bytes) ↔ (bytes % 512 ≢ 0) }

@@ -8,8 +8,9 @@ pub trait Start: Drop {
     ghost held: { ℕ → ℕ → ℕ };
 }
 
-/// For `main` to name: at this type a clause on what a file has says nothing of one that held other
-/// bytes than zeros.
+/// For `main` to name. At this type itself a clause on what a file has says nothing of one that held
+/// other bytes than zeros; what is proved over any `S: Start` holds whatever files held, since the bound
+/// asks nothing of it (`any_held` in proofs/AnyStart.antt).
 #[derive(Drop)]
 pub struct Unknown;
 

@@ -1,5 +1,6 @@
-//! Tests of the foundations, through their public calls: a table of numbers, and disks that fail, that
-//! stray and that take their memory in pieces. Memory that is refused is tested in `tests_growths`.
+//! Tests of the foundations, through their public calls: a table of numbers, disks that fail, that stray
+//! and that take their memory in pieces, and disks in files. Memory that is refused is tested in
+//! `tests_growths`.
 #![tactic(auto)]
 
 #[cfg(test)]
@@ -8,6 +9,8 @@ mod checked;
 mod counts;
 #[cfg(test)]
 mod faults;
+#[cfg(test)]
+mod files;
 #[cfg(test)]
 mod pieces;
 #[cfg(test)]

@@ -1,7 +1,7 @@
 //! Calls that come short, and calls that are not made.
 use super::checked::{LEN, has, in_file, read, start, write, zero};
-use crate::{Answer, FileDisk, MemoryFile, Unknown};
 use block_store::{Disk, UNIT_LEN};
+use file_disk::{Answer, FileDisk, MemoryFile, Unknown};
 use std::test::Fail;
 
 #[test]

@@ -2,8 +2,8 @@
 ghost use Rattle.std.specs.Prelude.{◌≡◌, ◌+◌, ◌%◌, ◌/◌, ◌^◌, ◌<◌, ◌≤◌, [], length, map, IsTrue};
 ghost use Rattle.file_disk.specs.Note.{call_of};
 
-use crate::{Answer, FileDisk, MemoryFile, Unknown};
 use block_store::{Disk, DiskFault, UNIT_LEN};
+use file_disk::{Answer, FileDisk, MemoryFile, Unknown};
 use std::alloc::Global;
 use std::test::Fail;
 

@@ -1,8 +1,7 @@
 //! Disks in files of the system.
 use super::checked::{has, read, write};
-use crate::opening::units_in;
-use crate::{FileDisk, HostFile, OpenError, Unknown, measure, open};
 use block_store::{Disk, UNIT_LEN};
+use file_disk::{FileDisk, HostFile, OpenError, Unknown, measure, open};
 use std::fs;
 use std::test::Fail;
 
@@ -82,16 +81,11 @@ fn what_is_no_disk_is_refused(rt: HostRuntime) -> Result<(), Fail> {
 }
 
 #[test]
-fn a_disk_has_units_up_to_512_tib(rt: HostRuntime) -> Result<(), Fail> {
-    assert!(rt; matches!(units_in(562_949_953_421_312), Ok(1_099_511_627_776)));
-    match units_in(562_949_953_421_824) {
-        Ok(_) => Err(Fail::new("so many units")),
-        Err(error) => {
-            assert_eq!(rt;
-                format!(in rt.alloc(); "{error}")?.as_str(),
-                "a disk has at most 1099511627776 units of 512 bytes: this has 1099511627777"
-            );
-            Ok(())
-        }
-    }
+fn a_disk_that_is_too_long_says_so(rt: HostRuntime) -> Result<(), Fail> {
+    let error = OpenError::TooLong(1_099_511_627_777);
+    assert_eq!(rt;
+        format!(in rt.alloc(); "{error}")?.as_str(),
+        "a disk has at most 1099511627776 units of 512 bytes: this has 1099511627777"
+    );
+    Ok(())
 }

@@ -1,7 +1,7 @@
 //! Calls that fail.
 use super::checked::{LEN, TestDisk, has, read, start, write, zero};
-use crate::{Answer, FileDisk, MemoryFile, Unknown};
 use block_store::{Disk, UNIT_LEN};
+use file_disk::{Answer, FileDisk, MemoryFile, Unknown};
 use std::test::Fail;
 
 // Whether each call is a fault, and none is made of the system.
