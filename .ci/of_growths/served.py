@@ -1,6 +1,7 @@
 """The programs over sockets: the commands of nvt_host against a served target, and a served target with hosts."""
 
 import contextlib
+import tempfile
 import threading
 
 from of_sockets.host import DISCOVERY, Queue, queues
@@ -73,14 +74,14 @@ def change_on(stops, editor):
 
 
 class ServedRun:
-    """A target that is served with one growth refused, and how a session with it went."""
+    """A target that is served over these disks with one growth refused, and how a session with it went."""
 
-    def __init__(self, shim, program, refused):
+    def __init__(self, shim, program, disks, refused):
         self.fault = self.why = None
         [port] = free_ports(1)
         with shim.counts() as counts:
             environment = shim.environment(counts, refused)
-            with Served(program, one_disk(port), options=("--disks", "1"), environment=environment) as target:
+            with Served(program, one_disk(port), options=disks, environment=environment) as target:
                 self.go_on(target, port)
                 self.status, self.err = target.process.poll(), target.err()
             self.growths, self.refused = counted(counts)
@@ -126,12 +127,13 @@ class Serving(Case):
 
     name = "served target"
     may_differ = True
+    disks = "--disks", "1"
 
     def __init__(self, program):
         self.program = program
 
     def run(self, shim, refused):
-        return ServedRun(shim, self.program, refused)
+        return ServedRun(shim, self.program, self.disks, refused)
 
     def fault_of(self, run, _ample):
         if run.status is not None:
@@ -142,3 +144,14 @@ class Serving(Case):
         if not run.refused and (run.why or run.growths == 0):
             return "the session is not served with ample memory, or no growth is counted"
         return None
+
+
+class ServingFile(Serving):
+    """.. of which a disk is in a file, and one in memory."""
+
+    name = "served target, its disk in a file"
+
+    def run(self, shim, refused):
+        with tempfile.NamedTemporaryFile(prefix="disk-", dir=shim.folder) as file:
+            file.truncate(1 << 20)
+            return ServedRun(shim, self.program, ("--file", file.name, "--memory", "8"), refused)

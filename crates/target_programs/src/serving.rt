@@ -30,7 +30,6 @@ fn serve_over<R: Files<File = File> + Net + Clock + Print + Eprint + AllocGlobal
     _start: S,
 ) -> Result<(), CommandFault> {
     let mut target = configured::<R, S>(rt, arguments)?;
-    warn(rt, arguments);
     let ports = match Tcp::new(rt) {
         Ok(network) => SocketPorts::open(
             network,
@@ -43,6 +42,7 @@ fn serve_over<R: Files<File = File> + Net + Clock + Print + Eprint + AllocGlobal
     };
     match ports {
         Ok(mut ports) => {
+            warn(rt, arguments);
             serve(&mut ports, &mut target, arguments.turns);
             finish(rt, &mut ports, arguments)
         }
