@@ -110,7 +110,7 @@ fn units<'a>(alloc: Global) -> Arg<'a> {
 // A disk of its own size, each time that it is given.
 fn memory<'a>(alloc: Global) -> Result<Arg<'a>, AllocError> {
     let numbers = value_parser!(u64).range(1..=MEMORY_UNITS_MAX);
-    each(alloc, "memory", "units", MEMORY_HELP).map(|arg| arg.value_parser(numbers))
+    Ok(each(alloc, "memory", "units", MEMORY_HELP)?.value_parser(numbers))
 }
 
 // A disk in a file, each time that it is given.

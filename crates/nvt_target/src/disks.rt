@@ -55,25 +55,32 @@ fn in_order(
         return Ok(None);
     };
     let paths = matches.get_strs("file").unwrap_or_default();
-    if sizes.len().saturating_add(paths.len()) > DISKS_MAX as usize {
+    let count = sizes.len().saturating_add(paths.len());
+    if count > DISKS_MAX as usize {
         return Ok(None);
     }
-    let (memory, files) = (places(matches, "memory"), places(matches, "file"));
-    let mut sizes = memory.iter().zip(sizes).peekable();
     let mut disks = Vec::new(alloc);
-    for (place, path) in files.iter().zip(paths) {
-        while let Some((_, units)) = sizes.next_if(|(other, _)| *other < place) {
-            disks.push(DiskArgument::Memory(units))?;
+    // How many of either kind are there already.
+    let (mut memory, mut files) = (0usize, 0usize);
+    for _ in 0..count {
+        let is_file = place(matches, "file", files) < place(matches, "memory", memory);
+        match (is_file, sizes.get(memory), paths.get(files)) {
+            (true, _, Some(path)) => {
+                disks.push(DiskArgument::File(String::from_str(alloc, path)?))?;
+                files = files.saturating_add(1);
+            }
+            (false, Some(units), _) => {
+                disks.push(DiskArgument::Memory(*units))?;
+                memory = memory.saturating_add(1);
+            }
+            _ => {}
         }
-        disks.push(DiskArgument::File(String::from_str(alloc, path)?))?;
-    }
-    for (_, units) in sizes {
-        disks.push(DiskArgument::Memory(units))?;
     }
     Ok(Some(disks))
 }
 
-// The places of an option's values among the words.
-fn places<'m>(matches: &'m ArgMatches<'_>, name: &str) -> &'m [usize] {
-    matches.indices_of(name).unwrap_or_default()
+// The place among the words of an option's value of this number, behind all others where there is none.
+fn place(matches: &ArgMatches<'_>, name: &str, number: usize) -> usize {
+    let places = matches.indices_of(name).unwrap_or_default();
+    places.get(number).copied().unwrap_or(usize::MAX)
 }

@@ -4,7 +4,7 @@ use block_store::{MemoryDisk, StrayingDisk};
 use std::alloc::{AllocError, Global};
 use testkit_tables::{Outcome, Placed, check, pass};
 use testkit_targets::queues::{
-    COMPARE_FAILURE, Command, Driver, Opcode, SUCCESS, Script, holds_over, part,
+    COMPARE_FAILURE, Command, Driver, Opcode, SUCCESS, Script, holds_over, part, put,
 };
 
 type StrayingDriver = Driver<StrayingDisk<MemoryDisk>>;
@@ -41,7 +41,7 @@ impl Stray {
 
 fn written() -> [u8; LEN] {
     let mut bytes = [0; LEN];
-    bytes.copy_from_slice(part(&before(), 512, LEN));
+    put(&mut bytes, 0, part(&before(), 512, LEN));
     bytes
 }
 
