@@ -18,6 +18,7 @@ WORKED = [
     b"host 2: " + b"0" * 1024,
     b"host 1: ok",
     b"target: listening on 127.0.0.1:PORT, control",
+    b"target: disks in memory: what is written to them is lost at the end",
     b'target: edit "port add 1 ipv4 127.0.0.1 PORT": ok',
     b"target: listening on 127.0.0.1:PORT, port 1",
     b'target: edit "subsys add nqn.2026-01.test:a SN-A closed": ok',

@@ -19,14 +19,15 @@ FLOOD = 1000
 LINES_EACH = 2
 LINES_A_SECOND = 100
 LEFT_OUT = rb"lines left out: (\d+)"
+# How the lines of the start begin: of the listeners, and of disks in memory.
+OF_START = b"listening on ", b"disks in memory: "
 # Lines of 4 KiB that nobody reads: more than a pipe and the program hold.
 UNREAD = 500
 
 
 def told(target):
-    """The lines so far, but for those of the start: of the listeners, and of disks in memory."""
-    of_start = b"listening on ", b"disks in memory: "
-    return [line for line in target.err().split(b"\n")[:-1] if not line.startswith(of_start)]
+    """The lines so far, but for those of the start."""
+    return [line for line in target.err().split(b"\n")[:-1] if not line.startswith(OF_START)]
 
 
 def check_told(target, wanted):
@@ -263,7 +264,7 @@ def what_found_no_room_is_counted(program):
                     time.sleep(0.6)
             held = taken(reads)
             check_equal("one more", editor.edit(b"port del 9"), b"refused NoSuch Port")
-            lines = [line for line in (held + taken(reads)).split(b"\n")[:-1] if not line.startswith(b"listening on ")]
+            lines = [line for line in (held + taken(reads)).split(b"\n")[:-1] if not line.startswith(OF_START)]
     counts = [int(found[1]) for line in lines if (found := re.fullmatch(LEFT_OUT, line))]
     check(counts, "none was left out")
     check_equal("lines, with those left out", len(lines) - len(counts) + sum(counts), UNREAD + 1)
