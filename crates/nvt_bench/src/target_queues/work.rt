@@ -20,10 +20,12 @@ const HEADER_LEN: usize = 24;
 // The first block of all that is read or written.
 const FIRST: u16 = 4;
 
+const BLOCK_COUNT: u16 = 64;
+
 const BLOCKS: Blocks = Blocks {
     nsid: 2,
     disk: 0,
-    blocks: 64,
+    blocks: BLOCK_COUNT as u64,
     block_size: 4096,
     uuid: 0x22,
     group: 1,
@@ -131,9 +133,19 @@ struct Times {
     times: u32,
 }
 
+// Writes each block, since a disk in memory reads without a copy what was never written.
+fn fills(driver: &mut Driver<MemoryDisk>) -> bool {
+    let mut each = true;
+    for block in 0..BLOCK_COUNT {
+        let write = Command::of(Opcode::Write, 2, block, 1);
+        each &= driver.writes(0, &write, &[0x5A; BLOCK_LEN]);
+    }
+    each
+}
+
 impl Script<MemoryDisk> for Times {
     fn holds(&self, driver: &mut Driver<MemoryDisk>) -> Outcome {
-        let mut each = driver.begin(&[BLOCKS]);
+        let mut each = driver.begin(&[BLOCKS]) && fills(driver);
         for _ in 0..self.times {
             for exchange in &self.exchanges {
                 each &= driver.exchanges(0, &exchange.pdu, exchange.answer_len);
